@@ -1,0 +1,97 @@
+-- 01, 'Why a call is turned down': the number, place and values of every answer.
+use Prim.Native.Nat.{ℕ}
+use mathlib.Core.Bool.{Bool}
+use mathlib.Core.List.{List, [], _∷_}
+use Rattle.base.specs.Choice.{pick}
+use Rattle.base.specs.Text.{byte}
+use Rattle.base.specs.declared.Reason.{Reason}
+use Rattle.base.specs.declared.Reason.the-variants.{Start, Withheld, Step, Stopped, Broken}
+use Rattle.base.specs.declared.Refusal.{Refusal}
+use Rattle.base.specs.declared.Refusal.the-variants.{TowerSize, Range, Action, Target, Mask, Grammar, Number, Mark, Limit, Timed, Pairs, NoTable, Layout, NotGood, Area, Output, Outside, NotAllowed}
+use Rattle.base.specs.declared.BookAnswer.{BookAnswer}
+use Rattle.base.specs.declared.BookAnswer.the-variants as Book
+use Rattle.base.specs.declared.MakeAnswer.{MakeAnswer}
+use Rattle.base.specs.declared.MakeAnswer.the-variants as Make
+use Rattle.base.specs.declared.Verdict.{Verdict}
+use Rattle.base.specs.declared.Verdict.the-variants as Check
+use Rattle.base.specs.declared.FollowAnswer.{FollowAnswer}
+use Rattle.base.specs.declared.FollowAnswer.the-variants as Follow
+
+-- What the papers say of an answer: its values; or number and place of a refusal, with the reason's letter inside a 14.
+pub data Said : Type 0 where
+  answered : (values : List ℕ) → Said
+  refused : (number place : ℕ) (inside : List ℕ) → Said
+
+-- a reason's place: the row for b to d, otherwise 0
+unfoldable pub row-of : Reason → ℕ
+row-of Start = 0
+row-of (Withheld row) = row
+row-of (Step row) = row
+row-of (Stopped row) = row
+row-of Broken = 0
+
+-- a reason's letter
+unfoldable pub letter-of : Reason → ℕ
+letter-of Start = byte "a"
+letter-of (Withheld row) = byte "b"
+letter-of (Step row) = byte "c"
+letter-of (Stopped row) = byte "d"
+letter-of Broken = byte "e"
+
+-- number and place of every refusal
+unfoldable pub refusal-said : Refusal → Said
+refusal-said TowerSize = refused 1 0 []
+refusal-said Range = refused 2 0 []
+refusal-said Action = refused 3 0 []
+refusal-said Target = refused 4 0 []
+refusal-said Mask = refused 5 0 []
+refusal-said (Grammar line) = refused 6 line []
+refusal-said (Number line) = refused 7 line []
+refusal-said (Mark line) = refused 8 line []
+refusal-said (Limit line) = refused 9 line []
+refusal-said (Timed line) = refused 10 line []
+refusal-said Pairs = refused 11 0 []
+refusal-said NoTable = refused 12 0 []
+refusal-said Layout = refused 13 0 []
+refusal-said (NotGood reason) = refused 14 (row-of reason) (letter-of reason ∷ [])
+refusal-said Area = refused 15 0 []
+refusal-said Output = refused 16 0 []
+refusal-said Outside = refused 17 0 []
+refusal-said NotAllowed = refused 18 0 []
+
+-- the book reader's values: how many lines and how many nodes
+unfoldable pub book-said : BookAnswer → Said
+book-said (Book.Read lines nodes) = answered (lines ∷ nodes ∷ [])
+book-said (Book.Refused r) = refusal-said r
+
+-- the maker's value: the length of the table in bytes
+unfoldable pub make-said : MakeAnswer → Said
+make-said (Make.Made bytes) = answered (bytes ∷ [])
+make-said (Make.Refused r) = refusal-said r
+
+-- the checker has no value but that the table is good
+unfoldable pub verdict-said : Verdict → Said
+verdict-said Check.Good = answered []
+verdict-said (Check.NotGood reason) = refusal-said (NotGood reason)
+verdict-said (Check.Refused r) = refusal-said r
+
+-- the follower's value: the target row
+unfoldable pub follow-said : FollowAnswer → Said
+follow-said (Follow.Row row) = answered (row ∷ [])
+follow-said (Follow.Refused r) = refusal-said r
+
+-- What a definition gives: a value, or the refusal in its place.
+pub data Answer (A : Type 0) : Type 0 where
+  refuse : Refusal → Answer A
+  give : A → Answer A
+
+infixr 10 _if_else_
+infixr 10 _then_
+-- 'r if b else o': refused with r if b holds, and else o
+unfoldable pub _if_else_ : {A : Type 0} → Refusal → Bool → Answer A → Answer A
+_if_else_ r b o = pick b (λ _. refuse r) (λ _. o)
+
+-- 'o then f': what f makes of the value that o gives, or o's refusal
+unfoldable pub _then_ : {A B : Type 0} → Answer A → (A → Answer B) → Answer B
+refuse r then f = refuse r
+give a then f = f a

@@ -1,0 +1,12 @@
+-- Recursion by a number that falls: one step is written with the recursive call as a parameter, and `run` ties the knot.
+use Prim.Native.Nat.{ℕ, zero, suc}
+
+module _ {X R : Type 0} (left : X → ℕ) (stuck : X → R) (step : X → (X → R) → R) where
+  -- at most n calls deep; deeper is `stuck`
+  unfoldable pub within : ℕ → X → R
+  within zero x = stuck x
+  within (suc n) x = step x (λ y. within n y)
+
+  -- as deep as `left` says, which is enough where every call of a step has less left
+  unfoldable pub run : X → R
+  run x = within (suc (left x)) x

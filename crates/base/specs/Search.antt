@@ -1,0 +1,34 @@
+-- Breadth-first search and rounds until nothing changes: the two ways of computing that the outcomes share. X is any type with a test for
+-- what counts as one and the same.
+use Prim.Native.Nat.{ℕ, zero, suc, _+_}
+use mathlib.Core.Bool.{Bool, true, false, not, Bool·beq}
+use mathlib.Core.List.{List, [], _∷_, _++_}
+use lib.ListN.{length}
+use lib.Dec.{ltb}
+use Rattle.base.specs.Choice.{pick}
+use Rattle.base.specs.Lists.{every, some-of}
+
+-- the elements of xs that are new beside those seen, each once
+unfoldable pub new-ones : {X : Type 0} → (X → X → Bool) → List X → List X → List X
+new-ones same seen [] = []
+new-ones same seen (x ∷ xs) =
+    pick (some-of (same x) seen) (λ _. new-ones same seen xs) (λ _. x ∷ new-ones same (seen ++ (x ∷ [])) xs)
+
+-- What is met from those seen, where `todo` are the ones whose followers are still to be looked at: in the order met, until nothing is left
+-- to do, more than `most` are seen, or n have been looked at.
+unfoldable pub search-on : {X : Type 0} → (X → X → Bool) → (X → List X) → ℕ → ℕ → List X → List X → List X
+search-on same followers most zero seen todo = seen
+search-on same followers most (suc n) seen [] = seen
+search-on same followers most (suc n) seen (x ∷ todo) =
+    pick (ltb most (length seen)) (λ _. seen) (λ _.
+    search-on same followers most n (seen ++ new-ones same seen (followers x)) (todo ++ new-ones same seen (followers x)))
+
+-- what is met from x in breadth-first order: all of it if that is at most `most`, and else more than `most`
+unfoldable pub search-from : {X : Type 0} → (X → X → Bool) → (X → List X) → ℕ → X → List X
+search-from same followers most x = search-on same followers most (suc most) (x ∷ []) (x ∷ [])
+
+-- the first round k, from the given one on, after which the test changes on none of xs; at most n rounds are looked at
+unfoldable pub rest-round : {X : Type 0} → (ℕ → X → Bool) → List X → ℕ → ℕ → ℕ
+rest-round test xs zero k = k
+rest-round test xs (suc n) k =
+    pick (every (λ x. Bool·beq (test k x) (test (suc k) x)) xs) (λ _. k) (λ _. rest-round test xs n (suc k))

@@ -1,0 +1,6 @@
+pub mod Time
+pub mod Tower
+pub mod Book
+pub mod Runs
+pub mod Tables
+pub mod TableFile

@@ -1,0 +1,169 @@
+-- 01, 'Tower file': the tower as a timed transition graph (document 004), and when a file is fit to be one.
+use Prim.Native.Nat.{ℕ, _+_, _*_, _/_, _%_, _^_}
+use mathlib.Core.Path.{_≡_}
+use mathlib.Core.Bool.{Bool, true, false, _&&_, _||_, not}
+use mathlib.Core.Option.{Option, none, some}
+use mathlib.Core.List.{List}
+use lib.ListN.{length}
+use lib.Dec.{leb, ltb, eqb}
+use Rattle.base.specs.Choice.{pick}
+use Rattle.base.specs.Lists.{some-of, below}
+use Rattle.base.specs.Bytes.{byte-at, number-at}
+use Rattle.logic.specs.Time.{ticks}
+use Rattle.logic.specs.declared.Tick.{Tick}
+
+-- A tower: a timed transition graph. Its marks are the atomic propositions.
+pub record Tower : Type 0 where
+  pub states : ℕ
+  pub actions : ℕ
+  pub marks : ℕ
+  pub start : ℕ
+  -- the kind of an action
+  pub kind : ℕ → ℕ
+  -- the length of the step that leaves a state by an action
+  pub step-length : ℕ → ℕ → Tick
+  -- the state has the mark
+  pub marked : ℕ → ℕ → Bool
+  -- the state that an action leads to; nothing where it is not enabled
+  pub target : ℕ → ℕ → Option ℕ
+
+-- An action of this kind may be withheld: it is controllable. Kind 0 is the player's, kind 1 is ours.
+unfoldable pub controllable : ℕ → Bool
+controllable kind = eqb kind 1
+
+-- An action of this kind counts as going on: a row that allows one has not stopped. Here every kind does.
+unfoldable pub goes-on : ℕ → Bool
+goes-on kind = true
+
+-- the largest kind
+unfoldable pub last-kind : ℕ
+last-kind = 1
+
+-- bytes in a state's number, in towers and in tables
+unfoldable pub state-width : ℕ
+state-width = 1
+
+-- the target that says 'not enabled'
+unfoldable pub not-enabled : ℕ
+not-enabled = 255
+
+-- the most states, actions and marks
+unfoldable pub most-states : ℕ
+most-states = 200
+
+unfoldable pub most-actions : ℕ
+most-actions = 16
+
+unfoldable pub most-marks : ℕ
+most-marks = 16
+
+-- a count is from 1 to the most there may be
+unfoldable pub in-range : ℕ → ℕ → Bool
+in-range most n = leb 1 n && leb n most
+
+-- ---- the fields of a file
+
+-- the header is 8 bytes
+unfoldable pub header-size : ℕ
+header-size = 8
+
+abbrev pub states-of : List ℕ → ℕ
+states-of bytes = byte-at bytes 0
+
+abbrev pub actions-of : List ℕ → ℕ
+actions-of bytes = byte-at bytes 1
+
+abbrev pub marks-of : List ℕ → ℕ
+marks-of bytes = byte-at bytes 2
+
+abbrev pub start-of : List ℕ → ℕ
+start-of bytes = byte-at bytes 3
+
+-- where the states begin: behind the header and two bytes for each action
+unfoldable pub states-at : List ℕ → ℕ
+states-at bytes = header-size + 2 * actions-of bytes
+
+-- the bytes of one state: a two-byte mask, and a target for each action
+unfoldable pub state-size : List ℕ → ℕ
+state-size bytes = 2 + state-width * actions-of bytes
+
+-- where state x is written
+unfoldable pub state-at : List ℕ → ℕ → ℕ
+state-at bytes x = states-at bytes + x * state-size bytes
+
+-- length and kind of action a
+unfoldable pub length-of : List ℕ → ℕ → ℕ
+length-of bytes a = byte-at bytes (header-size + 2 * a)
+
+unfoldable pub kind-of : List ℕ → ℕ → ℕ
+kind-of bytes a = byte-at bytes (header-size + 2 * a + 1)
+
+-- the mask of state x, and the target of action a there as it is written
+unfoldable pub mask-of : List ℕ → ℕ → ℕ
+mask-of bytes x = number-at 2 bytes (state-at bytes x)
+
+unfoldable pub target-of : List ℕ → ℕ → ℕ → ℕ
+target-of bytes x a = number-at state-width bytes (state-at bytes x + 2 + state-width * a)
+
+-- bit k of a mask is set
+unfoldable pub bit : ℕ → ℕ → Bool
+bit k mask = eqb (mask / 2 ^ k % 2) 1
+
+-- ---- when a file is fit
+
+-- 1: the header is not whole
+unfoldable pub no-header : List ℕ → Bool
+no-header bytes = ltb (length bytes) header-size
+
+-- 2: a count or the start out of range
+unfoldable pub bad-counts : List ℕ → Bool
+bad-counts bytes =
+    not (in-range most-states (states-of bytes))
+    || not (in-range most-actions (actions-of bytes))
+    || not (leb (marks-of bytes) most-marks)
+    || not (ltb (start-of bytes) (states-of bytes))
+
+-- 1: a header offset or the length is wrong; the file ends after the last state
+unfoldable pub bad-size : List ℕ → Bool
+bad-size bytes =
+    not (eqb (number-at 2 bytes 4) header-size)
+    || not (eqb (number-at 2 bytes 6) (states-at bytes))
+    || not (eqb (length bytes) (state-at bytes (states-of bytes)))
+
+-- 3: an action of length 0, or of no known kind
+unfoldable pub bad-actions : List ℕ → Bool
+bad-actions bytes = some-of (λ a. eqb (length-of bytes a) 0 || ltb last-kind (kind-of bytes a)) (below (actions-of bytes))
+
+-- 4: a target that is neither a state nor 'not enabled'
+unfoldable pub bad-targets : List ℕ → Bool
+bad-targets bytes =
+    some-of (λ x. some-of (λ a. not (ltb (target-of bytes x a) (states-of bytes) || eqb (target-of bytes x a) not-enabled))
+    (below (actions-of bytes))) (below (states-of bytes))
+
+-- 5: a mask with a bit at or above P
+unfoldable pub bad-masks : List ℕ → Bool
+bad-masks bytes = some-of (λ x. leb (2 ^ marks-of bytes) (mask-of bytes x)) (below (states-of bytes))
+
+-- The file is fit: none of these holds.
+pub record FitTower (bytes : List ℕ) : Type 0 where
+  pub header : no-header bytes ≡ false
+  pub counts : bad-counts bytes ≡ false
+  pub size : bad-size bytes ≡ false
+  pub actions : bad-actions bytes ≡ false
+  pub targets : bad-targets bytes ≡ false
+  pub masks : bad-masks bytes ≡ false
+
+-- The tower that a fit file describes. An action is enabled if it is one of the tower's and has a target there.
+unfoldable pub tower-of : List ℕ → Tower
+tower-of bytes =
+    record {
+      states = states-of bytes;
+      actions = actions-of bytes;
+      marks = marks-of bytes;
+      start = start-of bytes;
+      kind = kind-of bytes;
+      step-length = λ x a. ticks (length-of bytes a);
+      marked = λ x k. bit k (mask-of bytes x);
+      target = λ x a.
+          pick (ltb a (actions-of bytes) && not (eqb (target-of bytes x a) not-enabled)) (λ _. some (target-of bytes x a)) (λ _. none);
+    }

@@ -1,0 +1,38 @@
+-- 01, 'Why a call is turned down', 'Work areas': the length of every area that an entry borrows, in the order of its parameters.
+-- docs/WORK-AREAS.md says what lies where.
+use Prim.Native.Nat.{ℕ}
+use mathlib.Core.List.{List, [], _∷_}
+
+-- the nodes and lines of a book
+unfoldable pub book-area : ℕ
+book-area = 512
+
+-- pairs, or rows with what is pending: 1,000 and the one that is being looked up, of 62 bytes each
+unfoldable pub pairs-area : ℕ
+pairs-area = 62062
+
+-- where to find one of them again
+unfoldable pub index-area : ℕ
+index-area = 8192
+
+-- the pair that each action leads to from each pair
+unfoldable pub steps-area : ℕ
+steps-area = 32000
+
+-- who leads to a pair, and what is still to be removed
+unfoldable pub removal-area : ℕ
+removal-area = 40000
+
+-- the rows that pairs make
+unfoldable pub rows-area : ℕ
+rows-area = 32000
+
+-- what the book reader, the checker and the maker borrow; the follower borrows nothing
+unfoldable pub book-areas : List ℕ
+book-areas = book-area ∷ []
+
+unfoldable pub check-areas : List ℕ
+check-areas = book-area ∷ pairs-area ∷ index-area ∷ []
+
+unfoldable pub make-areas : List ℕ
+make-areas = book-area ∷ pairs-area ∷ index-area ∷ steps-area ∷ removal-area ∷ rows-area ∷ []

@@ -1,0 +1,161 @@
+-- The checker's outcome: 15, tower, book, 13, 14 a, 14 b to d by row, 11 counted over rows with what is pending, 14 e.
+use Prim.Native.Nat.{ℕ, zero, suc}
+use mathlib.Core.Bool.{Bool, true, false, _&&_, _||_, not}
+use mathlib.Core.Option.{Option, none, some}
+use mathlib.Core.List.{List, [], _∷_, map}
+use lib.ListN.{length}
+use lib.Dec.{ltb, eqb}
+use Rattle.base.specs.Choice.{pick}
+use Rattle.base.specs.Lists.{every, some-of, below, present, is-there, there-with}
+use Rattle.base.specs.Bytes.{long-enough, cleared}
+use Rattle.base.specs.Answers.{Answer, refuse, give, _if_else_, _then_}
+use Rattle.base.specs.declared.Reason.{Reason}
+use Rattle.base.specs.declared.Reason.the-variants.{Start, Withheld, Stopped, Broken}
+use Rattle.base.specs.declared.Reason.the-variants as Why
+use Rattle.base.specs.declared.Refusal.{Refusal}
+use Rattle.base.specs.declared.Refusal.the-variants.{TowerSize, Range, Action, Target, Mask, Grammar, Number, Mark, Limit, Timed, Pairs, NoTable, Layout, NotGood, Area, Output, Outside, NotAllowed}
+use Rattle.base.specs.declared.Verdict.{Verdict}
+use Rattle.base.specs.declared.Verdict.the-variants as Check
+use Rattle.logic.specs.Tower.{Tower, controllable, goes-on}
+use Rattle.logic.specs.Book.{Book}
+use Rattle.logic.specs.Tables.{Step, Row, Table, row-at, step-to, move}
+use Rattle.reading.specs.TowerReading.{read-tower}
+use Rattle.reading.specs.BookReading.{read-book}
+use Rattle.reading.specs.TableReading.{read-table}
+use Rattle.pending.specs.Pending.{Pending, same-pending, progressed, first-pending}
+use Rattle.outcome.specs.Areas.{check-areas}
+use Rattle.base.specs.Search.{search-from}
+use Rattle.pending.specs.Pairs.{most-pairs}
+
+-- ---- reasons a to d
+
+-- (a) Row 0 has not the tower's start state.
+unfoldable pub wrong-start : Tower → Table → Bool
+wrong-start tower table = not (eqb (row-at table 0 .state) (tower .start))
+
+-- (b) Action a is enabled in row r, may not be withheld, and is not allowed.
+unfoldable pub withheld : Tower → Table → ℕ → ℕ → Bool
+withheld tower table r a =
+    is-there (tower .target (row-at table r .state) a) && not (controllable (tower .kind a)) && not (is-there (move table r a))
+
+-- (c) The step of row r is by an action that is not enabled, or its target row has another state than the one reached.
+unfoldable pub wrong-step : Tower → Table → ℕ → Step → Bool
+wrong-step tower table r s =
+    not (there-with (eqb (row-at table (s .target) .state)) (tower .target (row-at table r .state) (s .action)))
+
+-- (d) No step of row r is by an action that counts as going on.
+unfoldable pub stopped : Tower → Table → ℕ → Bool
+stopped tower table r = every (λ s. not (goes-on (tower .kind (s .action)))) (row-at table r .steps)
+
+-- the first reason of a row, in the order b, c, d; or what comes after
+unfoldable pub judge-row : Tower → Table → ℕ → Answer (Unit {0}) → Answer (Unit {0})
+judge-row tower table r after =
+    NotGood (Withheld r) if some-of (withheld tower table r) (below (tower .actions)) else
+    NotGood (Why.Step r) if some-of (wrong-step tower table r) (row-at table r .steps) else
+    NotGood (Stopped r) if stopped tower table r else
+    after
+
+-- the rows in turn
+unfoldable pub judge-rows : Tower → Table → List ℕ → Answer (Unit {0}) → Answer (Unit {0})
+judge-rows tower table [] after = after
+judge-rows tower table (r ∷ rs) after = judge-row tower table r (judge-rows tower table rs after)
+
+-- ---- 11 and reason e: rows with what is pending
+
+-- A row with what is pending there.
+pub record Item : Type 0 where
+  pub row : ℕ
+  pub pending : Pending
+
+unfoldable pub same-item : Item → Item → Bool
+same-item v w = eqb (v .row) (w .row) && same-pending (v .pending) (w .pending)
+
+-- row 0 with the `start` formulas pending
+unfoldable pub first-item : Book → Item
+first-item book = record { row = 0; pending = first-pending book }
+
+-- what is pending after a step of an item's row; nothing if the step is broken
+unfoldable pub item-pending : Tower → Book → Table → Item → Step → Option Pending
+item-pending tower book table v s =
+    progressed tower book (row-at table (v .row) .state) (tower .step-length (row-at table (v .row) .state) (s .action)) (v .pending)
+
+unfoldable pub item-at : ℕ → Option Pending → Option Item
+item-at r none = none
+item-at r (some p) = some (record { row = r; pending = p })
+
+-- the items that unbroken allowed steps lead to
+unfoldable pub item-followers : Tower → Book → Table → Item → List Item
+item-followers tower book table v =
+    present (map (λ s. item-at (s .target) (item-pending tower book table v s)) (row-at table (v .row) .steps))
+
+-- the rows with what is pending that are reached over unbroken steps
+unfoldable pub items : Tower → Book → Table → List Item
+items tower book table = search-from same-item (item-followers tower book table) most-pairs (first-item book)
+
+-- 11: more than 1,000 of them
+unfoldable pub over-items : Tower → Book → Table → Bool
+over-items tower book table = ltb most-pairs (length (items tower book table))
+
+-- a step of the item is broken
+unfoldable pub breaks : Tower → Book → Table → Item → Bool
+breaks tower book table v =
+    some-of (λ s. not (is-there (item-pending tower book table v s))) (row-at table (v .row) .steps)
+
+-- (e) Some allowed run is broken.
+unfoldable pub some-broken : Tower → Book → Table → Bool
+some-broken tower book table = some-of (breaks tower book table) (items tower book table)
+
+-- ---- the verdict
+
+-- a table for a tower and a book: 14 a; 14 b to d; 11; 14 e
+unfoldable pub judge : Tower → Book → Table → Answer (Unit {0})
+judge tower book table =
+    NotGood Start if wrong-start tower table else
+    judge-rows tower table (below (length table))
+    (Pairs if over-items tower book table else
+    NotGood Broken if some-broken tower book table else
+    give tt)
+
+-- files of a tower, a book and a table
+unfoldable pub checked-file : List ℕ → List ℕ → List ℕ → Answer (Unit {0})
+checked-file tower text table =
+    read-tower tower then λ t.
+    read-book (t .marks) text then λ book.
+    read-table t table then λ rows.
+    judge t book rows
+
+-- a refusal as a verdict: 14 is the case that carries its reason
+unfoldable pub turned-down : Refusal → Verdict
+turned-down TowerSize = Check.Refused TowerSize
+turned-down Range = Check.Refused Range
+turned-down Action = Check.Refused Action
+turned-down Target = Check.Refused Target
+turned-down Mask = Check.Refused Mask
+turned-down (Grammar l) = Check.Refused (Grammar l)
+turned-down (Number l) = Check.Refused (Number l)
+turned-down (Mark l) = Check.Refused (Mark l)
+turned-down (Limit l) = Check.Refused (Limit l)
+turned-down (Timed l) = Check.Refused (Timed l)
+turned-down Pairs = Check.Refused Pairs
+turned-down NoTable = Check.Refused NoTable
+turned-down Layout = Check.Refused Layout
+turned-down (NotGood reason) = Check.NotGood reason
+turned-down Area = Check.Refused Area
+turned-down Output = Check.Refused Output
+turned-down Outside = Check.Refused Outside
+turned-down NotAllowed = Check.Refused NotAllowed
+
+unfoldable pub verdict : Answer (Unit {0}) → Verdict
+verdict (refuse r) = turned-down r
+verdict (give _) = Check.Good
+
+-- How a call of the checker ends: the answer, and what the lent areas hold then.
+pub record CheckOutcome : Type 0 where
+  pub answer : Verdict
+  pub areas : List (List ℕ)
+
+unfoldable pub check-outcome : List ℕ → List ℕ → List ℕ → List (List ℕ) → CheckOutcome
+check-outcome tower text table areas =
+    pick (long-enough check-areas areas)
+    (λ _. record { answer = verdict (checked-file tower text table); areas = cleared areas })
+    (λ _. record { answer = verdict (refuse Area); areas = areas })

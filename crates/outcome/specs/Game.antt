@@ -1,0 +1,42 @@
+-- The safety game on the pairs: remove every pair from which a break or a stop can be forced. What is left is what a good table may reach.
+use Prim.Native.Nat.{ℕ, zero, suc}
+use mathlib.Core.Bool.{Bool, true, false, _&&_, _||_, not}
+use mathlib.Core.Option.{Option, none, some}
+use mathlib.Core.List.{List}
+use lib.ListN.{length}
+use Rattle.base.specs.Lists.{every, some-of, below, is-there, there-with, only-if}
+use Rattle.logic.specs.Tower.{Tower, controllable, goes-on}
+use Rattle.logic.specs.Book.{Book}
+use Rattle.base.specs.Search.{rest-round}
+use Rattle.pending.specs.Pairs.{Pair, pair-step, pairs}
+
+-- an action that may not be withheld leads to a pair that is kept, if it is enabled at all
+unfoldable pub forced-right : Tower → Book → (Pair → Bool) → Pair → ℕ → Bool
+forced-right tower book kept v a =
+    controllable (tower .kind a) || not (is-there (tower .target (v .state) a)) || there-with kept (pair-step tower book v a)
+
+-- an action that counts as going on leads to a pair that is kept
+unfoldable pub can-go : Tower → Book → (Pair → Bool) → Pair → ℕ → Bool
+can-go tower book kept v a = goes-on (tower .kind a) && there-with kept (pair-step tower book v a)
+
+-- No action that may not be withheld leads out of the kept pairs, and some action goes on inside them.
+unfoldable pub fine : Tower → Book → (Pair → Bool) → Pair → Bool
+fine tower book kept v =
+    every (forced-right tower book kept v) (below (tower .actions)) && some-of (can-go tower book kept v) (below (tower .actions))
+
+-- the pairs that are kept through so many rounds: each round removes those that are not fine among the kept
+unfoldable pub kept-through : Tower → Book → ℕ → Pair → Bool
+kept-through tower book zero v = true
+kept-through tower book (suc n) v = kept-through tower book n v && fine tower book (kept-through tower book n) v
+
+-- the round after which none is removed
+unfoldable pub last-removal : Tower → Book → ℕ
+last-removal tower book = rest-round (kept-through tower book) (pairs tower book) (length (pairs tower book)) 0
+
+-- the pair is never removed
+unfoldable pub safe : Tower → Book → Pair → Bool
+safe tower book v = kept-through tower book (last-removal tower book) v
+
+-- the pair that an action leads to, if it is safe: the action is allowed there
+unfoldable pub safe-step : Tower → Book → Pair → ℕ → Option Pair
+safe-step tower book v a = only-if (safe tower book) (pair-step tower book v a)

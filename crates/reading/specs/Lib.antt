@@ -1,0 +1,5 @@
+pub mod TowerReading
+pub mod Tokens
+pub mod Grammar
+pub mod BookReading
+pub mod TableReading

@@ -1,0 +1,1 @@
+// Reading towers, rule books and table files. So far the definitions alone, in specs/.

@@ -1,0 +1,171 @@
+//! Makes the table that allows exactly the runs that good tables allow, with the fewest rows.
+
+use crate::book::{self, Book};
+use crate::pending::{self, Pending};
+use crate::table::{Row, Step, Table};
+use crate::tower::{self, Tower};
+use crate::{Refusal, MOST_PAIRS};
+use std::collections::HashMap;
+
+/// The maker's entry: the table file, or why there is none.
+pub fn make(tower: &[u8], book: &[u8], output_length: usize) -> Result<Vec<u8>, Refusal> {
+    let tower = tower::parse(tower)?;
+    let book = book::read(tower.marks, book)?;
+    let table = make_table(&tower, &book)?;
+    let file = table.encode();
+    if file.len() > output_length {
+        return Err(Refusal::new(16));
+    }
+    Ok(file)
+}
+
+pub fn make_table(tower: &Tower, book: &Book) -> Result<Table, Refusal> {
+    let pairs = Pairs::explore(tower, book).ok_or(Refusal::new(11))?;
+    let safe = pairs.safe(tower);
+    if !safe[0] {
+        return Err(Refusal::new(12));
+    }
+    let classes = pairs.classes(&safe);
+    Ok(pairs.table(tower, &safe, &classes))
+}
+
+/// The number of pairs of a tower and a book, or nothing where there are over 1,000.
+pub fn pair_count(tower: &Tower, book: &Book) -> Option<usize> {
+    Pairs::explore(tower, book).map(|pairs| pairs.states.len())
+}
+
+/// The pairs met over all unbroken steps from the start, which is pair 0.
+struct Pairs {
+    /// The tower state of each pair.
+    states: Vec<usize>,
+    /// The pair that each action leads to, where it is enabled and breaks nothing.
+    next: Vec<Vec<Option<usize>>>,
+}
+
+impl Pairs {
+    /// Meets every pair, or answers nothing where there are over 1,000.
+    fn explore(tower: &Tower, book: &Book) -> Option<Pairs> {
+        let first = (tower.start, pending::at_first(book));
+        let mut numbers: HashMap<(usize, Pending), usize> = HashMap::from([(first.clone(), 0)]);
+        let mut met = vec![first];
+        let mut next = Vec::new();
+        while next.len() < met.len() {
+            let (state, waiting) = met[next.len()].clone();
+            let mut steps = vec![None; tower.actions.len()];
+            for (action, target) in tower.states[state].targets.iter().enumerate() {
+                let Some(target) = *target else {
+                    continue;
+                };
+                let length = tower.actions[action].length;
+                let marks = tower.states[state].marks;
+                let Some(waiting) = pending::after(book, &waiting, marks, length) else {
+                    continue;
+                };
+                let pair = (target, waiting);
+                let number = *numbers.entry(pair).or_insert_with_key(|pair| {
+                    met.push(pair.clone());
+                    met.len() - 1
+                });
+                if met.len() > MOST_PAIRS {
+                    return None;
+                }
+                steps[action] = Some(number);
+            }
+            next.push(steps);
+        }
+        let states = met.into_iter().map(|(state, _)| state).collect();
+        Some(Pairs { states, next })
+    }
+
+    /// The pairs from which play can go on for ever whatever the player does. The others are removed
+    /// one by one: a pair goes once a player's action is lost there, or every action.
+    fn safe(&self, tower: &Tower) -> Vec<bool> {
+        let count = self.states.len();
+        let mut leading_here = vec![Vec::new(); count];
+        let mut actions_left = vec![0; count];
+        let mut safe = vec![true; count];
+        let mut to_remove = Vec::new();
+        for pair in 0..count {
+            for (action, target) in self.next[pair].iter().enumerate() {
+                if let Some(target) = *target {
+                    leading_here[target].push((pair, action));
+                    actions_left[pair] += 1;
+                } else if tower.actions[action].player
+                    && tower.states[self.states[pair]].targets[action].is_some()
+                {
+                    safe[pair] = false;
+                }
+            }
+            safe[pair] &= actions_left[pair] > 0;
+            if !safe[pair] {
+                to_remove.push(pair);
+            }
+        }
+        while let Some(removed) = to_remove.pop() {
+            for &(pair, action) in &leading_here[removed] {
+                actions_left[pair] -= 1;
+                let lost = tower.actions[action].player || actions_left[pair] == 0;
+                if safe[pair] && lost {
+                    safe[pair] = false;
+                    to_remove.push(pair);
+                }
+            }
+        }
+        safe
+    }
+
+    /// A class for each pair: safe pairs are in one class if they have equal states and equal allowed
+    /// runs onward. Classes start as the states and are split until no action splits them further.
+    fn classes(&self, safe: &[bool]) -> Vec<usize> {
+        let mut classes = self.states.clone();
+        let mut class_count = 0;
+        loop {
+            let mut numbers = HashMap::new();
+            let mut split = vec![0; classes.len()];
+            for pair in (0..classes.len()).filter(|pair| safe[*pair]) {
+                let class_after = |target: &Option<usize>| {
+                    let target = target.filter(|target| safe[*target]);
+                    target.map(|target| classes[target])
+                };
+                let after: Vec<Option<usize>> = self.next[pair].iter().map(class_after).collect();
+                let fresh = numbers.len();
+                split[pair] = *numbers.entry((classes[pair], after)).or_insert(fresh);
+            }
+            classes = split;
+            if numbers.len() == class_count {
+                return classes;
+            }
+            class_count = numbers.len();
+        }
+    }
+
+    /// A row for each class that is reached, numbered as first met: rows in order, actions ascending.
+    fn table(&self, tower: &Tower, safe: &[bool], classes: &[usize]) -> Table {
+        let mut row_of_class = HashMap::from([(classes[0], 0)]);
+        let mut pair_of_row = vec![0];
+        let mut rows = Vec::new();
+        while rows.len() < pair_of_row.len() {
+            let pair = pair_of_row[rows.len()];
+            let mut steps = Vec::new();
+            for (action, target) in self.next[pair].iter().enumerate() {
+                let Some(target_pair) = target.filter(|target| safe[*target]) else {
+                    continue;
+                };
+                let target = *row_of_class.entry(classes[target_pair]).or_insert_with(|| {
+                    pair_of_row.push(target_pair);
+                    pair_of_row.len() - 1
+                });
+                steps.push(Step { action, target });
+            }
+            rows.push(Row {
+                state: self.states[pair],
+                steps,
+            });
+        }
+        Table {
+            states: tower.states.len(),
+            actions: tower.actions.len(),
+            rows,
+        }
+    }
+}

@@ -1,0 +1,352 @@
+//! Random small towers and books, where two ways to the same answer are compared.
+
+mod common;
+
+use common::{lines, promise, random_book, random_tower, tower_file, Random};
+use reference::book::{self, Book};
+use reference::check::{check, check_table, Answer, Reason};
+use reference::make::{make, make_table, pair_count};
+use reference::pending;
+use reference::runs::Run;
+use reference::table::{self, Row, Step, Table};
+use reference::tower::{self, Tower};
+use std::collections::{HashSet, VecDeque};
+
+const ENOUGH: usize = 60_000;
+
+fn is_broken(tower: &Tower, book: &Book, run: &[usize]) -> bool {
+    let run = Run::new(tower, run).expect("each action is enabled");
+    run.is_broken(book)
+}
+
+fn enabled(tower: &Tower, state: usize) -> Vec<usize> {
+    let targets = &tower.states[state].targets;
+    (0..targets.len())
+        .filter(|a| targets[*a].is_some())
+        .collect()
+}
+
+/// The state that a run of enabled actions ends in.
+fn reached(tower: &Tower, run: &[usize]) -> Option<usize> {
+    let step = |state: usize, action: &usize| tower.states[state].targets[*action];
+    run.iter().try_fold(tower.start, step)
+}
+
+/// Every run of at most `most` actions.
+fn all_runs(tower: &Tower, most: usize) -> Vec<Vec<usize>> {
+    let mut runs = vec![vec![]];
+    let mut at = 0;
+    while at < runs.len() {
+        let run = runs[at].clone();
+        at += 1;
+        if run.len() < most {
+            let state = reached(tower, &run).expect("each action is enabled");
+            let further = |action| [&run[..], &[action]].concat();
+            runs.extend(enabled(tower, state).into_iter().map(further));
+        }
+    }
+    runs
+}
+
+/// Whether every run that `one` allows is allowed by `other`.
+fn allows_no_more(one: &Table, other: &Table) -> bool {
+    let mut met = HashSet::from([(0, 0)]);
+    let mut to_visit = vec![(0, 0)];
+    while let Some((row, other_row)) = to_visit.pop() {
+        for step in &one.rows[row].steps {
+            let Some(target) = other.rows[other_row].target(step.action) else {
+                return false;
+            };
+            if met.insert((step.target, target)) {
+                to_visit.push((step.target, target));
+            }
+        }
+    }
+    true
+}
+
+/// Walks at random and compares the definition with progression at every position: how many of the
+/// runs are broken, and how many are not.
+fn compare_along_a_walk(random: &mut Random, tower: &Tower, book: &Book) -> [usize; 2] {
+    let mut counts = [0, 0];
+    let mut waiting = Some(pending::at_first(book));
+    let mut state = tower.start;
+    let mut run = Vec::new();
+    for _ in 0..=12 {
+        let broken = is_broken(tower, book, &run);
+        assert_eq!(broken, waiting.is_none(), "{run:?} {tower:?} {book:?}");
+        counts[usize::from(!broken)] += 1;
+        let choices = enabled(tower, state);
+        if choices.is_empty() {
+            break;
+        }
+        let action = choices[random.below(choices.len())];
+        let length = tower.actions[action].length;
+        let marks = tower.states[state].marks;
+        waiting = waiting.and_then(|waiting| pending::after(book, &waiting, marks, length));
+        run.push(action);
+        state = tower.states[state].targets[action].expect("an enabled action");
+    }
+    counts
+}
+
+#[test]
+fn a_run_is_broken_exactly_when_a_step_along_it_breaks() {
+    let mut random = Random::new(0x5EED_0001);
+    let [mut broken, mut unbroken] = [0, 0];
+    for _ in 0..30_000 {
+        let (_, tower) = random_tower(&mut random, 3);
+        let (_, book) = random_book(&mut random, tower.marks);
+        let counts = compare_along_a_walk(&mut random, &tower, &book);
+        broken += counts[0];
+        unbroken += counts[1];
+    }
+    assert!(broken > 20_000 && unbroken > 20_000);
+}
+
+/// Where a node comes up twice, A keeps the larger number and U the smaller.
+#[test]
+fn two_promises_meet() {
+    let states: Vec<(u16, Vec<u8>)> = [3, 3, 2, 2, 0, 0]
+        .into_iter()
+        .zip([1, 2, 3, 4, 5, 5])
+        .map(|(mask, next)| (mask, vec![next]))
+        .collect();
+    let tower = tower::parse(&tower_file(2, 0, &[[1, 1]], &states)).expect("a tower");
+    let unbroken_runs = |line: &str| {
+        let book = book::read(2, &lines(&[line])).expect("a book");
+        compare_along_a_walk(&mut Random::new(1), &tower, &book)[1]
+    };
+    // Marks 0 and 1 at positions 0 and 1, mark 1 at 2 and 3, none from 4 on. Of runs of 0 to 12 actions,
+    // so many are not broken:
+    assert_eq!(unbroken_runs("always !p0 | A 3 p1"), 5);
+    assert_eq!(unbroken_runs("always !p0 | A 2 p1"), 13);
+    assert_eq!(unbroken_runs("always !p0 | E 3 !p1"), 4);
+    assert_eq!(unbroken_runs("always !p0 | E 4 !p1"), 13);
+}
+
+#[test]
+fn promises_that_meet_are_kept_as_the_definition_has_it() {
+    let mut random = Random::new(0x5EED_0006);
+    let [mut broken, mut unbroken] = [0, 0];
+    for _ in 0..60_000 {
+        let (_, tower) = random_tower(&mut random, 2);
+        let text = promise(&mut random, tower.marks);
+        let book = book::read(tower.marks, &lines(&[text.trim_end()])).expect("a line");
+        let counts = compare_along_a_walk(&mut random, &tower, &book);
+        broken += counts[0];
+        unbroken += counts[1];
+    }
+    assert!(broken > 20_000 && unbroken > 20_000);
+}
+
+#[test]
+fn made_tables_are_good_and_allow_no_broken_run() {
+    let mut random = Random::new(0x5EED_0002);
+    let mut tables = 0;
+    for _ in 0..4_000 {
+        let (tower_file, tower) = random_tower(&mut random, 3);
+        let (text, book) = random_book(&mut random, tower.marks);
+        let Ok(file) = make(&tower_file, &text, ENOUGH) else {
+            continue;
+        };
+        tables += 1;
+        assert_eq!(check(&tower_file, &text, &file), Answer::Good);
+        let table = table::decode(&file).expect("a table that is well laid out");
+        assert_eq!(table.encode(), file);
+        for run in all_runs(&tower, 6) {
+            assert!(!table.allows(&run) || !is_broken(&tower, &book, &run));
+        }
+    }
+    assert!(tables > 1_000);
+}
+
+/// Whether a run is unbroken and can be continued for `rounds` more actions whatever the player does.
+fn can_go_on(tower: &Tower, book: &Book, run: &[usize], rounds: usize) -> bool {
+    if is_broken(tower, book, run) {
+        return false;
+    }
+    if rounds == 0 {
+        return true;
+    }
+    let state = reached(tower, run).expect("each action is enabled");
+    let goes_on = |action: &usize| {
+        let further = [run, &[*action]].concat();
+        can_go_on(tower, book, &further, rounds - 1)
+    };
+    let choices = enabled(tower, state);
+    let (players, ours): (Vec<usize>, Vec<usize>) = choices
+        .iter()
+        .partition(|action| tower.actions[**action].player);
+    players.iter().all(goes_on) && (!players.is_empty() || ours.iter().any(goes_on))
+}
+
+/// Good tables allow a run if each part of it from the start can be continued for ever. With k pairs,
+/// what can be continued for k actions can be continued for ever.
+#[test]
+fn a_made_table_allows_what_the_definitions_allow() {
+    let mut random = Random::new(0x5EED_0003);
+    let (mut tables, mut wants) = (0, 0);
+    for _ in 0..6_000 {
+        let (_, tower) = random_tower(&mut random, 2);
+        let (_, book) = random_book(&mut random, tower.marks);
+        let Some(pairs) = pair_count(&tower, &book).filter(|pairs| *pairs <= 7) else {
+            continue;
+        };
+        let made = make_table(&tower, &book);
+        match made {
+            Ok(_) => tables += 1,
+            Err(_) => wants += 1,
+        }
+        for run in all_runs(&tower, 3) {
+            let mut parts = (0..=run.len()).map(|length| &run[..length]);
+            let expected = parts.all(|part| can_go_on(&tower, &book, part, pairs));
+            let allowed = made.as_ref().is_ok_and(|table| table.allows(&run));
+            assert_eq!(allowed, expected, "{run:?} {tower:?} {book:?}");
+        }
+    }
+    assert!(tables > 500 && wants > 500);
+}
+
+/// Marks pairs of rows that some run tells apart, until no more are found.
+fn all_rows_differ(table: &Table) -> bool {
+    let count = table.rows.len();
+    let mut differ = vec![vec![false; count]; count];
+    loop {
+        let mut found = false;
+        for (a, one) in table.rows.iter().enumerate() {
+            for (b, other) in table.rows.iter().enumerate() {
+                let apart = one.state != other.state
+                    || (0..table.actions).any(|action| {
+                        match (one.target(action), other.target(action)) {
+                            (Some(one), Some(other)) => differ[one][other],
+                            (one, other) => one.is_some() != other.is_some(),
+                        }
+                    });
+                found |= apart && !differ[a][b];
+                differ[a][b] |= apart;
+            }
+        }
+        if !found {
+            return (0..count).all(|a| (0..a).all(|b| differ[a][b]));
+        }
+    }
+}
+
+/// Whether rows are numbered as first met, rows in order, actions ascending.
+fn is_numbered_as_met(table: &Table) -> bool {
+    let mut met = 1;
+    for step in table.rows.iter().flat_map(|row| &row.steps) {
+        if step.target > met {
+            return false;
+        }
+        met = met.max(step.target + 1);
+    }
+    met == table.rows.len()
+}
+
+#[test]
+fn made_tables_are_equal_exactly_when_they_allow_the_same_runs() {
+    let mut random = Random::new(0x5EED_0004);
+    let (mut same, mut different) = (0, 0);
+    for _ in 0..6_000 {
+        let (_, tower) = random_tower(&mut random, 3);
+        let made = [(); 2].map(|_| {
+            let (_, book) = random_book(&mut random, tower.marks);
+            make_table(&tower, &book)
+        });
+        let [Ok(one), Ok(other)] = made else {
+            continue;
+        };
+        assert!(all_rows_differ(&one) && is_numbered_as_met(&one));
+        let same_runs = allows_no_more(&one, &other) && allows_no_more(&other, &one);
+        assert_eq!(one.encode() == other.encode(), same_runs);
+        if same_runs {
+            same += 1;
+        } else {
+            different += 1;
+        }
+    }
+    assert!(same > 500 && different > 100);
+}
+
+/// A table whose steps lead to rows of the right state, mostly.
+fn random_table(random: &mut Random, tower: &Tower) -> Table {
+    let mut states = vec![tower.start];
+    states.extend((0..random.below(5)).map(|_| random.below(tower.states.len())));
+    let row = |&state: &usize| {
+        let mut steps = Vec::new();
+        for (action, reached) in tower.states[state].targets.iter().enumerate() {
+            let fits = |row: &usize| Some(states[*row]) == *reached || random.once_in(60);
+            let targets: Vec<usize> = (0..states.len()).filter(fits).collect();
+            let withheld = random.once_in(if tower.actions[action].player { 30 } else { 3 });
+            if !targets.is_empty() && !withheld {
+                let target = targets[random.below(targets.len())];
+                steps.push(Step { action, target });
+            }
+        }
+        Row { state, steps }
+    };
+    Table {
+        states: tower.states.len(),
+        actions: tower.actions.len(),
+        rows: states.iter().map(row).collect(),
+    }
+}
+
+/// The shortest allowed run whose last step breaks a rule, where there is one.
+fn shortest_broken_run(tower: &Tower, book: &Book, table: &Table) -> Vec<usize> {
+    let mut met = HashSet::new();
+    let mut to_visit = VecDeque::from([(0, pending::at_first(book), vec![])]);
+    while let Some((row, waiting, run)) = to_visit.pop_front() {
+        if !met.insert((row, waiting.clone())) {
+            continue;
+        }
+        let marks = tower.states[table.rows[row].state].marks;
+        for step in &table.rows[row].steps {
+            let further = [&run[..], &[step.action]].concat();
+            let length = tower.actions[step.action].length;
+            match pending::after(book, &waiting, marks, length) {
+                Some(after) => to_visit.push_back((step.target, after, further)),
+                None => return further,
+            }
+        }
+    }
+    panic!("no allowed run is broken");
+}
+
+#[test]
+fn the_checker_accepts_good_tables_and_no_others() {
+    let mut random = Random::new(0x5EED_0005);
+    let (mut good, mut not_good) = (0, 0);
+    for _ in 0..20_000 {
+        let (_, tower) = random_tower(&mut random, 2);
+        let (_, book) = random_book(&mut random, tower.marks);
+        let table = random_table(&mut random, &tower);
+        let answer = check_table(&tower, &book, &table);
+        let runs = || {
+            all_runs(&tower, 7)
+                .into_iter()
+                .filter(|run| table.allows(run))
+        };
+        let some_broken = || runs().any(|run| is_broken(&tower, &book, &run));
+        match answer {
+            Answer::Good => {
+                good += 1;
+                assert!(!some_broken());
+                let made = make_table(&tower, &book).expect("a good table exists");
+                assert!(allows_no_more(&table, &made));
+                let same_runs = allows_no_more(&made, &table);
+                assert!(!same_runs || table.rows.len() >= made.rows.len());
+            }
+            Answer::NotGood(Reason::Broken, place) => {
+                not_good += 1;
+                assert_eq!(place, 0);
+                let run = shortest_broken_run(&tower, &book, &table);
+                assert!(table.allows(&run) && is_broken(&tower, &book, &run));
+            }
+            Answer::NotGood(..) | Answer::Refused(_) => {}
+        }
+    }
+    assert!(good > 1_000 && not_good > 1_000);
+}
