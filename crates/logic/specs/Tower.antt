@@ -1,5 +1,5 @@
 -- 01, 'Tower file': the tower as a timed transition graph (document 004), and when a file is fit to be one.
-use Prim.Native.Nat.{ℕ, _+_, _*_, _/_, _%_, _^_}
+use Prim.Native.Nat.{ℕ, _+_, _*_, _/_, _%_, _^_, _<_}
 use mathlib.Core.Path.{_≡_}
 use mathlib.Core.Bool.{Bool, true, false, _&&_, _||_, not}
 use mathlib.Core.Option.{Option, none, some}
@@ -26,6 +26,10 @@ pub record Tower : Type 0 where
   pub marked : ℕ → ℕ → Bool
   -- the state that an action leads to; nothing where it is not enabled
   pub target : ℕ → ℕ → Option ℕ
+
+-- Whatever is enabled is one of the tower's actions.
+unfoldable pub Listed : Tower → Type 0
+Listed tower = (x a y : ℕ) → tower .target x a ≡ some y → a < tower .actions
 
 -- An action of this kind may be withheld: it is controllable. Kind 0 is the player's, kind 1 is ours.
 unfoldable pub controllable : ℕ → Bool
