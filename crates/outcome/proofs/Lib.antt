@@ -1,1 +1,3 @@
 pub mod ElevenOutcomes
+pub mod Game
+pub mod Reasons

@@ -1,0 +1,85 @@
+-- Numbers in bytes: what is written is read back, and what is read would be written so.
+use Prim.Native.Nat.{ℕ, zero, suc, _+_, _*_, _/_, _%_, _^_, _≤_, _<_}
+use native.Mathlib.Omega.{arith}
+use native.Mathlib.Nat.{add-assoc, add-zero, add-suc}
+use native.Mathlib.Numerals.{add-one}
+use mathlib.Core.Path.{_≡_, refl, sym, _∙_, ap}
+use mathlib.Core.List.{List, [], _∷_, _++_}
+use lib.ListN.{length, getD, drop, length-append}
+use lib.Seq.{getD-drop, drop-cons, drop-drop, drop-at, drop-append-seam}
+use Rattle.base.specs.Bytes.{byte-at, number-at, number-bytes}
+
+-- Every element is a byte.
+abbrev pub AllBytes : List ℕ → Type 0
+AllBytes bytes = (i : ℕ) → byte-at bytes i < 256
+
+-- A number takes as many bytes as its width.
+pub length-number-bytes : (width n : ℕ) → length (number-bytes width n) ≡ width
+unfolding number-bytes
+length-number-bytes zero n = refl
+length-number-bytes (suc width) n = ap suc (length-number-bytes width (n / 256))
+
+-- A number written is made of bytes.
+pub number-bytes-bytes : (width n : ℕ) → AllBytes (number-bytes width n)
+unfolding number-bytes
+number-bytes-bytes zero n i = omega arith
+number-bytes-bytes (suc width) n zero = omega arith
+number-bytes-bytes (suc width) n (suc i) = number-bytes-bytes width (n / 256) i
+
+-- Bytes behind bytes are bytes.
+pub append-bytes : (xs ys : List ℕ) → AllBytes xs → AllBytes ys → AllBytes (xs ++ ys)
+append-bytes [] ys h k i = k i
+append-bytes (x ∷ xs) ys h k zero = h 0
+append-bytes (x ∷ xs) ys h k (suc i) = append-bytes xs ys (λ j. h (suc j)) k i
+
+-- Reading behind p bytes is reading from p bytes on.
+pub number-at-drop : (width : ℕ) (bytes : List ℕ) (p q : ℕ) → number-at width (drop p bytes) q ≡ number-at width bytes (p + q)
+unfolding number-at
+number-at-drop zero bytes p q = refl
+number-at-drop (suc width) bytes p q = rw (getD-drop p bytes q 0, number-at-drop width bytes p (q + 1), add-assoc p q 1)
+
+-- A number that fits is read back as it was written.
+pub number-back : (width n : ℕ) (rest : List ℕ) → n < 256 ^ width → number-at width (number-bytes width n ++ rest) 0 ≡ n
+unfolding number-at number-bytes
+number-back zero n rest lt = omega arith
+number-back (suc width) n rest lt =
+    let e = number-at-drop width (n % 256 ∷ number-bytes width (n / 256) ++ rest) 1 0 in
+    let f = number-back width (n / 256) rest (omega arith) in
+    omega arith
+
+-- A number written at p is read back there.
+pub number-read : (width n : ℕ) (bytes rest : List ℕ) (p : ℕ) → drop p bytes ≡ number-bytes width n ++ rest → n < 256 ^ width
+    → number-at width bytes p ≡ n
+number-read width n bytes rest p e lt =
+    ap (number-at width bytes) (sym (add-zero p)) ∙ sym (number-at-drop width bytes p 0) ∙ ap (λ l. number-at width l 0) e
+    ∙ number-back width n rest lt
+
+-- Behind a number written at p comes what was written after it.
+pub number-behind : (width n : ℕ) (bytes rest : List ℕ) (p : ℕ) → drop p bytes ≡ number-bytes width n ++ rest → drop (p + width) bytes ≡ rest
+number-behind width n bytes rest p e =
+    sym (drop-drop width p bytes) ∙ ap (drop width) e ∙ drop-at (number-bytes width n) rest width (length-number-bytes width n)
+
+-- A number that fits is read back behind a prefix.
+pub number-past : (width n : ℕ) (before rest : List ℕ) → n < 256 ^ width
+    → number-at width (before ++ (number-bytes width n ++ rest)) (length before) ≡ n
+number-past width n before rest lt =
+    number-read width n (before ++ (number-bytes width n ++ rest)) rest (length before) (drop-append-seam before (number-bytes width n ++ rest)) lt
+
+-- A number read from bytes fits its width.
+pub number-fits : (width : ℕ) (bytes : List ℕ) (p : ℕ) → AllBytes bytes → number-at width bytes p < 256 ^ width
+unfolding number-at
+number-fits zero bytes p h = omega arith
+number-fits (suc width) bytes p h = omega (arith, h p, number-fits width bytes (p + 1) h)
+
+-- Bytes from p on are the number read there, written, and what comes behind it.
+pub number-written : (width : ℕ) (bytes : List ℕ) (p : ℕ) → AllBytes bytes → p + width ≤ length bytes
+    → drop p bytes ≡ number-bytes width (number-at width bytes p) ++ drop (p + width) bytes
+unfolding number-at number-bytes
+number-written zero bytes p h le = rw (add-zero p)
+number-written (suc width) bytes p h le =
+    let lt : p < length bytes = omega arith in
+    let low : (byte-at bytes p + 256 * number-at width bytes (p + 1)) % 256 ≡ byte-at bytes p = omega (arith, h p) in
+    let high : (byte-at bytes p + 256 * number-at width bytes (p + 1)) / 256 ≡ number-at width bytes (p + 1) = omega (arith, h p) in
+    let place : p + 1 + width ≡ p + suc width = omega arith in
+    let rest = number-written width bytes (p + 1) h (omega arith) in
+    rw (low, high, ← place, ← rest, add-one p) (drop-cons bytes p 0 lt)

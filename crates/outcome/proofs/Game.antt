@@ -1,0 +1,92 @@
+-- The safety game: whatever a good table reaches is never removed, and what is never removed is fine. So a good table exists exactly if the
+-- first pair is safe.
+use Prim.Native.Nat.{ℕ, zero, suc, _≤_, _<_}
+use mathlib.Core.Path.{_≡_, refl, sym, _∙_, ap, subst}
+use mathlib.Core.Bool.{Bool, true, false, _&&_, _||_, not}
+use mathlib.Core.Option.{Option, none, some}
+use mathlib.Core.List.{List, [], _∷_, _++_, List·Memᴰ}
+use lib.ListN.{length}
+use Rattle.base.specs.Lists.{every, some-of, below, is-there, there-with, only-if}
+use Rattle.base.proofs.Lists.{whether, and-both, and-left, and-right, or-left, or-right, or-cases, not-in, below-every, below-some, is-there-in, there-not, there-with-in, whether-there, some-one}
+use Rattle.logic.specs.Tower.{Tower, controllable, goes-on, Listed}
+use Rattle.logic.specs.Book.{Book}
+use Rattle.logic.specs.Runs.{leads, IsRun, Unbroken}
+use Rattle.logic.specs.Tables.{Table, Row, row-at, move, AllowsAction, AllowsFrom, Allows, NoneWithheld, GoesOn, StepsRight, NoneBroken, IsTable, Good}
+use Rattle.logic.proofs.Leads.{snoc-in, snoc-out}
+use Rattle.logic.proofs.Canonical.{Arrives, good-arrives, good-run}
+use Rattle.pending.specs.Pairs.{Pair, first-pair, pair-step}
+use Rattle.outcome.specs.Game.{forced-right, can-go, fine, kept-through, last-removal, safe, safe-step}
+
+module _ (tower : Tower) (book : Book) where
+  -- where a list of actions leads over unbroken steps
+  abbrev pub Met : List ℕ → Pair → Type 0
+  Met w v = leads (pair-step tower book) (first-pair tower book) w ≡ some v
+
+  -- what the theorem of progression gives of a tower and a book
+  pub record Exact : Type 0 where
+    pub steps : (w : List ℕ) → IsRun tower w → Unbroken tower book w → (v : Pair) × Met w v
+    pub state : (w : List ℕ) (v : Pair) → Met w v → leads (tower .target) (tower .start) w ≡ some (v .state)
+
+module _ (tower : Tower) (book : Book) (listed : Listed tower) (exact : Exact tower book) (table : Table) (good : Good tower book table) where
+  -- a row and a pair that one allowed run leads to
+  pub record Together (w : List ℕ) (r : ℕ) (v : Pair) : Type 0 where
+    pub row : leads (move table) 0 w ≡ some r
+    pub pair : Met tower book w v
+
+  module _ (w : List ℕ) (r : ℕ) (v : Pair) (at : Together w r v) where
+    inside : r < length table
+    inside = good-arrives tower book table good w r (at .row) .row
+
+    same-state : row-at table r .state ≡ v .state
+    same-state = some-one (good-arrives tower book table good w r (at .row) .state) (exact .state w v (at .pair))
+
+    -- an allowed action leads on in both
+    onward : (a s : ℕ) → move table r a ≡ some s → (u : Pair) × (pair-step tower book v a ≡ some u) × Together (w ++ (a ∷ [])) s u
+    unfolding Allows AllowsFrom NoneBroken
+    onward a s e =
+        let row : leads (move table) 0 (w ++ (a ∷ [])) ≡ some s = snoc-in (move table) 0 r s w a (at .row) e in
+        let next = exact .steps (w ++ (a ∷ [])) (good-run tower book table good (w ++ (a ∷ [])) (s, row)) (good .e (w ++ (a ∷ [])) (s, row)) in
+        step (next .0) (next .1) row
+      where
+        step : (u : Pair) → Met tower book (w ++ (a ∷ [])) u → leads (move table) 0 (w ++ (a ∷ [])) ≡ some s
+            → (u : Pair) × (pair-step tower book v a ≡ some u) × Together (w ++ (a ∷ [])) s u
+        step u met row =
+            let out = snoc-out (pair-step tower book) (first-pair tower book) u w a met in
+            (u, ap (λ z. pair-step tower book z a) (some-one (at .pair) (out .1)) ∙ out .2, record { row = row; pair = met })
+
+  -- an action that may not be withheld stays inside whatever holds of the pairs that the table reaches
+  forced : (kept : Pair → Bool) (w : List ℕ) (r : ℕ) (v : Pair) → Together w r v
+      → ((u : List ℕ) (s : ℕ) (z : Pair) → Together u s z → kept z ≡ true) → (a : ℕ) → forced-right tower book kept v a ≡ true
+  unfolding forced-right NoneWithheld AllowsAction
+  forced kept w r v at all a =
+      whether (controllable (tower .kind a))
+      (λ yes-ours. or-left _ (or-left _ yes-ours))
+      (λ not-ours.
+      whether-there (tower .target (v .state) a)
+      (λ nowhere. or-left _ (or-right (controllable (tower .kind a)) (not-in (there-not nowhere))))
+      (λ y e.
+      let allowed = good .b r (inside w r v at) a y (ap (λ x. tower .target x a) (same-state w r v at) ∙ e) not-ours in
+      let next = onward w r v at a (allowed .0) (allowed .1) in
+      or-right (controllable (tower .kind a) || not (is-there (tower .target (v .state) a)))
+      (there-with-in kept (next .1) (all (w ++ (a ∷ [])) (allowed .0) (next .0) (next .2)))))
+
+  goes : (kept : Pair → Bool) (w : List ℕ) (r : ℕ) (v : Pair) → Together w r v
+      → ((u : List ℕ) (s : ℕ) (z : Pair) → Together u s z → kept z ≡ true) → some-of (can-go tower book kept v) (below (tower .actions)) ≡ true
+  unfolding can-go GoesOn AllowsAction StepsRight Listed
+  goes kept w r v at all =
+      let (a, allowed, on) = good .d r (inside w r v at) in
+      let next = onward w r v at a (allowed .0) (allowed .1) in
+      let enabled = good .c r (inside w r v at) a (allowed .0) (allowed .1) in
+      below-some (can-go tower book kept v) (tower .actions) a (listed (row-at table r .state) a _ enabled)
+      (and-both on (there-with-in kept (next .1) (all (w ++ (a ∷ [])) (allowed .0) (next .0) (next .2))))
+
+  -- Whatever a good table reaches is kept through every round.
+  pub good-kept : (n : ℕ) (w : List ℕ) (r : ℕ) (v : Pair) → Together w r v → kept-through tower book n v ≡ true
+  unfolding kept-through fine
+  good-kept zero w r v at = refl
+  good-kept (suc n) w r v at =
+      and-both (good-kept n w r v at)
+      (and-both
+      (below-every (forced-right tower book (kept-through tower book n) v) (tower .actions)
+      (λ a lt. forced (kept-through tower book n) w r v at (good-kept n) a))
+      (goes (kept-through tower book n) w r v at (good-kept n)))
