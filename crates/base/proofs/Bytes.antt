@@ -10,8 +10,8 @@ use lib.Seq.{getD-drop, drop-cons, drop-drop, drop-at, drop-append-seam}
 use Rattle.base.specs.Bytes.{byte-at, number-at, number-bytes}
 
 -- Every element is a byte.
-abbrev pub AllBytes : List ℕ → Type 0
-AllBytes bytes = (i : ℕ) → byte-at bytes i < 256
+pub record AllBytes (bytes : List ℕ) : Type 0 where
+  pub at : (i : ℕ) → byte-at bytes i < 256
 
 -- A number takes as many bytes as its width.
 pub length-number-bytes : (width n : ℕ) → length (number-bytes width n) ≡ width
@@ -19,18 +19,35 @@ unfolding number-bytes
 length-number-bytes zero n = refl
 length-number-bytes (suc width) n = ap suc (length-number-bytes width (n / 256))
 
+-- No bytes are bytes.
+pub no-bytes : AllBytes []
+no-bytes = record { at = λ i. omega arith }
+
+-- A byte before bytes.
+pub cons-bytes : {x : ℕ} {xs : List ℕ} → x < 256 → AllBytes xs → AllBytes (x ∷ xs)
+cons-bytes {x} {xs} lt h = record { at = go }
+  where
+    go : (i : ℕ) → byte-at (x ∷ xs) i < 256
+    go zero = lt
+    go (suc i) = h .at i
+
+-- The bytes behind the first.
+pub rest-bytes : {x : ℕ} {xs : List ℕ} → AllBytes (x ∷ xs) → AllBytes xs
+rest-bytes h = record { at = λ i. h .at (suc i) }
+
+-- Bytes behind bytes are bytes.
+pub append-bytes : {xs ys : List ℕ} → AllBytes xs → AllBytes ys → AllBytes (xs ++ ys)
+append-bytes {xs} {ys} h k = go xs h
+  where
+    go : (xs : List ℕ) → AllBytes xs → AllBytes (xs ++ ys)
+    go [] h = k
+    go (x ∷ xs) h = cons-bytes (h .at 0) (go xs (rest-bytes h))
+
 -- A number written is made of bytes.
 pub number-bytes-bytes : (width n : ℕ) → AllBytes (number-bytes width n)
 unfolding number-bytes
-number-bytes-bytes zero n i = omega arith
-number-bytes-bytes (suc width) n zero = omega arith
-number-bytes-bytes (suc width) n (suc i) = number-bytes-bytes width (n / 256) i
-
--- Bytes behind bytes are bytes.
-pub append-bytes : (xs ys : List ℕ) → AllBytes xs → AllBytes ys → AllBytes (xs ++ ys)
-append-bytes [] ys h k i = k i
-append-bytes (x ∷ xs) ys h k zero = h 0
-append-bytes (x ∷ xs) ys h k (suc i) = append-bytes xs ys (λ j. h (suc j)) k i
+number-bytes-bytes zero n = no-bytes
+number-bytes-bytes (suc width) n = cons-bytes (omega arith) (number-bytes-bytes width (n / 256))
 
 -- Reading behind p bytes is reading from p bytes on.
 pub number-at-drop : (width : ℕ) (bytes : List ℕ) (p q : ℕ) → number-at width (drop p bytes) q ≡ number-at width bytes (p + q)
@@ -69,7 +86,7 @@ number-past width n before rest lt =
 pub number-fits : (width : ℕ) (bytes : List ℕ) (p : ℕ) → AllBytes bytes → number-at width bytes p < 256 ^ width
 unfolding number-at
 number-fits zero bytes p h = omega arith
-number-fits (suc width) bytes p h = omega (arith, h p, number-fits width bytes (p + 1) h)
+number-fits (suc width) bytes p h = omega (arith, h .at p, number-fits width bytes (p + 1) h)
 
 -- Bytes from p on are the number read there, written, and what comes behind it.
 pub number-written : (width : ℕ) (bytes : List ℕ) (p : ℕ) → AllBytes bytes → p + width ≤ length bytes
@@ -78,8 +95,8 @@ unfolding number-at number-bytes
 number-written zero bytes p h le = rw (add-zero p)
 number-written (suc width) bytes p h le =
     let lt : p < length bytes = omega arith in
-    let low : (byte-at bytes p + 256 * number-at width bytes (p + 1)) % 256 ≡ byte-at bytes p = omega (arith, h p) in
-    let high : (byte-at bytes p + 256 * number-at width bytes (p + 1)) / 256 ≡ number-at width bytes (p + 1) = omega (arith, h p) in
+    let low : (byte-at bytes p + 256 * number-at width bytes (p + 1)) % 256 ≡ byte-at bytes p = omega (arith, h .at p) in
+    let high : (byte-at bytes p + 256 * number-at width bytes (p + 1)) / 256 ≡ number-at width bytes (p + 1) = omega (arith, h .at p) in
     let place : p + 1 + width ≡ p + suc width = omega arith in
     let rest = number-written width bytes (p + 1) h (omega arith) in
     rw (low, high, ← place, ← rest, add-one p) (drop-cons bytes p 0 lt)

@@ -1,5 +1,5 @@
 -- 01, 'Rule book': formulas, the rules of a book, and the nodes. How a book is written down is the reader's matter.
-use Prim.Native.Nat.{ℕ, _-_}
+use Prim.Native.Nat.{ℕ, _+_, _-_}
 use mathlib.Core.Bool.{Bool, true, false, _&&_, _||_, not}
 use mathlib.Core.Path.{_≡_}
 use mathlib.Core.List.{List, [], _∷_, _++_, map, List·Memᴰ}
@@ -100,3 +100,7 @@ second-part k = k - 1
 
 unfoldable pub first-part : ℕ → Formula → ℕ
 first-part k second = k - 1 - size second
+
+-- the number of a formula whose nodes begin with number n
+unfoldable pub root : ℕ → Formula → ℕ
+root n f = n + size f - 1

@@ -41,9 +41,10 @@ step-allowed s (t ∷ steps) (List·Memᴰ·tail m) =
 -- (a)
 pub start-right : (tower : Tower) (table : Table) → wrong-start tower table ≡ false ↔ GoodStart tower table
 unfolding wrong-start GoodStart
-start-right tower table =
-    (λ e. eqb-true (row-at table 0 .state) (tower .start) (not-false (eqb (row-at table 0 .state) (tower .start)) e),
-    λ e. ap not (eq-eqb (row-at table 0 .state) (tower .start) e))
+start-right tower table = (
+  λ e. eqb-true (row-at table 0 .state) (tower .start) (not-false (eqb (row-at table 0 .state) (tower .start)) e),
+  λ e. ap not (eq-eqb (row-at table 0 .state) (tower .start) e),
+)
 
 module _ (tower : Tower) (table : Table) (r : ℕ) where
   -- (b)
@@ -53,6 +54,7 @@ module _ (tower : Tower) (table : Table) (r : ℕ) where
     where
       x : ℕ
       x = row-at table r .state
+
       out : some-of (withheld tower table r) (below (tower .actions)) ≡ false → NoneWithheld tower table r
       out e a y enabled forced =
           is-there-out (move table r a)
@@ -60,6 +62,7 @@ module _ (tower : Tower) (table : Table) (r : ℕ) where
           (λ gone.
           never-both (and-both (and-both (is-there-in enabled) (not-in forced)) (not-in gone))
           (some-none (withheld tower table r) e (below-mem (tower .actions) a (listed x a y enabled)))))
+
       back : NoneWithheld tower table r → some-of (withheld tower table r) (below (tower .actions)) ≡ false
       back all =
           none-of (withheld tower table r) (below (tower .actions))
@@ -80,14 +83,17 @@ module _ (tower : Tower) (table : Table) (r : ℕ) where
     where
       x : ℕ
       x = row-at table r .state
+
       steps : List Step
       steps = row-at table r .steps
+
       out : some-of (wrong-step tower table r) steps ≡ false → StepsRight tower table r
       out e a p m =
           let (s, here, f, g) = step-in steps a p m in
           let right = not-false (there-with (eqb (row-at table (s .target) .state)) (tower .target x (s .action))) (some-none (wrong-step tower table r) e here) in
           let (y, to, same) = there-with-out (eqb (row-at table (s .target) .state)) (tower .target x (s .action)) right in
           ap (tower .target x) (sym f) ∙ (to ∙ ap some (sym (ap (λ z. row-at table z .state) (sym g) ∙ eqb-true (row-at table (s .target) .state) y same)))
+
       back : StepsRight tower table r → some-of (wrong-step tower table r) steps ≡ false
       back all =
           none-of (wrong-step tower table r) steps
@@ -102,10 +108,12 @@ module _ (tower : Tower) (table : Table) (r : ℕ) where
     where
       steps : List Step
       steps = row-at table r .steps
+
       out : stopped tower table r ≡ false → GoesOn tower table r
       out e =
           let (s, m, on) = every-false (λ s. not (goes-on (tower .kind (s .action)))) steps e in
           (s .action, step-allowed s steps m, not-false (goes-on (tower .kind (s .action))) on)
+
       back : GoesOn tower table r → stopped tower table r ≡ false
       back (a, (p, e), on) =
           let (s, m, f, g) = step-in steps a p e in

@@ -10,6 +10,7 @@ use Rattle.logic.specs.Time.{ticks, minus, at-most, same-ticks, longer, shorter
 use Rattle.logic.specs.Tower.{Tower}
 use Rattle.logic.specs.Book.{Formula, constant, proposition, and, or, next, always, until, compares, timed, size, nodes, first-part, second-part, Form, at-start, everywhere, Rule, Book}
 use Rattle.logic.specs.declared.Tick.{Tick}
+unfoldable pub use Rattle.logic.specs.Book.{root}
 
 -- Pending is, for each node, nothing or a number of ticks left: the obligation that the rest of the run has to meet.
 abbrev pub Pending : Type 0
@@ -89,10 +90,6 @@ progress-nodes tower x d (f ∷ fs) k [] p = some p
 progress-nodes tower x d (f ∷ fs) k (none ∷ cells) p = progress-nodes tower x d fs (suc k) cells p
 progress-nodes tower x d (f ∷ fs) k (some r ∷ cells) p =
     bind (progress tower x d f k r p) (λ q. progress-nodes tower x d fs (suc k) cells q)
-
--- the number of a formula whose nodes begin with number n
-unfoldable pub root : ℕ → Formula → ℕ
-root n f = n + size f - 1
 
 -- one rule as a state is left: an `always` formula progresses
 unfoldable pub progress-rule : Tower → ℕ → Tick → Form → Formula → ℕ → Pending → Option Pending

@@ -2,4 +2,5 @@ pub mod TowerReading
 pub mod Tokens
 pub mod Grammar
 pub mod BookReading
+pub mod BookArea
 pub mod TableReading

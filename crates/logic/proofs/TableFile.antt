@@ -1,0 +1,156 @@
+-- A table as bytes: which tables fit a file, how many steps they have, and how long the file is.
+use Prim.Native.Nat.{ℕ, zero, suc, _+_, _*_, _≤_, _<_}
+use native.Mathlib.Omega.{arith}
+use mathlib.Core.Path.{_≡_, refl, sym, _∙_, ap}
+use mathlib.Core.Option.{some}
+use mathlib.Core.List.{List, [], _∷_, _++_, map, List·Memᴰ, List·Memᴰ·head, List·Memᴰ·tail}
+use lib.ListN.{length, length-append}
+use Rattle.base.specs.Lists.{joined}
+use Rattle.base.specs.Bytes.{number-bytes}
+use Rattle.base.proofs.Lists.{mem-index}
+use Rattle.base.proofs.Bytes.{AllBytes, length-number-bytes, number-bytes-bytes, no-bytes, append-bytes}
+use Rattle.logic.specs.Tower.{most-states, most-actions, state-width}
+use Rattle.logic.specs.Tables.{Step, Row, Table, row-at, move, Once, IsTable, Ascending}
+use Rattle.logic.specs.TableFile.{most-rows, rows-at, row-size, step-size, steps-at, all-steps, step-bytes, row-bytes, header-bytes, table-file}
+use Rattle.logic.proofs.Canonical.{step-found}
+
+-- The table fits a file for so many states and actions.
+pub record Fits (states actions : ℕ) (table : Table) : Type 0 where
+  pub a-state : 1 ≤ states
+  pub few-states : states ≤ most-states
+  pub an-action : 1 ≤ actions
+  pub few-actions : actions ≤ most-actions
+  pub few-rows : length table ≤ most-rows
+  pub is-table : IsTable table
+  pub state : (r : ℕ) → r < length table → row-at table r .state < states
+  pub action : (r a s : ℕ) → r < length table → move table r a ≡ some s → a < actions
+  pub ascending : (r : ℕ) → r < length table → Ascending (row-at table r .steps)
+
+-- One row fits a file for so many states, actions and rows.
+pub record RowFits (states actions rows : ℕ) (row : Row) : Type 0 where
+  pub state : row .state < states
+  pub ascending : Ascending (row .steps)
+  pub action : (s : Step) → List·Memᴰ s (row .steps) → s .action < actions
+  pub target : (s : Step) → List·Memᴰ s (row .steps) → s .target < rows
+
+-- Every row of a table that fits does.
+pub fits-row : (states actions : ℕ) (table : Table) → Fits states actions table → (row : Row) → List·Memᴰ row table
+    → RowFits states actions (length table) row
+unfolding row-at move
+fits-row states actions table f row i = go (mem-index (record { state = 0; steps = [] }) i)
+  where
+    go : (r : ℕ) × (r < length table) × (row-at table r ≡ row) → RowFits states actions (length table) row
+    go (r, lt, e) =
+        record {
+          state = rw e at (f .state r lt);
+          ascending = rw e at (f .ascending r lt);
+          action = λ s k. f .action r (s .action) (s .target) lt (found s k);
+          target = λ s k. f .is-table .targets r (s .action) (s .target) lt (found s k);
+        }
+      where
+        found : (s : Step) → List·Memᴰ s (row .steps) → move table r (s .action) ≡ some (s .target)
+        found s k = rw e (step-found s (row .steps) (rw e at (f .is-table .once r lt)) k)
+
+-- Ascending steps whose actions are below n, from the first of them on, are no more than there is room for.
+ascending-room : (n : ℕ) (s : Step) (steps : List Step) → Ascending (s ∷ steps) → ((t : Step) → List·Memᴰ t (s ∷ steps) → t .action < n)
+    → s .action + length (s ∷ steps) ≤ n
+unfolding Ascending
+ascending-room n s [] up below = omega (arith, below s (List·Memᴰ·head refl))
+ascending-room n s (t ∷ steps) up below =
+    omega (arith, up .0, ascending-room n t steps (up .1) (λ u i. below u (List·Memᴰ·tail i)))
+
+-- A row has at most as many steps as there are actions.
+pub row-few : (states actions rows : ℕ) (row : Row) → RowFits states actions rows row → length (row .steps) ≤ actions
+row-few states actions rows row f = go (row .steps) (f .ascending) (f .action)
+  where
+    go : (steps : List Step) → Ascending steps → ((t : Step) → List·Memᴰ t steps → t .action < actions) → length steps ≤ actions
+    go [] up below = omega arith
+    go (s ∷ steps) up below = omega (arith, ascending-room actions s steps up below)
+
+-- All steps: those of the first row, and those of the others.
+pub all-steps-cons : (row : Row) (rows : List Row) → all-steps (row ∷ rows) ≡ row .steps ++ all-steps rows
+unfolding all-steps joined
+all-steps-cons row rows = refl
+
+-- How many they are.
+pub length-all-steps : (row : Row) (rows : List Row) → length (all-steps (row ∷ rows)) ≡ length (row .steps) + length (all-steps rows)
+length-all-steps row rows = ap length (all-steps-cons row rows) ∙ length-append (row .steps) (all-steps rows)
+
+-- Rows that fit have at most so many steps in all.
+pub few-steps : (states actions rows : ℕ) (table : Table) → ((row : Row) → List·Memᴰ row table → RowFits states actions rows row)
+    → length (all-steps table) ≤ length table * actions
+unfolding all-steps joined
+few-steps states actions rows [] f = omega arith
+few-steps states actions rows (row ∷ table) f =
+    omega (
+      arith,
+      length-all-steps row table,
+      row-few states actions rows row (f row (List·Memᴰ·head refl)),
+      few-steps states actions rows table (λ x i. f x (List·Memᴰ·tail i)),
+    )
+
+-- ---- lengths
+
+length-written : (width n : ℕ) (rest : List ℕ) → length (number-bytes width n ++ rest) ≡ width + length rest
+length-written width n rest = length-append (number-bytes width n) rest ∙ ap (λ m. m + length rest) (length-number-bytes width n)
+
+-- The header is twelve bytes.
+pub length-header : (rows steps states actions : ℕ) → length (header-bytes rows steps states actions) ≡ rows-at
+unfolding header-bytes joined rows-at number-bytes
+length-header rows steps states actions = refl
+
+-- A row is so many bytes.
+pub length-row-bytes : (first : ℕ) (rows : List Row) → length (row-bytes first rows) ≡ row-size * length rows
+unfolding row-bytes row-size
+length-row-bytes first [] = omega arith
+length-row-bytes first (row ∷ rows) =
+    simp length-written (omega (arith, length-row-bytes (first + length (row .steps)) rows))
+
+-- A step is three bytes.
+pub length-step-bytes : (s : Step) → length (step-bytes s) ≡ step-size
+unfolding step-bytes step-size number-bytes
+length-step-bytes s = refl
+
+-- The steps' bytes.
+pub length-steps-bytes : (steps : List Step) → length (joined (map step-bytes steps)) ≡ step-size * length steps
+unfolding joined
+length-steps-bytes [] = omega arith
+length-steps-bytes (s ∷ steps) =
+    rw (length-append (step-bytes s) (joined (map step-bytes steps)), length-step-bytes s) (omega (arith, length-steps-bytes steps))
+
+-- The length of a table's file: header, rows and steps.
+pub length-table-file : (states actions : ℕ) (table : Table)
+    → length (table-file states actions table) ≡ steps-at (length table) + step-size * length (all-steps table)
+unfolding table-file steps-at
+length-table-file states actions table =
+    simp (length-append, length-header, length-row-bytes, length-steps-bytes) (omega arith)
+
+-- ---- bytes
+
+joined-bytes : {X : Type 0} (f : X → List ℕ) (xs : List X) → ((x : X) → AllBytes (f x)) → AllBytes (joined (map f xs))
+unfolding joined
+joined-bytes f [] h = no-bytes
+joined-bytes f (x ∷ xs) h = append-bytes (h x) (joined-bytes f xs h)
+
+row-bytes-bytes : (first : ℕ) (rows : List Row) → AllBytes (row-bytes first rows)
+unfolding row-bytes
+row-bytes-bytes first [] = no-bytes
+row-bytes-bytes first (row ∷ rows) =
+    append-bytes (number-bytes-bytes state-width (row .state)) (append-bytes (number-bytes-bytes 1 (length (row .steps)))
+    (append-bytes (number-bytes-bytes 2 first) (row-bytes-bytes (first + length (row .steps)) rows)))
+
+step-bytes-bytes : (s : Step) → AllBytes (step-bytes s)
+unfolding step-bytes
+step-bytes-bytes s = append-bytes (number-bytes-bytes 1 (s .action)) (number-bytes-bytes 2 (s .target))
+
+header-bytes-bytes : (rows steps states actions : ℕ) → AllBytes (header-bytes rows steps states actions)
+unfolding header-bytes
+header-bytes-bytes rows steps states actions =
+    joined-bytes (number-bytes 2) (rows ∷ steps ∷ rows-at ∷ steps-at rows ∷ states ∷ actions ∷ []) (number-bytes-bytes 2)
+
+-- A table's file is made of bytes.
+pub file-bytes : (states actions : ℕ) (table : Table) → AllBytes (table-file states actions table)
+unfolding table-file
+file-bytes states actions table =
+    append-bytes (header-bytes-bytes (length table) (length (all-steps table)) states actions)
+    (append-bytes (row-bytes-bytes 0 table) (joined-bytes step-bytes (all-steps table) step-bytes-bytes))
