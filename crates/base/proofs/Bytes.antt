@@ -1,11 +1,11 @@
 -- Numbers in bytes: what is written is read back, and what is read would be written so.
 use Prim.Native.Nat.{ℕ, zero, suc, _+_, _*_, _/_, _%_, _^_, _≤_, _<_}
 use native.Mathlib.Omega.{arith}
-use native.Mathlib.Nat.{add-assoc, add-zero, add-suc}
+use native.Mathlib.Nat.{add-assoc, add-zero}
 use native.Mathlib.Numerals.{add-one}
 use mathlib.Core.Path.{_≡_, refl, sym, _∙_, ap}
 use mathlib.Core.List.{List, [], _∷_, _++_}
-use lib.ListN.{length, getD, drop, length-append}
+use lib.ListN.{length, drop, List·getD-eq-default}
 use lib.Seq.{getD-drop, drop-cons, drop-drop, drop-at, drop-append-seam}
 use Rattle.base.specs.Bytes.{byte-at, number-at, number-bytes}
 
@@ -49,6 +49,11 @@ unfolding number-bytes
 number-bytes-bytes zero n = no-bytes
 number-bytes-bytes (suc width) n = cons-bytes (omega arith) (number-bytes-bytes width (n / 256))
 
+-- A number of one byte is that byte.
+pub number-at-one : (bytes : List ℕ) (p : ℕ) → number-at 1 bytes p ≡ byte-at bytes p
+unfolding number-at
+number-at-one bytes p = omega arith
+
 -- Reading behind p bytes is reading from p bytes on.
 pub number-at-drop : (width : ℕ) (bytes : List ℕ) (p q : ℕ) → number-at width (drop p bytes) q ≡ number-at width bytes (p + q)
 unfolding number-at
@@ -81,6 +86,13 @@ pub number-past : (width n : ℕ) (before rest : List ℕ) → n < 256 ^ width
     → number-at width (before ++ (number-bytes width n ++ rest)) (length before) ≡ n
 number-past width n before rest lt =
     number-read width n (before ++ (number-bytes width n ++ rest)) rest (length before) (drop-append-seam before (number-bytes width n ++ rest)) lt
+
+-- Past the end every number is 0.
+pub number-past-end : (width : ℕ) (bytes : List ℕ) (p : ℕ) → length bytes ≤ p → number-at width bytes p ≡ 0
+unfolding number-at
+number-past-end zero bytes p le = refl
+number-past-end (suc width) bytes p le =
+    omega (arith, List·getD-eq-default bytes 0 le, number-past-end width bytes (p + 1) (omega arith))
 
 -- A number read from bytes fits its width.
 pub number-fits : (width : ℕ) (bytes : List ℕ) (p : ℕ) → AllBytes bytes → number-at width bytes p < 256 ^ width

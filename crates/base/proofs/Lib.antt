@@ -2,3 +2,5 @@ pub mod Lists
 pub mod Bytes
 pub mod Pigeonhole
 pub mod Answers
+pub mod Search
+pub mod Rounds

@@ -483,8 +483,9 @@ module _ {ℓ} {X : Type ℓ} where
   present-map-in f ys m e = present-in (map f ys) (Memᴰ·cast (sym e) (Memᴰ·map f m))
 
 -- Two lists mapped to options with the same values by p and q: so are the values present.
-pub present-map-same {ℓ κ μ ν} : {A : Type ℓ} {X : Type κ} {Y : Type μ} {Z : Type ν} (f : A → Option X) (g : A → Option Y) (p : X → Z) (q : Y → Z)
-    → ((a : A) → Option·map p (f a) ≡ Option·map q (g a)) → (bs : List A) → map p (present (map f bs)) ≡ map q (present (map g bs))
+pub present-map-same {ℓ κ μ ν} : {A : Type ℓ} {X : Type κ} {Y : Type μ} {Z : Type ν} (f : A → Option X) (g : A → Option Y) (p : X → Z)
+    (q : Y → Z) → ((a : A) → Option·map p (f a) ≡ Option·map q (g a)) → (bs : List A)
+    → map p (present (map f bs)) ≡ map q (present (map g bs))
 unfolding present
 present-map-same f g p q h [] = refl
 present-map-same {X = X} {Y = Y} {Z = Z} f g p q h (a ∷ bs) = go (f a) (g a) (h a) (present-map-same f g p q h bs)
@@ -503,7 +504,8 @@ Rising key (x ∷ []) = Unit {0}
 Rising key (x ∷ y ∷ xs) = (key x < key y) × Rising key (y ∷ xs)
 
 -- An element whose key is below all others goes before a rising list.
-rising-cons {ℓ} : {X : Type ℓ} (key : X → ℕ) (x : X) (xs : List X) → ((y : X) → List·Memᴰ y xs → key x < key y) → Rising key xs → Rising key (x ∷ xs)
+rising-cons {ℓ} : {X : Type ℓ} (key : X → ℕ) (x : X) (xs : List X) → ((y : X) → List·Memᴰ y xs → key x < key y) → Rising key xs
+    → Rising key (x ∷ xs)
 unfolding Rising
 rising-cons key x [] low r = tt
 rising-cons key x (y ∷ xs) low r = (low y (List·Memᴰ·head refl), r)
@@ -522,7 +524,8 @@ present-rising {X = X} f key h k (suc n) = go (f k) refl (present-rising f key h
         let q = h a y p in
         omega arith
 
-    go : (o : Option X) → f k ≡ o → Rising key (present (map f (count-from (suc k) n))) → Rising key (present (o ∷ map f (count-from (suc k) n)))
+    go : (o : Option X) → f k ≡ o → Rising key (present (map f (count-from (suc k) n)))
+        → Rising key (present (o ∷ map f (count-from (suc k) n)))
     go none e r = r
     go (some x) e r = rising-cons key x (present (map f (count-from (suc k) n))) (above x (h k x e)) r
 

@@ -2,7 +2,7 @@
 use Prim.Native.Nat.{ℕ, zero, suc, _+_}
 use mathlib.Core.Bool.{Bool, true, false, _&&_, _||_, not}
 use mathlib.Core.Option.{Option, none, some}
-use mathlib.Core.List.{List, [], _∷_, _++_, map}
+use mathlib.Core.List.{List, [], _∷_, _++_, map, List·Memᴰ}
 use lib.Dec.{eqb}
 use Rattle.base.specs.Choice.{pick}
 
@@ -85,3 +85,8 @@ unfoldable pub begins : List ℕ → List ℕ → Bool
 begins [] ys = true
 begins (x ∷ xs) [] = false
 begins (x ∷ xs) (y ∷ ys) = eqb x y && begins xs ys
+
+-- no element stands twice
+unfoldable pub Distinct {ℓ} : {X : Type ℓ} → List X → Type ℓ
+Distinct [] = Unit
+Distinct (x ∷ xs) = (List·Memᴰ x xs → ⊥) × Distinct xs

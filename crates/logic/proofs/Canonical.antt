@@ -1,17 +1,15 @@
 -- Tables as such: where their runs lead, that first-met rows are reached, that a table in canonical form is fixed by its runs, and that none
 -- with those runs has fewer rows.
-use Prim.Native.Nat.{ℕ, zero, suc, _+_, _≤_, _<_}
+use Prim.Native.Nat.{ℕ, suc, _≤_, _<_}
 use native.Mathlib.Omega.{arith}
-use native.Mathlib.Decide.{ℕ-discrete, decLt}
+use native.Mathlib.Decide.{ℕ-discrete}
 use mathlib.Core.Path.{_≡_, refl, sym, _∙_, ap}
 use mathlib.Core.Logic.{_↔_, _⊎_, inl, inr}
-use mathlib.Core.Bool.{Bool, true, false}
 use mathlib.Core.Option.{Option, none, some}
 use mathlib.Core.List.{List, [], _∷_, _++_, List·Memᴰ, List·Memᴰ·head, List·Memᴰ·tail, List·Memᴰ·not-nil, List·Memᴰ·cases-cons, append-assoc}
-use lib.ListN.{length, getD, length-append}
+use lib.ListN.{length, length-append}
 use lib.Seq.{getD-at}
-use lib.Dec.{eqb}
-use borrow.Author.Tests.{eq-eqb, ne-eqb, eqb-true, eqb-false}
+use borrow.Author.Tests.{eq-eqb, ne-eqb}
 use Rattle.base.proofs.Pigeonhole.{pigeonhole}
 use Rattle.logic.specs.Tower.{Tower}
 use Rattle.logic.specs.Book.{Book}
@@ -20,6 +18,18 @@ use Rattle.logic.specs.Tables.{Step, Row, Table, row-at, step-to, move, 
 use Rattle.logic.proofs.Leads.{leads-nil, leads-out, leads-in, append-in, append-out, leads-one, snoc-in}
 
 -- ---- steps
+
+-- Steps with equal action and target are equal.
+pub step-equal : (s t : Step) → s .action ≡ t .action → s .target ≡ t .target → s ≡ t
+step-equal s t e f = ap (λ a. record { action = a; target = s .target }) e ∙ ap (λ b. record { action = t .action; target = b }) f
+
+-- Rows with equal state and steps are equal.
+pub row-equal : (s t : Row) → s .state ≡ t .state → s .steps ≡ t .steps → s ≡ t
+row-equal s t e f = ap (λ a. record { state = a; steps = s .steps }) e ∙ ap (λ b. record { state = t .state; steps = b }) f
+
+no-step : (a p : ℕ) → step-to [] a ≡ some p → ⊥
+unfolding step-to
+no-step a p e = let z : _≡_ {A = ℕ} 0 1 = cc in omega arith
 
 -- An action finds the first step that has it.
 pub step-here : (s : Step) (steps : List Step) (a : ℕ) → s .action ≡ a → step-to (s ∷ steps) a ≡ some (s .target)
@@ -40,12 +50,33 @@ ascending-rest s (t ∷ steps) h = h .1
 -- In ascending steps every action behind the first step is above it.
 pub ascending-above : (s : Step) (steps : List Step) (a p : ℕ) → Ascending (s ∷ steps) → step-to steps a ≡ some p → s .action < a
 unfolding Ascending
-ascending-above s [] a p h e = let z : _≡_ {A = ℕ} 0 1 = unfold step-to in cc in omega arith
+ascending-above s [] a p h e = absurd (no-step a p e)
 ascending-above s (t ∷ steps) a p h e = go (ℕ-discrete (t .action) a) (ascending-above t steps a p (h .1))
   where
     go : Dec (t .action ≡ a) → (step-to steps a ≡ some p → t .action < a) → s .action < a
     go (yes f) ih = omega (arith, h .0)
     go (no n) ih = omega (arith, h .0, ih (sym (step-past t steps a n) ∙ e))
+
+-- In ascending steps every step behind the first has a higher action.
+pub ascending-mem : (s t : Step) (steps : List Step) → Ascending (s ∷ steps) → List·Memᴰ t steps → s .action < t .action
+unfolding Ascending
+ascending-mem s t [] h i = absurd (List·Memᴰ·not-nil i)
+ascending-mem s t (u ∷ steps) h i = go (List·Memᴰ·cases-cons i) (ascending-mem u t steps (h .1))
+  where
+    go : (t ≡ u) ⊎ List·Memᴰ t steps → (List·Memᴰ t steps → u .action < t .action) → s .action < t .action
+    go (inl e) ih = rw e (h .0)
+    go (inr k) ih = omega (arith, h .0, ih k)
+
+-- What an action leads to is the target of a step with that action.
+pub step-member : (steps : List Step) (a p : ℕ) → step-to steps a ≡ some p
+    → (s : Step) × List·Memᴰ s steps × (s .action ≡ a) × (s .target ≡ p)
+step-member [] a p e = absurd (no-step a p e)
+step-member (s ∷ steps) a p e = go (ℕ-discrete (s .action) a) (step-member steps a p)
+  where
+    go : Dec (s .action ≡ a) → (step-to steps a ≡ some p → (t : Step) × List·Memᴰ t steps × (t .action ≡ a) × (t .target ≡ p))
+        → (t : Step) × List·Memᴰ t (s ∷ steps) × (t .action ≡ a) × (t .target ≡ p)
+    go (yes f) ih = (s, List·Memᴰ·head refl, f, cc (e, step-here s steps a f))
+    go (no n) ih = let (t, i, f, g) = ih (sym (step-past s steps a n) ∙ e) in (t, List·Memᴰ·tail i, f, g)
 
 -- Ascending actions are distinct.
 pub ascending-once : (steps : List Step) → Ascending steps → Once steps
@@ -283,12 +314,6 @@ alike-one tower table other c r p s l k =
       runs = λ w. (λ x. k .runs w .1 (l .runs w .0 x), λ x. l .runs w .1 (k .runs w .0 x));
     })
 
-step-equal : (s t : Step) → s .action ≡ t .action → s .target ≡ t .target → s ≡ t
-step-equal s t e f = ap (λ a. record { action = a; target = s .target }) e ∙ ap (λ b. record { action = t .action; target = b }) f
-
-row-equal : (s t : Row) → s .state ≡ t .state → s .steps ≡ t .steps → s ≡ t
-row-equal s t e f = ap (λ a. record { state = a; steps = s .steps }) e ∙ ap (λ b. record { state = t .state; steps = b }) f
-
 -- Each action has a step in both lists or in none, and the targets are linked.
 record Paired (L : ℕ → ℕ → Type 0) (xs ys : List Step) : Type 0 where
   there : (a p : ℕ) → step-to xs a ≡ some p → (q : ℕ) × (step-to ys a ≡ some q) × L p q
@@ -304,10 +329,6 @@ record SameSteps (L : ℕ → ℕ → Type 0) (xs ys : List Step) (m n : ℕ) : 
   same : xs ≡ ys
   met : m ≡ n
   linked : (k : ℕ) → k < m → L k k
-
-no-step : (a p : ℕ) → step-to [] a ≡ some p → ⊥
-unfolding step-to
-no-step a p e = let z : _≡_ {A = ℕ} 0 1 = cc in omega arith
 
 -- In ascending steps no action is below the first.
 first-lowest : (s : Step) (steps : List Step) (a p : ℕ) → Ascending (s ∷ steps) → step-to (s ∷ steps) a ≡ some p → s .action ≤ a

@@ -1,3 +1,4 @@
 pub mod Leads
 pub mod Canonical
 pub mod TableFile
+pub mod TowerFile

@@ -1,18 +1,21 @@
 -- A table as bytes: which tables fit a file, how many steps they have, and how long the file is.
-use Prim.Native.Nat.{ℕ, zero, suc, _+_, _*_, _≤_, _<_}
+use Prim.Native.Nat.{ℕ, _+_, _*_, _≤_, _<_}
 use native.Mathlib.Omega.{arith}
-use mathlib.Core.Path.{_≡_, refl, sym, _∙_, ap}
+use native.Mathlib.Nat.{le-trans, mul-le-mul}
+use mathlib.Core.Path.{_≡_, refl, _∙_, ap}
 use mathlib.Core.Option.{some}
 use mathlib.Core.List.{List, [], _∷_, _++_, map, List·Memᴰ, List·Memᴰ·head, List·Memᴰ·tail}
 use lib.ListN.{length, length-append}
 use Rattle.base.specs.Lists.{joined}
 use Rattle.base.specs.Bytes.{number-bytes}
-use Rattle.base.proofs.Lists.{mem-index}
+use Rattle.base.proofs.Lists.{mem-index, mem-getD}
 use Rattle.base.proofs.Bytes.{AllBytes, length-number-bytes, number-bytes-bytes, no-bytes, append-bytes}
-use Rattle.logic.specs.Tower.{most-states, most-actions, state-width}
-use Rattle.logic.specs.Tables.{Step, Row, Table, row-at, move, Once, IsTable, Ascending}
+use Rattle.logic.specs.Tower.{Tower, Listed, most-states, most-actions, state-width}
+use Rattle.logic.specs.Book.{Book}
+use Rattle.logic.specs.Tables.{Step, Row, Table, row-at, step-to, move, IsTable, StepsRight, Ascending, Made}
 use Rattle.logic.specs.TableFile.{most-rows, rows-at, row-size, step-size, steps-at, all-steps, step-bytes, row-bytes, header-bytes, table-file}
-use Rattle.logic.proofs.Canonical.{step-found}
+use Rattle.logic.proofs.Canonical.{step-found, step-member, ascending-once, arrives, first-met-reached, Canonical, made-canonical}
+use Rattle.logic.proofs.TowerFile.{TowerFits, leads-to-state}
 
 -- The table fits a file for so many states and actions.
 pub record Fits (states actions : ℕ) (table : Table) : Type 0 where
@@ -33,6 +36,14 @@ pub record RowFits (states actions rows : ℕ) (row : Row) : Type 0 where
   pub action : (s : Step) → List·Memᴰ s (row .steps) → s .action < actions
   pub target : (s : Step) → List·Memᴰ s (row .steps) → s .target < rows
 
+row-mem : (table : Table) (r : ℕ) → r < length table → List·Memᴰ (row-at table r) table
+unfolding row-at
+row-mem table r lt = mem-getD table r (record { state = 0; steps = [] }) lt
+
+move-step : (table : Table) (r a s : ℕ) → move table r a ≡ some s → step-to (row-at table r .steps) a ≡ some s
+unfolding move
+move-step table r a s e = e
+
 -- Every row of a table that fits does.
 pub fits-row : (states actions : ℕ) (table : Table) → Fits states actions table → (row : Row) → List·Memᴰ row table
     → RowFits states actions (length table) row
@@ -50,6 +61,60 @@ fits-row states actions table f row i = go (mem-index (record { state = 0; steps
       where
         found : (s : Step) → List·Memᴰ s (row .steps) → move table r (s .action) ≡ some (s .target)
         found s k = rw e (step-found s (row .steps) (rw e at (f .is-table .once r lt)) k)
+
+-- A table fits if there are rows, not too many, for states and actions in range, and every row does.
+pub fits-by-rows : (states actions : ℕ) (table : Table) → 1 ≤ states → states ≤ most-states → 1 ≤ actions → actions ≤ most-actions
+    → 0 < length table → length table ≤ most-rows → ((row : Row) → List·Memᴰ row table → RowFits states actions (length table) row)
+    → Fits states actions table
+fits-by-rows states actions table a b c d there few fit =
+    record {
+      a-state = a;
+      few-states = b;
+      an-action = c;
+      few-actions = d;
+      few-rows = few;
+      is-table =
+          record {
+            some-row = there;
+            targets = λ r x s lt e. step-fits r x s lt e .1;
+            once = λ r lt. ascending-once (row-at table r .steps) (at r lt .ascending);
+          };
+      state = λ r lt. at r lt .state;
+      action = λ r x s lt e. step-fits r x s lt e .0;
+      ascending = λ r lt. at r lt .ascending;
+    }
+  where
+    at : (r : ℕ) → r < length table → RowFits states actions (length table) (row-at table r)
+    at r lt = fit (row-at table r) (row-mem table r lt)
+
+    step-fits : (r x s : ℕ) → r < length table → move table r x ≡ some s → (x < actions) × (s < length table)
+    step-fits r x s lt e =
+        let (t, i, f, g) = step-member (row-at table r .steps) x s (move-step table r x s e) in
+        (rw f at (at r lt .action t i), rw g at (at r lt .target t i))
+
+-- A canonical table for a tower that fits, with not too many rows, fits.
+pub canonical-fits : (tower : Tower) (table : Table) → TowerFits tower → Canonical tower table → length table ≤ most-rows
+    → Fits (tower .states) (tower .actions) table
+unfolding Listed StepsRight
+canonical-fits tower table f c few =
+    record {
+      a-state = f .a-state;
+      few-states = f .few-states;
+      an-action = f .an-action;
+      few-actions = f .few-actions;
+      few-rows = few;
+      is-table = c .follows .is-table;
+      state = λ r lt.
+          let (w, e) = first-met-reached table (c .follows .is-table) (c .first-met) r lt in
+          leads-to-state tower f (tower .start) (row-at table r .state) w (f .start) (arrives tower table (c .follows) w r e .state);
+      action = λ r a s lt e. f .listed (row-at table r .state) a (row-at table s .state) (c .follows .steps r lt a s e);
+      ascending = c .ascending;
+    }
+
+-- A made table for a tower that fits, with not too many rows, fits.
+pub made-fits : (tower : Tower) (book : Book) (table : Table) → TowerFits tower → Made tower book table → length table ≤ most-rows
+    → Fits (tower .states) (tower .actions) table
+made-fits tower book table f m few = canonical-fits tower table f (made-canonical tower book table m) few
 
 -- Ascending steps whose actions are below n, from the first of them on, are no more than there is room for.
 ascending-room : (n : ℕ) (s : Step) (steps : List Step) → Ascending (s ∷ steps) → ((t : Step) → List·Memᴰ t (s ∷ steps) → t .action < n)
@@ -88,6 +153,12 @@ few-steps states actions rows (row ∷ table) f =
       row-few states actions rows row (f row (List·Memᴰ·head refl)),
       few-steps states actions rows table (λ x i. f x (List·Memᴰ·tail i)),
     )
+
+-- A table that fits has at most 16,000 steps.
+pub fits-few-steps : (states actions : ℕ) (table : Table) → Fits states actions table → length (all-steps table) ≤ 16000
+unfolding most-rows most-actions
+fits-few-steps states actions table f =
+    le-trans (few-steps states actions (length table) table (fits-row states actions table f)) (mul-le-mul (f .few-rows) (f .few-actions))
 
 -- ---- lengths
 

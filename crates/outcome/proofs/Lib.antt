@@ -1,3 +1,9 @@
 pub mod ElevenOutcomes
 pub mod Game
 pub mod Reasons
+pub mod Alike
+pub mod RowPairs
+pub mod MadeTable
+pub mod Items
+pub mod Counted
+pub mod Checker

@@ -5,4 +5,6 @@ pub mod ReadBook
 pub mod Make
 pub mod Check
 pub mod Follow
+pub mod Reached
+pub mod Judged
 pub mod SmallTower

@@ -1,0 +1,446 @@
+-- Breadth-first search finds what is reached, each once, in the order met: all of it, or else more than the limit.
+use Prim.Native.Nat.{ℕ, zero, suc, _+_, _≤_, _<_}
+use mathlib.Core.Path.{_≡_, refl, sym, ap, _∙_, subst}
+use mathlib.Core.Logic.{_⊎_, inl, inr, ⊎-elim}
+use mathlib.Core.Bool.{Bool, true, false}
+use mathlib.Core.List.{List, [], _∷_, _++_, map, List·Memᴰ, List·Memᴰ·head, List·Memᴰ·tail, List·Memᴰ·not-nil, List·Memᴰ·cases-cons, List·Memᴰ·eq-of-singleton, List·Memᴰ·append-cases, Memᴰ·cast, Memᴰ·map, append-assoc, append-nil}
+use native.Mathlib.Omega.{arith}
+use lib.ListN.{length, getD, length-append, length-map}
+use lib.Seq.{append-snoc}
+use lib.Dec.{ltb}
+use borrow.Author.Tests.{ltb-true}
+use Rattle.base.specs.Choice.{pick}
+use Rattle.base.specs.Lists.{some-of, place-of, Distinct}
+use Rattle.base.specs.Search.{new-ones, search-on, search-from}
+use Rattle.base.proofs.Pigeonhole.{pigeonhole}
+use Rattle.base.proofs.Lists.{never-both, false-by, or-fails-left, or-fails-right, or-neither, some-none, some-append, none-of, mem-getD, mem-index, mem-along, place-of-append-left, place-of-append-right, place-of-some, place-of-at, place-of-found, place-of-first, IsSame, decides-same}
+
+-- ---- What is said of a search
+
+-- y is reached from x by going to followers.
+pub data Reached {X : Type 0} (followers : X → List X) (x : X) : X → Type 0 where
+  start : Reached followers x x
+  onward : {y z : X} → Reached followers x y → List·Memᴰ z (followers y) → Reached followers x z
+
+-- No two elements are one and the same.
+unfoldable pub Apart : {X : Type 0} → (X → X → Bool) → List X → Type 0
+Apart same [] = Unit {0}
+Apart same (x ∷ xs) = (some-of (same x) xs ≡ false) × Apart same xs
+
+-- Reading places with m met so far, each is one of those or the next; n are met at the end.
+unfoldable pub MeetsAll : ℕ → List ℕ → ℕ → Type 0
+MeetsAll m [] n = m ≡ n
+MeetsAll m (p ∷ ps) n = ((p < m) × MeetsAll m ps n) ⊎ ((p ≡ m) × MeetsAll (suc m) ps n)
+
+-- The rows of places from number r on, read in order with m met before: each row is met before it is read, and none is left over.
+unfoldable pub MetInOrder : ℕ → ℕ → List (List ℕ) → Type 0
+MetInOrder r m [] = m ≡ r
+MetInOrder r m (ps ∷ rows) = (r < m) × ((n : ℕ) × MeetsAll m ps n × MetInOrder (suc r) n rows)
+
+-- What a search wants of its test: it is an equivalence, and of two that are reached and one and the same the followers are so too.
+pub record Fitting {X : Type 0} (same : X → X → Bool) (followers : X → List X) (x : X) : Type 0 where
+  pub is-same : IsSame same
+  pub respects : (y z f : X) → Reached followers x y → Reached followers x z → same y z ≡ true → List·Memᴰ f (followers y)
+      → (g : X) × List·Memᴰ g (followers z) × (same f g ≡ true)
+
+-- A test that decides equality fits every search.
+pub decides-fitting : {X : Type 0} (same : X → X → Bool) (followers : X → List X) (x : X) → ((y z : X) → same y z ≡ true → y ≡ z)
+    → ((y : X) → same y y ≡ true) → Fitting same followers x
+decides-fitting {X} same followers x out itself =
+    record {
+      is-same = decides-same same out itself;
+      respects = λ y z f _ _ e m. (f, mem-along (ap followers (out y z e)) m, itself f);
+    }
+
+-- ---- Elements apart
+
+module _ {X : Type 0} {same : X → X → Bool} (is : IsSame same) where
+  -- Of elements apart those at different indices are not one and the same.
+  pub apart-at : (xs : List X) (i j : ℕ) (d : X) → Apart same xs → i < length xs → j < length xs → same (getD xs i d) (getD xs j d) ≡ true
+      → i ≡ j
+  unfolding Apart
+  apart-at [] i j d a k l e = absurd (omega arith)
+  apart-at (x ∷ xs) zero zero d a k l e = refl
+  apart-at (x ∷ xs) zero (suc j) d a k l e = never-both e (some-none (same x) (a .0) (mem-getD xs j d (omega arith)))
+  apart-at (x ∷ xs) (suc i) zero d a k l e =
+      never-both (is .turned (getD xs i d) x e) (some-none (same x) (a .0) (mem-getD xs i d (omega arith)))
+  apart-at (x ∷ xs) (suc i) (suc j) d a k l e = ap suc (apart-at xs i j d (a .1) (omega arith) (omega arith) e)
+
+  -- Elements are apart if no earlier one is the same as a later one.
+  pub apart-by : (xs : List X) (d : X) → ((i j : ℕ) → i < j → j < length xs → same (getD xs i d) (getD xs j d) ≡ false) → Apart same xs
+  unfolding Apart
+  apart-by [] d h = tt
+  apart-by (x ∷ xs) d h = (
+    none-of (same x) xs (λ y m. let (j, l, e) = mem-index d m in ap (same x) (sym e) ∙ h 0 (suc j) (omega arith) (omega arith)),
+    apart-by xs d (λ i j k l. h (suc i) (suc j) (omega arith) (omega arith)),
+  )
+
+  -- One more, behind.
+  apart-snoc : (xs : List X) (y : X) → Apart same xs → some-of (same y) xs ≡ false → Apart same (xs ++ (y ∷ []))
+  unfolding Apart some-of
+  apart-snoc [] y a e = (refl, tt)
+  apart-snoc (x ∷ xs) y a e = (
+    some-append (same x) xs (y ∷ []) ∙ or-neither (a .0) (or-neither (false-by (same x y) turn) refl),
+    apart-snoc xs y (a .1) (or-fails-right (same y x) (some-of (same y) xs) e),
+  )
+    where
+      turn : same x y ≡ true → ⊥
+      turn p = never-both (is .turned x y p) (or-fails-left (same y x) (some-of (same y) xs) e)
+
+  -- Elements apart, each the same as one of a list, are no more than that list has.
+  pub apart-few : (ms l : List X) → Apart same ms → ((y : X) → List·Memᴰ y ms → (z : X) × List·Memᴰ z l × (same y z ≡ true))
+      → length ms ≤ length l
+  apart-few [] l a h = omega arith
+  apart-few (d ∷ ms) l a h =
+      pigeonhole (λ i j. (i < length (d ∷ ms)) × (same (at i) (getD l j d) ≡ true)) (length (d ∷ ms)) (length l) give one
+    where
+      at : ℕ → X
+      at i = getD (d ∷ ms) i d
+
+      give : (i : ℕ) → i < length (d ∷ ms) → (j : ℕ) × (j < length l) × ((i < length (d ∷ ms)) × (same (at i) (getD l j d) ≡ true))
+      give i k =
+          let (z, m, e) = h (at i) (mem-getD (d ∷ ms) i d k) in
+          let (j, b, p) = mem-index d m in
+          (j, b, (k, ap (same (at i)) p ∙ e))
+
+      one : (i k j : ℕ) → (i < length (d ∷ ms)) × (same (at i) (getD l j d) ≡ true)
+          → (k < length (d ∷ ms)) × (same (at k) (getD l j d) ≡ true) → i ≡ k
+      one i k j (b, e) (c, f) =
+          apart-at (d ∷ ms) i k d a b c (is .chained (at i) (getD l j d) (at k) e (is .turned (at k) (getD l j d) f))
+
+-- What is apart by a test that each passes with itself is distinct.
+pub apart-distinct : {X : Type 0} (same : X → X → Bool) → ((x : X) → same x x ≡ true) → (xs : List X) → Apart same xs → Distinct xs
+unfolding Apart Distinct
+apart-distinct same itself [] a = tt
+apart-distinct same itself (x ∷ xs) (none-same, a) =
+    (λ m. never-both (itself x) (some-none (same x) none-same m), apart-distinct same itself xs a)
+
+-- What is distinct is apart by a test that only equals pass.
+pub distinct-apart : {X : Type 0} (same : X → X → Bool) → ((x y : X) → same x y ≡ true → x ≡ y) → (xs : List X) → Distinct xs → Apart same xs
+unfolding Apart Distinct
+distinct-apart same out [] a = tt
+distinct-apart same out (x ∷ xs) (not-in-rest, a) =
+    (none-of (same x) xs (λ y m. false-by (same x y) (λ e. not-in-rest (Memᴰ·cast (out x y e) m))), distinct-apart same out xs a)
+
+length-snoc : {X : Type 0} (xs : List X) (y : X) → length (xs ++ (y ∷ [])) ≡ suc (length xs)
+length-snoc xs y = let e = length-append xs (y ∷ []) in omega arith
+
+-- ---- Reading in order
+
+-- At least as many are met at the end.
+meets-grows : (m : ℕ) (ps : List ℕ) (n : ℕ) → MeetsAll m ps n → m ≤ n
+unfolding MeetsAll
+meets-grows m [] n e = omega arith
+meets-grows m (p ∷ ps) n (inl (l, h)) = meets-grows m ps n h
+meets-grows m (p ∷ ps) n (inr (e, h)) = let g = meets-grows (suc m) ps n h in omega arith
+
+-- Each place read is one of those met at the end.
+pub meets-below : (m : ℕ) (ps : List ℕ) (n : ℕ) {p : ℕ} → MeetsAll m ps n → List·Memᴰ p ps → p < n
+unfolding MeetsAll
+meets-below m [] n h k = absurd (List·Memᴰ·not-nil k)
+meets-below m (q ∷ ps) n {p} h k = go (λ r g i. meets-below r ps n g i) h (List·Memᴰ·cases-cons k)
+  where
+    go : ((r : ℕ) → MeetsAll r ps n → List·Memᴰ p ps → p < n) → ((q < m) × MeetsAll m ps n) ⊎ ((q ≡ m) × MeetsAll (suc m) ps n)
+        → (p ≡ q) ⊎ List·Memᴰ p ps → p < n
+    go ih (inl (l, g)) (inl e) = let b = meets-grows m ps n g in omega arith
+    go ih (inl (l, g)) (inr i) = ih m g i
+    go ih (inr (d, g)) (inl e) = let b = meets-grows (suc m) ps n g in omega arith
+    go ih (inr (d, g)) (inr i) = ih (suc m) g i
+
+-- All that is met is read.
+pub met-ends : (r m : ℕ) (rows : List (List ℕ)) → MetInOrder r m rows → m ≤ r + length rows
+unfolding MetInOrder
+met-ends r m [] e = omega arith
+met-ends r m (ps ∷ rows) (l, (n, h, g)) =
+    let b = met-ends (suc r) n rows g in
+    let c = meets-grows m ps n h in
+    omega arith
+
+-- Each place that stands in a row is read as a row.
+pub met-below : (r m : ℕ) {rows : List (List ℕ)} {ps : List ℕ} {p : ℕ} → MetInOrder r m rows → List·Memᴰ ps rows → List·Memᴰ p ps
+    → p < r + length rows
+unfolding MetInOrder
+met-below r m {p = p} (l, (n, h, g)) (List·Memᴰ·head {x = qs} {xs = rows} e) k =
+    let b = met-ends (suc r) n rows g in
+    let c = meets-below m qs n h (mem-along e k) in
+    omega arith
+met-below r m (l, (n, h, g)) (List·Memᴰ·tail {x = qs} {xs = rows} i) k = let b = met-below (suc r) n g i k in omega arith
+
+-- ---- The search
+
+module _ {X : Type 0} (same : X → X → Bool) (followers : X → List X) where
+  -- What is new stands in the list that was read.
+  new-ones-mem : (seen fs : List X) {y : X} → List·Memᴰ y (new-ones same seen fs) → List·Memᴰ y fs
+  unfolding new-ones
+  new-ones-mem seen [] m = m
+  new-ones-mem seen (f ∷ fs) {y} m = go (some-of (same f) seen) m (λ s k. new-ones-mem s fs k)
+    where
+      at : ((s : List X) → List·Memᴰ y (new-ones same s fs) → List·Memᴰ y fs) → (y ≡ f) ⊎ List·Memᴰ y (new-ones same (seen ++ (f ∷ [])) fs)
+          → List·Memᴰ y (f ∷ fs)
+      at ih (inl e) = List·Memᴰ·head e
+      at ih (inr k) = List·Memᴰ·tail (ih (seen ++ (f ∷ [])) k)
+
+      go : (b : Bool) → List·Memᴰ y (pick b (λ _. new-ones same seen fs) (λ _. f ∷ new-ones same (seen ++ (f ∷ [])) fs))
+          → ((s : List X) → List·Memᴰ y (new-ones same s fs) → List·Memᴰ y fs) → List·Memᴰ y (f ∷ fs)
+      go true k ih = List·Memᴰ·tail (ih seen k)
+      go false k ih = at ih (List·Memᴰ·cases-cons k)
+
+  -- With what is new, those seen stay apart.
+  new-ones-apart : IsSame same → (seen fs : List X) → Apart same seen → Apart same (seen ++ new-ones same seen fs)
+  unfolding new-ones
+  new-ones-apart is seen [] a = rw append-nil a
+  new-ones-apart is seen (f ∷ fs) a = go (some-of (same f) seen) refl (λ s b. new-ones-apart is s fs b)
+    where
+      go : (b : Bool) → some-of (same f) seen ≡ b → ((s : List X) → Apart same s → Apart same (s ++ new-ones same s fs))
+          → Apart same (seen ++ pick b (λ _. new-ones same seen fs) (λ _. f ∷ new-ones same (seen ++ (f ∷ [])) fs))
+      go true e ih = ih seen a
+      go false e ih = rw (← append-snoc seen f (new-ones same (seen ++ (f ∷ [])) fs)) (ih (seen ++ (f ∷ [])) (apart-snoc is seen f a e))
+
+  -- One of those seen has its place among them.
+  seen-place : (f : X) (seen rest : List X) {l : List X} → l ≡ seen ++ rest → some-of (same f) seen ≡ true
+      → place-of (same f) l < length seen
+  seen-place f seen rest e p =
+      let q = ap (place-of (same f)) e ∙ place-of-append-left (same f) seen rest p in
+      let b = place-of-some (same f) seen p in
+      omega arith
+
+  -- A new one has its place behind them.
+  next-place : IsSame same → (f : X) (seen rest : List X) {l : List X} → l ≡ seen ++ (f ∷ rest) → some-of (same f) seen ≡ false
+      → place-of (same f) l ≡ length seen
+  unfolding place-of
+  next-place is f seen rest e p =
+      let q = ap (place-of (same f)) e ∙ place-of-append-right (same f) seen (f ∷ rest) p in
+      let z : place-of (same f) (f ∷ rest) ≡ 0 = ap (λ (b : Bool). pick b (λ _. 0) (λ _. suc (place-of (same f) rest))) (is .itself f) in
+      omega arith
+
+  -- Reading followers in order, each is one of those seen or the next.
+  new-ones-met : IsSame same → (l seen fs more : List X) → l ≡ (seen ++ new-ones same seen fs) ++ more
+      → MeetsAll (length seen) (map (λ f. place-of (same f) l) fs) (length (seen ++ new-ones same seen fs))
+  unfolding new-ones MeetsAll
+  new-ones-met is l seen [] more e = ap length (sym (append-nil seen))
+  new-ones-met is l seen (f ∷ fs) more e = go (some-of (same f) seen) refl e (λ s d. new-ones-met is l s fs more d)
+    where
+      ps : List ℕ
+      ps = map (λ g. place-of (same g) l) fs
+
+      after : Bool → List X
+      after b = seen ++ pick b (λ _. new-ones same seen fs) (λ _. f ∷ new-ones same (seen ++ (f ∷ [])) fs)
+
+      go : (b : Bool) → some-of (same f) seen ≡ b → l ≡ after b ++ more
+          → ((s : List X) → l ≡ (s ++ new-ones same s fs) ++ more → MeetsAll (length s) ps (length (s ++ new-ones same s fs)))
+          → MeetsAll (length seen) (place-of (same f) l ∷ ps) (length (after b))
+      go true p d ih =
+          let those = new-ones same seen fs in
+          inl (seen-place f seen (those ++ more) (d ∙ append-assoc seen those more) p, ih seen d)
+      go false p d ih =
+          let those = new-ones same (seen ++ (f ∷ [])) fs in
+          let h = ih (seen ++ (f ∷ [])) (d ∙ ap (λ (z : List X). z ++ more) (sym (append-snoc seen f those))) in
+          let rest = rw (append-snoc seen f those, length-snoc seen f) at h in
+          inr (next-place is f seen (those ++ more) (d ∙ append-assoc seen (f ∷ those) more) p, rest)
+
+  -- what is new among the followers of y
+  abbrev new : List X → X → List X
+  new seen y = new-ones same seen (followers y)
+
+  -- for each of ys, the places of its followers in l
+  abbrev places : List X → List X → List (List ℕ)
+  places l ys = map (λ y. map (λ f. place-of (same f) l) (followers y)) ys
+
+  module _ (most : ℕ) where
+    abbrev searched : ℕ → List X → List X → List X
+    searched n seen todo = search-on same followers most n seen todo
+
+    -- What each turn keeps the search keeps.
+    search-keeps : (P : List X → List X → Type 0)
+        → ((seen : List X) (y : X) (todo : List X) → P seen (y ∷ todo) → P (seen ++ new seen y) (todo ++ new seen y))
+        → (n : ℕ) (seen todo : List X) → P seen todo → (left : List X) × P (searched n seen todo) left
+    unfolding search-on
+    search-keeps P step zero seen todo p = (todo, p)
+    search-keeps P step (suc n) seen [] p = ([], p)
+    search-keeps P step (suc n) seen (y ∷ todo) p =
+        go (ltb most (length seen)) (search-keeps P step n (seen ++ new seen y) (todo ++ new seen y) (step seen y todo p))
+      where
+        l : List X
+        l = searched n (seen ++ new seen y) (todo ++ new seen y)
+
+        go : (b : Bool) → (left : List X) × P l left → (left : List X) × P (pick b (λ _. seen) (λ _. l)) left
+        go true ih = (y ∷ todo, p)
+        go false ih = ih
+
+    -- A search that stops with at most `most` seen has looked at each of them in turn, and its places are as they are met.
+    record Looked (done todo seen l : List X) : Type 0 where
+      more : List X
+      grown : l ≡ seen ++ more
+      order : MetInOrder (length done) (length seen) (places l (todo ++ more))
+
+    -- One turn, and then the rest.
+    look : IsSame same → (y : X) (done todo seen l : List X) → seen ≡ done ++ (y ∷ todo)
+        → Looked (done ++ (y ∷ [])) (todo ++ new seen y) (seen ++ new seen y) l → Looked done (y ∷ todo) seen l
+    unfolding MetInOrder
+    look is y done todo seen l e k =
+        let before : length done < length seen = omega (arith, ap length e, length-append done (y ∷ todo)) in
+        let meets = new-ones-met is l seen (followers y) (k .more) (k .grown) in
+        let rest = rw (length-snoc done y, append-assoc todo (new seen y) (k .more)) at (k .order) in
+        record {
+          more = new seen y ++ k .more;
+          grown = k .grown ∙ append-assoc seen (new seen y) (k .more);
+          order = (before, (length (seen ++ new seen y), meets, rest));
+        }
+
+    search-looks : IsSame same → (n : ℕ) (done todo seen l : List X) → seen ≡ done ++ todo → suc most ≤ n + length done
+        → l ≡ searched n seen todo → length l ≤ most → Looked done todo seen l
+    unfolding search-on MetInOrder
+    search-looks is zero done todo seen l e fuel is-l few = absurd (omega (arith, ap length is-l, ap length e, length-append done todo))
+    search-looks is (suc n) done [] seen l e fuel is-l few =
+        record { more = []; grown = is-l ∙ sym (append-nil seen); order = ap length e ∙ ap length (append-nil done) }
+    search-looks is (suc n) done (y ∷ todo) seen l e fuel is-l few =
+        let less : suc most ≤ n + length (done ++ (y ∷ [])) = omega (arith, length-snoc done y) in
+        let next = search-looks is n (done ++ (y ∷ [])) (todo ++ new seen y) (seen ++ new seen y) l moved less in
+        go (ltb most (length seen)) refl is-l (λ q. next q few)
+      where
+        moved : seen ++ new seen y ≡ (done ++ (y ∷ [])) ++ (todo ++ new seen y)
+        moved =
+            ap (λ (z : List X). z ++ new seen y) e
+            ∙ append-assoc done (y ∷ todo) (new seen y)
+            ∙ sym (append-snoc done y (todo ++ new seen y))
+
+        go : (b : Bool) → ltb most (length seen) ≡ b → l ≡ pick b (λ _. seen) (λ _. searched n (seen ++ new seen y) (todo ++ new seen y))
+            → (l ≡ searched n (seen ++ new seen y) (todo ++ new seen y)
+            → Looked (done ++ (y ∷ [])) (todo ++ new seen y) (seen ++ new seen y) l)
+            → Looked done (y ∷ todo) seen l
+        go true p q ih = absurd (omega (arith, ltb-true most (length seen) p, ap length q))
+        go false p q ih = look is y done todo seen l e (ih q)
+
+  -- ---- From one element on
+
+  module _ (most : ℕ) (x : X) where
+    -- what the search finds from x on
+    abbrev found : List X
+    found = search-from same followers most x
+
+    -- What each turn keeps holds of what is found.
+    found-keeps : (P : List X → List X → Type 0)
+        → ((seen : List X) (y : X) (todo : List X) → P seen (y ∷ todo) → P (seen ++ new seen y) (todo ++ new seen y)) → P (x ∷ []) (x ∷ [])
+        → (left : List X) × P found left
+    unfolding search-from
+    found-keeps P step p = search-keeps most P step (suc most) (x ∷ []) (x ∷ []) p
+
+    -- The search finds x first.
+    pub search-first : (rest : List X) × (found ≡ x ∷ rest)
+    search-first = found-keeps (λ seen todo. (rest : List X) × (seen ≡ x ∷ rest)) step ([], refl) .1
+      where
+        step : (seen : List X) (y : X) (todo : List X) → (rest : List X) × (seen ≡ x ∷ rest)
+            → (rest : List X) × (seen ++ new seen y ≡ x ∷ rest)
+        step seen y todo (rest, e) = (rest ++ new seen y, ap (λ (z : List X). z ++ new seen y) e)
+
+    -- All that it finds is reached.
+    pub search-reached : {y : X} → List·Memᴰ y found → Reached followers x y
+    search-reached {y} m = found-keeps (λ seen todo. Only seen × Only todo) step (first, first) .1 .0 y m
+      where
+        Only : List X → Type 0
+        Only l = (z : X) → List·Memᴰ z l → Reached followers x z
+
+        first : Only (x ∷ [])
+        first z k = rw (List·Memᴰ·eq-of-singleton k) start
+
+        both : (s t : List X) → Only s → Only t → Only (s ++ t)
+        both s t h k z i = ⊎-elim (h z) (k z) (List·Memᴰ·append-cases s i)
+
+        step : (seen : List X) (u : X) (todo : List X) → Only seen × Only (u ∷ todo) → Only (seen ++ new seen u) × Only (todo ++ new seen u)
+        step seen u todo (p, q) =
+            let those : Only (new seen u) = λ z i. onward (q u (List·Memᴰ·head refl)) (new-ones-mem seen (followers u) i) in
+            let rest : Only todo = λ z i. q z (List·Memᴰ·tail i) in
+            (both seen (new seen u) p those, both todo (new seen u) rest those)
+
+    -- No two that it finds are one and the same.
+    pub search-apart : IsSame same → Apart same found
+    unfolding Apart some-of
+    search-apart is = found-keeps (λ seen todo. Apart same seen) (λ seen y todo p. new-ones-apart is seen (followers y) p) (refl, tt) .1
+
+    -- Those that it finds at different indices are not one and the same.
+    pub search-apart-at : IsSame same → (i j : ℕ) (d : X) → i < length found → j < length found
+        → same (getD found i d) (getD found j d) ≡ true → i ≡ j
+    search-apart-at is i j d k l e = apart-at is found i j d (search-apart is) k l e
+
+    -- If it finds at most `most`, it meets them in order: row by row, each follower's place is one met already or the next, and at the end
+    -- all are read.
+    pub search-order : IsSame same → length found ≤ most → MetInOrder 0 1 (places found found)
+    unfolding search-from
+    search-order is few =
+        let k = search-looks most is (suc most) [] (x ∷ []) (x ∷ []) found refl (omega arith) refl few in
+        subst (λ (ys : List X). MetInOrder 0 1 (places found ys)) (sym (k .grown)) (k .order)
+
+    -- If it finds at most `most`, each follower of one found is the same as one found.
+    pub search-closed : IsSame same → length found ≤ most → {y f : X} → List·Memᴰ y found → List·Memᴰ f (followers y)
+        → (z : X) × List·Memᴰ z found × (same f z ≡ true)
+    search-closed is few {f = f} m k =
+        let row = Memᴰ·map (λ y. map (λ f. place-of (same f) found) (followers y)) m in
+        let b = met-below 0 1 (search-order is few) row (Memᴰ·map (λ f. place-of (same f) found) k) in
+        let n = length-map found (λ y. map (λ f. place-of (same f) found) (followers y)) in
+        let c : place-of (same f) found < length found = omega arith in
+        (getD found (place-of (same f) found) f, mem-getD found (place-of (same f) found) f c, place-of-at (same f) found f c)
+
+    -- If it finds at most `most`, all that is reached is the same as one found.
+    pub search-all : Fitting same followers x → length found ≤ most → {y : X} → Reached followers x y
+        → (z : X) × List·Memᴰ z found × (same y z ≡ true)
+    search-all fit few start =
+        let (rest, e) = search-first in
+        (x, mem-along (sym e) (List·Memᴰ·head refl), fit .is-same .itself x)
+    search-all fit few (onward {y = y} {z = f} r k) =
+        let (z, m, e) = search-all fit few r in
+        let (g, i, p) = fit .respects y z f r (search-reached m) e k in
+        let (w, n, q) = search-closed (fit .is-same) few m i in
+        (w, n, fit .is-same .chained f g w p q)
+
+    -- If it finds at most `most`, elements that are reached and apart are no more than it finds.
+    pub search-few : Fitting same followers x → length found ≤ most → (ms : List X) → ((y : X) → List·Memᴰ y ms → Reached followers x y)
+        → Apart same ms → length ms ≤ length found
+    search-few fit few ms reached apart = apart-few (fit .is-same) ms found apart (λ y m. search-all fit few (reached y m))
+
+    -- If it finds more than `most`, there are more than `most` elements that are reached and apart.
+    pub search-many : IsSame same → most < length found
+        → (ms : List X) × (most < length ms) × ((y : X) → List·Memᴰ y ms → Reached followers x y) × Apart same ms
+    search-many is many = (found, many, λ y m. search-reached m, search-apart is)
+
+    -- If it finds at most `most`, what is reached has a place in what is found,
+    pub search-place : Fitting same followers x → length found ≤ most → {y : X} → Reached followers x y
+        → place-of (same y) found < length found
+    search-place fit few {y} r = let (z, m, e) = search-all fit few r in place-of-found (same y) m e
+
+    -- and the one at that place is the same.
+    pub search-at-place : Fitting same followers x → length found ≤ most → {y : X} (d : X) → Reached followers x y
+        → same y (getD found (place-of (same y) found) d) ≡ true
+    search-at-place fit few {y} d r = place-of-at (same y) found d (search-place fit few r)
+
+    -- One found has its own index for its place.
+    pub search-own-place : IsSame same → (i : ℕ) (d : X) → i < length found → place-of (same (getD found i d)) found ≡ i
+    search-own-place is i d k = place-of-first (same (getD found i d)) found i d k (is .itself (getD found i d)) earlier
+      where
+        earlier : (j : ℕ) → j < i → same (getD found i d) (getD found j d) ≡ false
+        earlier j h =
+            false-by
+            (same (getD found i d) (getD found j d))
+            (λ e. let q = search-apart-at is i j d k (omega arith) e in omega arith)
+
+    -- ---- Where the test decides equality
+
+    module _ (out : (y z : X) → same y z ≡ true → y ≡ z) (itself : (y : X) → same y y ≡ true) where
+      -- If it finds at most `most`, it finds all that is reached.
+      pub search-finds : length found ≤ most → {y : X} → Reached followers x y → List·Memᴰ y found
+      search-finds few {y} r =
+          let (z, m, e) = search-all (decides-fitting same followers x out itself) few r in
+          Memᴰ·cast (out y z e) m
+
+      -- If it finds at most `most`, no more than `most` distinct elements are reached.
+      pub search-at-most : length found ≤ most → (ms : List X) → Distinct ms → ((y : X) → List·Memᴰ y ms → Reached followers x y)
+          → length ms ≤ most
+      search-at-most few ms distinct reached =
+          let n = search-few (decides-fitting same followers x out itself) few ms reached (distinct-apart same out ms distinct) in
+          omega arith
+
+      -- If it finds more than `most`, more than `most` distinct elements are reached.
+      pub search-more : most < length found
+          → (ms : List X) × (most < length ms) × Distinct ms × ((y : X) → List·Memᴰ y ms → Reached followers x y)
+      search-more many =
+          let distinct = apart-distinct same itself found (search-apart (decides-same same out itself)) in
+          (found, many, distinct, λ y m. search-reached m)
