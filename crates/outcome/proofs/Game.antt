@@ -1,20 +1,26 @@
 -- The safety game: whatever a good table reaches is never removed, and what is never removed is fine. So a good table exists exactly if the
 -- first pair is safe.
 use Prim.Native.Nat.{ℕ, zero, suc, _≤_, _<_}
-use mathlib.Core.Path.{_≡_, refl, sym, _∙_, ap, subst}
+use mathlib.Core.Path.{_≡_, refl, sym, _∙_, ap, ap₂, subst, fun-ext}
 use mathlib.Core.Bool.{Bool, true, false, _&&_, _||_, not}
 use mathlib.Core.Option.{Option, none, some}
 use mathlib.Core.List.{List, [], _∷_, _++_, List·Memᴰ}
 use lib.ListN.{length}
+use borrow.Author.Tests.{ltb-false}
 use Rattle.base.specs.Lists.{every, some-of, below, is-there, there-with, only-if}
-use Rattle.base.proofs.Lists.{whether, and-both, and-left, and-right, or-left, or-right, or-cases, not-in, below-every, below-some, is-there-in, there-not, there-with-in, whether-there, some-one}
+use Rattle.base.proofs.Lists.{whether, and-both, and-left, and-right, or-left, or-right, or-cases, not-in, below-every, below-some, is-there-in, there-not, there-with-in, whether-there, some-one, present-map-in, below-mem}
+use Rattle.base.proofs.Search.{search-reached, search-finds}
+use Rattle.base.proofs.Search as Search
+use Rattle.base.proofs.Rounds.{Falling, rest-round-rests}
 use Rattle.logic.specs.Tower.{Tower, controllable, goes-on, Listed}
 use Rattle.logic.specs.Book.{Book}
 use Rattle.logic.specs.Runs.{leads, IsRun, Unbroken}
 use Rattle.logic.specs.Tables.{Table, Row, row-at, move, AllowsAction, AllowsFrom, Allows, NoneWithheld, GoesOn, StepsRight, NoneBroken, IsTable, Good}
 use Rattle.logic.proofs.Leads.{snoc-in, snoc-out}
 use Rattle.logic.proofs.Canonical.{Arrives, good-arrives, good-run}
-use Rattle.pending.specs.Pairs.{Pair, first-pair, pair-step}
+use Rattle.pending.specs.Pairs.{Pair, same-pair, first-pair, pair-step, pair-followers, pairs, over-pairs, most-pairs}
+use Rattle.pending.proofs.Same.{same-pair-eq, same-pair-refl}
+use Rattle.pending.proofs.Steps.{pair-step-listed}
 use Rattle.outcome.specs.Game.{forced-right, can-go, fine, kept-through, last-removal, safe, safe-step}
 
 module _ (tower : Tower) (book : Book) where
@@ -41,7 +47,7 @@ module _ (tower : Tower) (book : Book) (listed : Listed tower) (exact : Exact to
     same-state = some-one (good-arrives tower book table good w r (at .row) .state) (exact .state w v (at .pair))
 
     -- an allowed action leads on in both
-    onward : (a s : ℕ) → move table r a ≡ some s → (u : Pair) × (pair-step tower book v a ≡ some u) × Together (w ++ (a ∷ [])) s u
+    pub onward : (a s : ℕ) → move table r a ≡ some s → (u : Pair) × (pair-step tower book v a ≡ some u) × Together (w ++ (a ∷ [])) s u
     unfolding Allows AllowsFrom NoneBroken
     onward a s e =
         let row : leads (move table) 0 (w ++ (a ∷ [])) ≡ some s = snoc-in (move table) 0 r s w a (at .row) e in
@@ -90,3 +96,55 @@ module _ (tower : Tower) (book : Book) (listed : Listed tower) (exact : Exact to
       (below-every (forced-right tower book (kept-through tower book n) v) (tower .actions)
       (λ a lt. forced (kept-through tower book n) w r v at (good-kept n) a))
       (goes (kept-through tower book n) w r v at (good-kept n)))
+
+-- ---- what is kept to the end is fine
+
+module _ (tower : Tower) (book : Book) (listed : Listed tower) (few : over-pairs tower book ≡ false) where
+  -- the steps of a pair that is met are met
+  pub met-step : (v : Pair) (a : ℕ) (w : Pair) → List·Memᴰ v (pairs tower book) → pair-step tower book v a ≡ some w → List·Memᴰ w (pairs tower book)
+  unfolding pairs over-pairs pair-followers
+  met-step v a w m e =
+      search-finds same-pair (pair-followers tower book) most-pairs (first-pair tower book) same-pair-eq same-pair-refl
+      (ltb-false most-pairs (length (pairs tower book)) few)
+      (Search.onward
+      (search-reached same-pair (pair-followers tower book) most-pairs (first-pair tower book) m)
+      (present-map-in (pair-step tower book v) (below (tower .actions)) (below-mem (tower .actions) a (pair-step-listed tower book listed v w a e)) e))
+
+  -- a pair is fine among the kept, whichever of two tests that agree on its steps says what is kept
+  fine-along : (kept other : Pair → Bool) (v : Pair) → ((a : ℕ) (w : Pair) → pair-step tower book v a ≡ some w → kept w ≡ other w)
+      → fine tower book kept v ≡ fine tower book other v
+  unfolding fine
+  fine-along kept other v same =
+      ap₂ _&&_
+      (ap (λ test. every test (below (tower .actions))) (fun-ext λ a. forced-along a))
+      (ap (λ test. some-of test (below (tower .actions))) (fun-ext λ a. going-along a))
+    where
+      step-along : (a : ℕ) (o : Option Pair) → pair-step tower book v a ≡ o → there-with kept o ≡ there-with other o
+      step-along a none e = unfold there-with in refl
+      step-along a (some w) e = unfold there-with in same a w e
+
+      forced-along : (a : ℕ) → forced-right tower book kept v a ≡ forced-right tower book other v a
+      forced-along a =
+          unfold forced-right in
+          (ap (λ b. controllable (tower .kind a) || not (is-there (tower .target (v .state) a)) || b) (step-along a (pair-step tower book v a) refl))
+
+      going-along : (a : ℕ) → can-go tower book kept v a ≡ can-go tower book other v a
+      going-along a = unfold can-go in (ap (λ b. goes-on (tower .kind a) && b) (step-along a (pair-step tower book v a) refl))
+
+  -- the rounds of removal only remove, and once a round removes none, no later one does
+  removal-falls : Falling (kept-through tower book) (pairs tower book)
+  unfolding kept-through
+  removal-falls =
+      record {
+        falls = λ k v m e. and-left (kept-through tower book k v) (fine tower book (kept-through tower book k) v) e;
+        rests = λ k same v m.
+            ap₂ _&&_ (same v m)
+            (fine-along (kept-through tower book k) (kept-through tower book (suc k)) v (λ a w e. same w (met-step v a w m e)));
+      }
+
+  -- A pair that is never removed is fine among those that are never removed.
+  pub safe-fine : (v : Pair) → List·Memᴰ v (pairs tower book) → safe tower book v ≡ true → fine tower book (safe tower book) v ≡ true
+  unfolding safe last-removal kept-through
+  safe-fine v m e =
+      and-right (kept-through tower book (last-removal tower book) v) (fine tower book (kept-through tower book (last-removal tower book)) v)
+      (sym (rest-round-rests (kept-through tower book) (pairs tower book) removal-falls v m) ∙ e)

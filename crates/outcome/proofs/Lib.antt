@@ -7,3 +7,4 @@ pub mod MadeTable
 pub mod Items
 pub mod Counted
 pub mod Checker
+pub mod Maker

@@ -7,4 +7,5 @@ pub mod Check
 pub mod Follow
 pub mod Reached
 pub mod Judged
+pub mod MadeRight
 pub mod SmallTower

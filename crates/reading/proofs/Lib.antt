@@ -1,1 +1,4 @@
 pub mod TableReading
+pub mod TableHeader
+pub mod HeldTable
+pub mod LaidOut

@@ -1,0 +1,197 @@
+-- The maker: 11 and 12 exactly when the paper says so, and otherwise the made table of the logic.
+use Prim.Native.Nat.{ℕ, zero, suc, _≤_, _<_}
+use mathlib.Core.Path.{_≡_, refl, sym, _∙_, ap, subst}
+use mathlib.Core.Logic.{_↔_, _⊎_, inl, inr}
+use mathlib.Core.Bool.{Bool, true, false, not}
+use mathlib.Core.Option.{Option, none, some, Option·map, map-eq-some-iff}
+use mathlib.Core.List.{List, [], _∷_, _++_, List·Memᴰ}
+use lib.ListN.{length}
+use borrow.Author.Tests.{not-true, not-false}
+use Rattle.base.specs.Lists.{only-if}
+use Rattle.base.specs.Answers.{Answer, refuse, give, _if_else_}
+use Rattle.base.proofs.Lists.{whether, never-both, false-by, true-by, not-in, only-if-in}
+use Rattle.base.proofs.Answers.{gives-not-refuses, if-on, if-refuses, if-gives, if-refused}
+use Rattle.base.specs.declared.Refusal.the-variants.{Pairs, NoTable}
+use Rattle.logic.specs.Tower.{Tower, Listed}
+use Rattle.logic.specs.Book.{Book, FitBook}
+use Rattle.logic.specs.Runs.{leads, IsRun, Unbroken}
+use Rattle.logic.specs.Tables.{Table, row-at, move, Allows, AllowsFrom, NoneBroken, Good, GoodAllow, Made}
+use Rattle.logic.proofs.Leads.{leads-nil, leads-in, leads-out}
+use Rattle.logic.proofs.Canonical.{Follows, arrives, made-unique}
+use Rattle.pending.specs.Pairs.{Pair, first-pair, pair-step, over-pairs, most-pairs}
+use Rattle.pending.proofs.Theorems.{unbroken-iff, pair-leads-state}
+use Rattle.outcome.specs.Game.{kept-through, last-removal, safe, safe-step}
+use Rattle.outcome.specs.Rows.{made-table}
+use Rattle.outcome.specs.Make.{table-for}
+use Rattle.outcome.specs.Reached.{ReachedPair, MoreThan}
+use Rattle.outcome.specs.MadeRight.{RightTable, too-many, none-good, made}
+use Rattle.outcome.proofs.Game.{Met, Exact, Together, onward, good-kept, met-step, safe-fine}
+use Rattle.outcome.proofs.Alike.{Known, safe-step-out}
+use Rattle.outcome.proofs.RowPairs.{row-number}
+use Rattle.outcome.proofs.MadeTable.{MadeSo, made-so}
+use Rattle.outcome.proofs.Counted.{over-pairs-iff}
+
+-- What the maker may take for granted when it makes: a fit tower and a fit book.
+pub record Makeable (tower : Tower) (book : Book) : Type 0 where
+  pub listed : Listed tower
+  pub fit : FitBook book
+
+module _ (tower : Tower) (book : Book) (able : Makeable tower book) where
+  exact : Exact tower book
+  unfolding first-pair
+  exact =
+      record {
+        steps = λ w run unbroken. unbroken-iff tower book (able .fit) w run .0 unbroken;
+        state = λ w v e. pair-leads-state tower book (first-pair tower book) v w e;
+      }
+
+  -- a step to a safe pair is a safe step
+  safe-in : (v w : Pair) (a : ℕ) → pair-step tower book v a ≡ some w → safe tower book w ≡ true → safe-step tower book v a ≡ some w
+  unfolding safe-step
+  safe-in v w a step is-safe = only-if-in (safe tower book) step is-safe
+
+  -- ---- a good table stays inside the safe pairs
+
+  module _ (table : Table) (good : Good tower book table) where
+    first : Together tower book (able .listed) exact table good [] 0 (first-pair tower book)
+    first = record { row = leads-nil (move table) 0; pair = leads-nil (pair-step tower book) (first-pair tower book) }
+
+    kept : (w : List ℕ) (r : ℕ) (v : Pair) → Together tower book (able .listed) exact table good w r v → safe tower book v ≡ true
+    unfolding safe
+    kept w r v at = good-kept tower book (able .listed) exact table good (last-removal tower book) w r v at
+
+    -- from where both are, every run that the table allows goes over safe steps
+    inside : (u w : List ℕ) (r s : ℕ) (v : Pair) → Together tower book (able .listed) exact table good w r v → leads (move table) r u ≡ some s
+        → (z : Pair) × (leads (safe-step tower book) v u ≡ some z)
+    inside [] w r s v at e = (v, leads-nil (safe-step tower book) v)
+    inside (a ∷ u) w r s v at e =
+        let (t, to, on) = leads-out (move table) r s a u e in
+        let (y, step, next) = onward tower book (able .listed) exact table good w r v at a t to in
+        let (z, rest) = inside u (w ++ (a ∷ [])) t s y next on in
+        (z, leads-in (safe-step tower book) v y z a u (safe-in v y a step (kept (w ++ (a ∷ [])) t y next)) rest)
+
+    -- What a good table allows goes over safe steps.
+    good-inside : (w : List ℕ) → Allows table w → (z : Pair) × (leads (safe-step tower book) (first-pair tower book) w ≡ some z)
+    unfolding Allows AllowsFrom
+    good-inside w (s, e) = inside w [] 0 s (first-pair tower book) first e
+
+    -- Where a good table exists, the first pair is safe.
+    good-safe : safe tower book (first-pair tower book) ≡ true
+    good-safe = kept [] 0 (first-pair tower book) first
+
+  -- ---- the made table
+
+  -- safe steps are steps of pairs
+  safe-leads : (w : List ℕ) (v z : Pair) → leads (safe-step tower book) v w ≡ some z → leads (pair-step tower book) v w ≡ some z
+  safe-leads [] v z e = leads-nil (pair-step tower book) v ∙ sym (leads-nil (safe-step tower book) v) ∙ e
+  safe-leads (a ∷ w) v z e =
+      let (y, step, rest) = leads-out (safe-step tower book) v z a w e in
+      leads-in (pair-step tower book) v y z a w (safe-step-out tower book v a y step .0) (safe-leads w y z rest)
+
+  module _ (few : over-pairs tower book ≡ false) (first-safe : safe tower book (first-pair tower book) ≡ true) where
+    known : Known tower book
+    known =
+        record {
+          listed = able .listed;
+          few = few;
+          first-safe = first-safe;
+          met-step = met-step tower book (able .listed) few;
+          safe-fine = safe-fine tower book (able .listed) few;
+        }
+
+    so : MadeSo tower book
+    so = made-so tower book known
+
+    follows : Follows tower (made-table tower book)
+    follows = record { is-table = so .is-table; start = so .a; steps = so .c }
+
+    -- what the made table allows goes over safe steps, and the other way round
+    runs-out : (w : List ℕ) → Allows (made-table tower book) w → (z : Pair) × (leads (safe-step tower book) (first-pair tower book) w ≡ some z)
+    unfolding Allows AllowsFrom
+    runs-out w (r, e) =
+        let (z, f, g) = map-eq-some-iff (row-number tower book) (leads (safe-step tower book) (first-pair tower book) w) .0 (sym (so .runs w) ∙ e) in (z, f)
+
+    runs-in : (w : List ℕ) (z : Pair) → leads (safe-step tower book) (first-pair tower book) w ≡ some z → Allows (made-table tower book) w
+    unfolding Allows AllowsFrom
+    runs-in w z e = (row-number tower book z, so .runs w ∙ ap (Option·map (row-number tower book)) e)
+
+    made-good : Good tower book (made-table tower book)
+    unfolding NoneBroken
+    made-good =
+        record {
+          is-table = so .is-table;
+          a = so .a;
+          b = so .b;
+          c = so .c;
+          d = so .d;
+          e = λ w allowed.
+              let (z, led) = runs-out w allowed in
+              unbroken-iff tower book (able .fit) w (is-run w allowed) .1 (z, safe-leads w (first-pair tower book) z led);
+        }
+      where
+        is-run : (w : List ℕ) → Allows (made-table tower book) w → IsRun tower w
+        is-run w allowed = unfold IsRun Allows AllowsFrom in (row-at (made-table tower book) (allowed .0) .state, arrives tower (made-table tower book) follows w (allowed .0) (allowed .1) .state)
+
+    -- The table is the made table of the logic.
+    made-made : Made tower book (made-table tower book)
+    unfolding GoodAllow
+    made-made =
+        record {
+          good = made-good;
+          runs = λ w. (
+            λ allowed. (made-table tower book, made-good, allowed),
+            λ (table, good, allowed). let (z, led) = good-inside table good w allowed in runs-in w z led,
+          );
+          apart = so .apart;
+          ascending = so .ascending;
+          first-met = so .first-met;
+        }
+
+  -- ---- the three answers
+
+  -- What the maker answers is right.
+  pub table-right : RightTable tower book (table-for tower book)
+  unfolding table-for
+  table-right =
+      whether (over-pairs tower book)
+      (λ many. subst (RightTable tower book) (sym (if-refuses Pairs _ many)) (too-many (over-pairs-iff tower book (able .listed) .0 many)))
+      (λ few.
+      subst (RightTable tower book) (sym (if-on Pairs _ few))
+      (whether (safe tower book (first-pair tower book))
+      (λ is-safe.
+      subst (RightTable tower book) (sym (if-on NoTable _ (ap not is-safe)))
+      (made (made-table tower book) (not-many few) (made-made few is-safe)))
+      (λ lost.
+      subst (RightTable tower book) (sym (if-refuses NoTable _ (not-in lost)))
+      (none-good (not-many few) (λ table good. never-both (good-safe table good) lost)))))
+    where
+      not-many : over-pairs tower book ≡ false → MoreThan most-pairs (ReachedPair tower book) → ⊥
+      not-many few many = never-both (over-pairs-iff tower book (able .listed) .1 many) few
+
+  -- Only one answer is right.
+  right-one : (o p : Answer Table) → RightTable tower book o → RightTable tower book p → o ≡ p
+  right-one o p (too-many many) (too-many more) = refl
+  right-one o p (too-many many) (none-good few lost) = absurd (few many)
+  right-one o p (too-many many) (made table few is) = absurd (few many)
+  right-one o p (none-good few lost) (too-many many) = absurd (few many)
+  right-one o p (none-good few lost) (none-good few′ lost′) = refl
+  right-one o p (none-good few lost) (made table few′ is) = absurd (lost table (is .good))
+  right-one o p (made table few is) (too-many many) = absurd (few many)
+  right-one o p (made table few is) (none-good few′ lost) = absurd (lost table (is .good))
+  right-one o p (made table few is) (made other few′ is′) =
+      ap give (made-unique tower book book table other is is′ (λ w. (λ g. g, λ g. g)))
+
+  -- So the maker answers just that.
+  pub table-only : (o : Answer Table) → RightTable tower book o → table-for tower book ≡ o
+  table-only o right = right-one (table-for tower book) o table-right right
+
+  -- a table that is made is the made table of the logic, and 11 does not apply
+  pub table-made : (table : Table) → table-for tower book ≡ give table → Made tower book table × (over-pairs tower book ≡ false)
+  unfolding table-for
+  table-made table e =
+      let (few, f) = if-gives Pairs (over-pairs tower book) _ e in
+      let (found, g) = if-gives NoTable (not (safe tower book (first-pair tower book))) _ f in
+      (subst (Made tower book) (give-one g) (made-made few (not-false (safe tower book (first-pair tower book)) found)), few)
+    where
+      give-one : {x y : Table} → give x ≡ give y → x ≡ y
+      give-one e = cc
