@@ -4,3 +4,4 @@ pub mod Pigeonhole
 pub mod Answers
 pub mod Search
 pub mod Rounds
+pub mod Recursion

@@ -11,7 +11,7 @@ use lib.ListN.{length, getD, drop, length-append}
 use lib.Dec.{eqb}
 use borrow.Author.Tests.{eqb-true, eq-eqb}
 use Rattle.base.specs.Choice.{pick}
-use Rattle.base.specs.Lists.{every, some-of, count-from, below, present, is-there, there-with, only-if, same-option, same-list, place-of, joined, total, leading, begins}
+use Rattle.base.specs.Lists.{every, some-of, count-from, below, present, is-there, there-with, only-if, same-option, same-list, place-of, joined, total, leading, begins, Distinct}
 
 -- ---- Bool (`not-true` and `not-false` are in borrow.Author.Tests)
 
@@ -781,3 +781,17 @@ module _ {ℓ} {X : Type ℓ} (same : X → X → Bool) where
       on (some x) none q e f = never-both e refl
       on (some x) (some y) none e f = f
       on (some x) (some y) (some z) e f = is .chained x y z e f
+
+-- ---- Distinct
+
+-- Distinct elements stay distinct under a function that tells them apart.
+pub distinct-map {ℓ κ} : {X : Type ℓ} {Y : Type κ} (f : X → Y) (xs : List X)
+    → ((x y : X) → List·Memᴰ x xs → List·Memᴰ y xs → f x ≡ f y → x ≡ y) → Distinct xs → Distinct (map f xs)
+unfolding Distinct
+distinct-map f [] apart distinct = tt
+distinct-map f (x ∷ xs) apart (new, distinct) = (
+  λ m.
+      let (y, here, e) = Memᴰ·of-map f xs m in
+      new (Memᴰ·cast (apart x y (List·Memᴰ·head refl) (List·Memᴰ·tail here) (sym e)) here),
+  distinct-map f xs (λ y z m n. apart y z (List·Memᴰ·tail m) (List·Memᴰ·tail n)) distinct,
+)

@@ -44,7 +44,7 @@ abbrev file-for : String → Answer (List ℕ)
 file-for book = made-file small-tower (ascii book) then λ file. fitting (length output) file
 
 -- every definition on the way from bytes to bytes, opened
-opened : Answer (List ℕ)
+unfoldable pub opened : Answer (List ℕ)
 unfolding small-tower output bind row-of letter-of refusal-said make-said verdict-said _if_else_ _then_ number-at number-bytes every some-of count-from below present is-there there-with only-if same-option same-list place-of joined leading begins within run new-ones search-on search-from rest-round ascii compares within-book timed timed-right parts size nodes second-part first-part most-rows rows-at row-size step-size steps-at all-steps step-bytes row-bytes header-bytes table-file row-at step-to move minus at-most same-ticks longer shorter controllable goes-on last-kind state-width not-enabled most-states most-actions most-marks in-range header-size states-at state-size state-at length-of kind-of mask-of target-of bit no-header bad-counts bad-size bad-actions bad-targets bad-masks tower-of most-bytes most-nodes most-brackets most-ticks ended worded line-at over-number over-mark over-limit judge-line lines-step read-lines read-book connectives connective usual-bound onward behind bounded compared-with number-or-usual bound-at formula-one formula-two joining bracketed two-parts with-bound led marked-unit unit-at read-level read-step rank calls-left formula-at row-place row-state row-count row-first step-place step-action step-target header-right steps-right rows-right laid-out step-of row-of-table table-of read-table stands skip is-digit digits value numeral number-token mark-named mark-at mark-token with-equals comparison-token read-tower same-pending holds fresh merge coming put provided progress progress-nodes root progress-rule progress-rules none-pending progressed begin-rule begin-rules first-pending wrong-start withheld wrong-step stopped judge-row judge-rows same-item first-item item-pending item-at item-followers items over-items breaks some-broken judge checked-file turned-down verdict forced-right can-go fine kept-through last-removal safe safe-step table-for made-file fitting same-pair most-pairs first-pair pair-at pair-step pair-followers pairs over-pairs alike-for twos last-split one-row safe-followers row-pairs row-step made-row made-table
 opened = refuse NoTable
 

@@ -122,13 +122,13 @@ module _ (tower : Tower) (book : Book) (table : Table) where
   -- ---- a broken step is found, so some allowed run is broken
 
   -- an item that is reached lies at the end of a run that the table allows and that goes over unbroken steps
-  record RunTo (v : Item) : Type 0 where
-    run : List ℕ
-    row : leads (move table) 0 run ≡ some (v .row)
-    pair : leads (pair-step tower book) (first-pair tower book) run ≡ some (pair-of (v .row) (v .pending))
+  pub record RunTo (v : Item) : Type 0 where
+    pub run : List ℕ
+    pub row : leads (move table) 0 run ≡ some (v .row)
+    pub pair : leads (pair-step tower book) (first-pair tower book) run ≡ some (pair-of (v .row) (v .pending))
 
   module _ (follows : Follows tower table) where
-    run-to : (v : Item) → ItemReached v → RunTo v
+    pub run-to : (v : Item) → ItemReached v → RunTo v
     unfolding first-item first-pair GoodStart item-followers item-pending move
     run-to v start =
         record {

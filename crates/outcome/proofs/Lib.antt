@@ -8,3 +8,7 @@ pub mod Items
 pub mod Counted
 pub mod Checker
 pub mod Maker
+pub mod Accepted
+pub mod CallLaws
+pub mod Demands
+pub mod Instances

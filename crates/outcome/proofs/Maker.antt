@@ -5,6 +5,7 @@ use mathlib.Core.Logic.{_↔_, _⊎_, inl, inr}
 use mathlib.Core.Bool.{Bool, true, false, not}
 use mathlib.Core.Option.{Option, none, some, Option·map, map-eq-some-iff}
 use mathlib.Core.List.{List, [], _∷_, _++_, List·Memᴰ}
+use native.Mathlib.Omega.{arith}
 use lib.ListN.{length}
 use borrow.Author.Tests.{not-true, not-false}
 use Rattle.base.specs.Lists.{only-if}
@@ -82,7 +83,7 @@ module _ (tower : Tower) (book : Book) (able : Makeable tower book) where
   -- ---- the made table
 
   -- safe steps are steps of pairs
-  safe-leads : (w : List ℕ) (v z : Pair) → leads (safe-step tower book) v w ≡ some z → leads (pair-step tower book) v w ≡ some z
+  pub safe-leads : (w : List ℕ) (v z : Pair) → leads (safe-step tower book) v w ≡ some z → leads (pair-step tower book) v w ≡ some z
   safe-leads [] v z e = leads-nil (pair-step tower book) v ∙ sym (leads-nil (safe-step tower book) v) ∙ e
   safe-leads (a ∷ w) v z e =
       let (y, step, rest) = leads-out (safe-step tower book) v z a w e in
@@ -99,10 +100,10 @@ module _ (tower : Tower) (book : Book) (able : Makeable tower book) where
           safe-fine = safe-fine tower book (able .listed) few;
         }
 
-    so : MadeSo tower book
+    pub so : MadeSo tower book
     so = made-so tower book known
 
-    follows : Follows tower (made-table tower book)
+    pub follows : Follows tower (made-table tower book)
     follows = record { is-table = so .is-table; start = so .a; steps = so .c }
 
     -- what the made table allows goes over safe steps, and the other way round
@@ -115,7 +116,7 @@ module _ (tower : Tower) (book : Book) (able : Makeable tower book) where
     unfolding Allows AllowsFrom
     runs-in w z e = (row-number tower book z, so .runs w ∙ ap (Option·map (row-number tower book)) e)
 
-    made-good : Good tower book (made-table tower book)
+    pub made-good : Good tower book (made-table tower book)
     unfolding NoneBroken
     made-good =
         record {
@@ -133,7 +134,7 @@ module _ (tower : Tower) (book : Book) (able : Makeable tower book) where
         is-run w allowed = unfold IsRun Allows AllowsFrom in (row-at (made-table tower book) (allowed .0) .state, arrives tower (made-table tower book) follows w (allowed .0) (allowed .1) .state)
 
     -- The table is the made table of the logic.
-    made-made : Made tower book (made-table tower book)
+    pub made-made : Made tower book (made-table tower book)
     unfolding GoodAllow
     made-made =
         record {
@@ -185,13 +186,36 @@ module _ (tower : Tower) (book : Book) (able : Makeable tower book) where
   pub table-only : (o : Answer Table) → RightTable tower book o → table-for tower book ≡ o
   table-only o right = right-one (table-for tower book) o table-right right
 
-  -- a table that is made is the made table of the logic, and 11 does not apply
-  pub table-made : (table : Table) → table-for tower book ≡ give table → Made tower book table × (over-pairs tower book ≡ false)
+  -- 12 is said only if there is no good table
+  pub no-table-out : table-for tower book ≡ refuse NoTable → (table : Table) → Good tower book table → ⊥
+  no-table-out e table good = go (table-for tower book) table-right e
+    where
+      go : (o : Answer Table) → RightTable tower book o → o ≡ refuse NoTable → ⊥
+      go o (too-many many) f = let z : _≡_ {A = ℕ} 0 1 = cc in omega arith
+      go o (none-good few lost) f = lost table good
+      go o (made t few is) f = gives-not-refuses refl f
+
+  -- 11 is said only if there are too many pairs
+  pub over-out : table-for tower book ≡ refuse Pairs → MoreThan most-pairs (ReachedPair tower book)
+  over-out e = go (table-for tower book) table-right e
+    where
+      go : (o : Answer Table) → RightTable tower book o → o ≡ refuse Pairs → MoreThan most-pairs (ReachedPair tower book)
+      go o (too-many many) f = many
+      go o (none-good few lost) f = let z : _≡_ {A = ℕ} 0 1 = cc in absurd (omega arith)
+      go o (made t few is) f = gives-not-refuses refl f
+
+  -- what is known of a table that was made
+  pub record MadeFor (table : Table) : Type 0 where
+    pub few : over-pairs tower book ≡ false
+    pub first-safe : safe tower book (first-pair tower book) ≡ true
+    pub same : made-table tower book ≡ table
+
+  pub table-made : (table : Table) → table-for tower book ≡ give table → MadeFor table
   unfolding table-for
   table-made table e =
       let (few, f) = if-gives Pairs (over-pairs tower book) _ e in
       let (found, g) = if-gives NoTable (not (safe tower book (first-pair tower book))) _ f in
-      (subst (Made tower book) (give-one g) (made-made few (not-false (safe tower book (first-pair tower book)) found)), few)
+      record { few = few; first-safe = not-false (safe tower book (first-pair tower book)) found; same = give-one g }
     where
       give-one : {x y : Table} → give x ≡ give y → x ≡ y
       give-one e = cc

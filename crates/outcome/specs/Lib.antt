@@ -8,4 +8,5 @@ pub mod Follow
 pub mod Reached
 pub mod Judged
 pub mod MadeRight
+pub mod Calls
 pub mod SmallTower

@@ -2,3 +2,4 @@ pub mod TableReading
 pub mod TableHeader
 pub mod HeldTable
 pub mod LaidOut
+pub mod FitInput
