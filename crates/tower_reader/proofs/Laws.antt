@@ -1,0 +1,314 @@
+-- What callers may use: what the reader's answer means, and what a fit tower file gives.
+use Prim.Native.Nat.{ℕ, _+_, _*_, _^_, _≤_, _<_}
+use native.Mathlib.Omega.{arith}
+use mathlib.Core.Path.{_≡_, refl, sym, _∙_, ap}
+use mathlib.Core.Logic.{⊎-elim}
+use mathlib.Core.Bool.{Bool, true, false, _&&_, _||_, not}
+use mathlib.Core.Option.{Option, none, some}
+use mathlib.Core.List.{List}
+use lib.ListN.{length}
+use lib.Dec.{leb, ltb, eqb}
+use borrow.Author.Tests.{ltb-true, ltb-false, leb-true, leb-false, eqb-true, eqb-false, not-false}
+use mir.Syntax.{w8}
+use mir.Val.{Fits}
+use Rattle.base.specs.Choice.{pick}
+use Rattle.base.specs.Bytes.{byte-at, number-at}
+use Rattle.base.specs.Answers.{Answer, refuse, give, _if_else_}
+use Rattle.base.specs.Lists.{some-of, below}
+use Rattle.base.specs.declared.Refusal.{Refusal}
+use Rattle.base.specs.declared.Refusal.the-variants.{TowerSize, Range, Action, Target, Mask}
+use Rattle.base.proofs.Lists.{never-both, and-left, and-right, or-cases, or-fails-left, or-fails-right, some-none, below-mem, none-some}
+use Rattle.base.proofs.Lists.{some-one}
+use Rattle.base.proofs.Answers.{if-gives}
+use Rattle.logic.specs.declared.Tick.{Tick}
+use Rattle.logic.specs.Time.{ticks}
+use Rattle.logic.specs.Tower.{Tower, Listed, FitTower, tower-of, in-range, most-states, most-actions, most-marks, not-enabled, last-kind}
+use Rattle.logic.specs.Tower.{header-size, states-of, actions-of, marks-of, start-of, states-at, state-at, length-of, kind-of, mask-of}
+use Rattle.logic.specs.Tower.{target-of, no-header, bad-counts, bad-size, bad-actions, bad-targets, bad-masks}
+use Rattle.reading.specs.TowerReading.{read-tower}
+use Rattle.tower_reader.specs.TowerRead.{tower-read, target-read}
+use Rattle.tower_reader.specs.Stages.{Ranges, Headed, Counted, Sized, bad-action, bad-target, bad-targets-of, bad-mask}
+use Rattle.tower_reader.specs.declared.TowerRead.{TowerRead}
+use Rattle.tower_reader.specs.declared.TowerRead.the-variants.{Fit, Refused}
+use Rattle.tower_reader.specs.declared.Reached.{Reached}
+use Rattle.tower_reader.specs.declared.Reached.the-variants.{State, NotEnabled}
+
+-- ---- the counts
+
+-- a count in range is at least 1
+range-least : (most n : ℕ) → in-range most n ≡ true → 1 ≤ n
+unfolding in-range
+range-least most n e = leb-true 1 n (and-left (leb 1 n) (leb n most) e)
+
+-- and at most what it may be
+range-most : (most n : ℕ) → in-range most n ≡ true → n ≤ most
+unfolding in-range
+range-most most n e = leb-true n most (and-right (leb 1 n) (leb n most) e)
+
+-- the last of several tests did not fail
+last-holds : (a b : Bool) → (a || not b) ≡ false → b ≡ true
+last-holds a b e = not-false b (or-fails-right a (not b) e)
+
+-- No count is bad: they are in their ranges.
+pub counts-ranges : (bytes : List ℕ) → bad-counts bytes ≡ false → Ranges bytes
+unfolding bad-counts most-states most-actions most-marks
+counts-ranges bytes e =
+    let s = in-range 200 (states-of bytes) in
+    let a = in-range 16 (actions-of bytes) in
+    let p = leb (marks-of bytes) 16 in
+    let x = ltb (start-of bytes) (states-of bytes) in
+    let e₃ = or-fails-left (not s || not a || not p) (not x) e in
+    let e₂ = or-fails-left (not s || not a) (not p) e₃ in
+    let in-states = not-false s (or-fails-left (not s) (not a) e₂) in
+    let in-actions = last-holds (not s) a e₂ in
+    record {
+      states-least = range-least 200 (states-of bytes) in-states;
+      states-most = range-most 200 (states-of bytes) in-states;
+      actions-least = range-least 16 (actions-of bytes) in-actions;
+      actions-most = range-most 16 (actions-of bytes) in-actions;
+      marks-most = leb-true (marks-of bytes) 16 (last-holds (not s || not a) p e₃);
+      start-below = ltb-true (start-of bytes) (states-of bytes) (last-holds (not s || not a || not p) x e);
+    }
+
+-- The counts and the start of a fit file are in their ranges.
+pub fit-ranges : {bytes : List ℕ} → FitTower bytes → Ranges bytes
+fit-ranges {bytes} fit = counts-ranges bytes (fit .counts)
+
+-- ---- the layout
+
+-- The file ends after the last state.
+pub size-length : (bytes : List ℕ) → bad-size bytes ≡ false → length bytes ≡ state-at bytes (states-of bytes)
+unfolding bad-size
+size-length bytes e =
+    eqb-true (length bytes) (state-at bytes (states-of bytes))
+    (last-holds (not (eqb (number-at 2 bytes 4) header-size) || not (eqb (number-at 2 bytes 6) (states-at bytes)))
+    (eqb (length bytes) (state-at bytes (states-of bytes))) e)
+
+-- A fit file ends after the last state.
+pub fit-length : {bytes : List ℕ} → FitTower bytes → length bytes ≡ state-at bytes (states-of bytes)
+fit-length {bytes} fit = size-length bytes (fit .size)
+
+-- The header is whole: there are 8 bytes.
+pub header-whole : (bytes : List ℕ) → no-header bytes ≡ false → Headed bytes
+unfolding no-header header-size
+header-whole bytes e = record { header = ltb-false (length bytes) 8 e }
+
+-- The first two tests found nothing.
+pub counted : (bytes : List ℕ) → no-header bytes ≡ false → bad-counts bytes ≡ false → Counted bytes
+counted bytes e f = record { header = header-whole bytes e .header; ranges = counts-ranges bytes f }
+
+-- The first three tests found nothing.
+pub sized : (bytes : List ℕ) → no-header bytes ≡ false → bad-counts bytes ≡ false → bad-size bytes ≡ false → Sized bytes
+unfolding state-at states-at header-size
+sized bytes e f g =
+    record {
+      header = header-whole bytes e .header;
+      ranges = counts-ranges bytes f;
+      actions = omega (arith, size-length bytes g);
+      end = size-length bytes g;
+    }
+
+-- A fit file is as long as it has to be.
+pub fit-sized : {bytes : List ℕ} → FitTower bytes → Sized bytes
+fit-sized {bytes} fit = sized bytes (fit .header) (fit .counts) (fit .size)
+
+-- The header of a fit file is there.
+pub fit-header : {bytes : List ℕ} (p : ℕ) → FitTower bytes → p < 8 → p < length bytes
+fit-header p fit l = omega (arith, fit-sized fit .header)
+
+-- ---- actions, targets and masks
+
+-- no test holds below n: not at any number below n
+none-at : (test : ℕ → Bool) (n i : ℕ) → some-of test (below n) ≡ false → i < n → test i ≡ false
+none-at test n i e l = some-none test e (below-mem n i l)
+
+-- An action of a fit file takes at least one tick.
+pub fit-action-length : {bytes : List ℕ} → FitTower bytes → (a : ℕ) → a < actions-of bytes → 1 ≤ length-of bytes a
+unfolding bad-actions bad-action
+fit-action-length {bytes} fit a l =
+    let e = none-at (bad-action bytes) (actions-of bytes) a (fit .actions) l in
+    omega (arith, eqb-false (length-of bytes a) 0 (or-fails-left (eqb (length-of bytes a) 0) (ltb last-kind (kind-of bytes a)) e))
+
+-- An action of a fit file is of kind 0 or 1.
+pub fit-action-kind : {bytes : List ℕ} → FitTower bytes → (a : ℕ) → a < actions-of bytes → kind-of bytes a ≤ 1
+unfolding bad-actions bad-action last-kind
+fit-action-kind {bytes} fit a l =
+    let e = none-at (bad-action bytes) (actions-of bytes) a (fit .actions) l in
+    ltb-false 1 (kind-of bytes a) (or-fails-right (eqb (length-of bytes a) 0) (ltb last-kind (kind-of bytes a)) e)
+
+-- What an action leads to is written in the file, and does not say 'not enabled'.
+pub target-written : (bytes : List ℕ) (x a y : ℕ) → tower-of bytes .target x a ≡ some y
+    → (a < actions-of bytes) × (target-of bytes x a ≡ y) × (eqb (target-of bytes x a) not-enabled ≡ false)
+unfolding tower-of
+target-written bytes x a y e = go (ltb a (actions-of bytes)) (eqb (target-of bytes x a) not-enabled) refl refl e
+  where
+    go : (b c : Bool) → ltb a (actions-of bytes) ≡ b → eqb (target-of bytes x a) not-enabled ≡ c
+        → pick (b && not c) (λ _. some (target-of bytes x a)) (λ _. none) ≡ some y
+        → (a < actions-of bytes) × (target-of bytes x a ≡ y) × (eqb (target-of bytes x a) not-enabled ≡ false)
+    go true false p q f = (ltb-true a (actions-of bytes) p, some-one refl f, q)
+    go true true p q f = none-some refl f
+    go false c p q f = none-some refl f
+
+-- Whatever is enabled is one of the tower's actions.
+pub tower-listed : (bytes : List ℕ) → Listed (tower-of bytes)
+unfolding Listed tower-of
+tower-listed bytes x a y e = target-written bytes x a y e .0
+
+-- A target of a fit file is a state, or says 'not enabled'.
+pub fit-written : {bytes : List ℕ} → FitTower bytes → (x a : ℕ) → x < states-of bytes → a < actions-of bytes
+    → (ltb (target-of bytes x a) (states-of bytes) || eqb (target-of bytes x a) not-enabled) ≡ true
+unfolding bad-targets bad-targets-of bad-target
+fit-written {bytes} fit x a k l =
+    not-false (ltb (target-of bytes x a) (states-of bytes) || eqb (target-of bytes x a) not-enabled)
+    (none-at (bad-target bytes x) (actions-of bytes) a (none-at (bad-targets-of bytes) (states-of bytes) x (fit .targets) k) l)
+
+-- What an action leads to is one of the tower's states.
+pub fit-target : {bytes : List ℕ} → FitTower bytes → (x a y : ℕ) → x < states-of bytes → tower-of bytes .target x a ≡ some y
+    → y < states-of bytes
+fit-target {bytes} fit x a y k e =
+    let (l, p, q) = target-written bytes x a y e in
+    go l p q
+  where
+    go : a < actions-of bytes → target-of bytes x a ≡ y → eqb (target-of bytes x a) not-enabled ≡ false → y < states-of bytes
+    go l p q =
+        ⊎-elim (λ t. omega (arith, ltb-true (target-of bytes x a) (states-of bytes) t)) (λ t. never-both t q)
+        (or-cases (ltb (target-of bytes x a) (states-of bytes)) (eqb (target-of bytes x a) not-enabled) (fit-written fit x a k l))
+
+-- A mask of a fit file has no bit at or above P.
+pub fit-mask : {bytes : List ℕ} → FitTower bytes → (x : ℕ) → x < states-of bytes → mask-of bytes x < 2 ^ marks-of bytes
+unfolding bad-masks bad-mask
+fit-mask {bytes} fit x l =
+    leb-false (2 ^ marks-of bytes) (mask-of bytes x) (none-at (bad-mask bytes) (states-of bytes) x (fit .masks) l)
+
+-- ---- the tower of a fit file
+
+-- Its states are as many as the header says.
+pub tower-states : (bytes : List ℕ) → tower-of bytes .states ≡ states-of bytes
+unfolding tower-of
+tower-states bytes = refl
+
+-- So are its actions,
+pub tower-actions : (bytes : List ℕ) → tower-of bytes .actions ≡ actions-of bytes
+unfolding tower-of
+tower-actions bytes = refl
+
+-- and its marks.
+pub tower-marks : (bytes : List ℕ) → tower-of bytes .marks ≡ marks-of bytes
+unfolding tower-of
+tower-marks bytes = refl
+
+-- Its start is the header's.
+pub tower-start : (bytes : List ℕ) → tower-of bytes .start ≡ start-of bytes
+unfolding tower-of
+tower-start bytes = refl
+
+-- The kind of an action is the one written.
+pub tower-kind : (bytes : List ℕ) (a : ℕ) → tower-of bytes .kind a ≡ kind-of bytes a
+unfolding tower-of
+tower-kind bytes a = refl
+
+-- A step takes as long as its action.
+pub tower-length : (bytes : List ℕ) (x a : ℕ) → tower-of bytes .step-length x a ≡ ticks (length-of bytes a)
+unfolding tower-of
+tower-length bytes x a = refl
+
+-- What holds of the tower of a fit file.
+pub record TowerBounds (tower : Tower) : Type 0 where
+  pub states-least : 1 ≤ tower .states
+  pub states-most : tower .states ≤ 200
+  pub actions-least : 1 ≤ tower .actions
+  pub actions-most : tower .actions ≤ 16
+  pub marks-most : tower .marks ≤ 16
+  pub start-below : tower .start < tower .states
+  pub kinds : (a : ℕ) → a < tower .actions → tower .kind a ≤ 1
+  pub lengths : (x a : ℕ) → a < tower .actions → 1 ≤ tower .step-length x a .0
+  pub targets : (x a y : ℕ) → x < tower .states → tower .target x a ≡ some y → y < tower .states
+  pub listed : Listed tower
+
+-- The tower of a fit file keeps its bounds.
+pub fit-bounds : {bytes : List ℕ} → FitTower bytes → TowerBounds (tower-of bytes)
+unfolding tower-of
+fit-bounds {bytes} fit =
+    let ranges = fit-ranges fit in
+    record {
+      states-least = ranges .states-least;
+      states-most = ranges .states-most;
+      actions-least = ranges .actions-least;
+      actions-most = ranges .actions-most;
+      marks-most = ranges .marks-most;
+      start-below = ranges .start-below;
+      kinds = fit-action-kind fit;
+      lengths = λ x a l. fit-action-length fit a l;
+      targets = fit-target fit;
+      listed = tower-listed bytes;
+    }
+
+-- In a file of bytes a step takes at most 255 ticks.
+pub step-most : (bytes : List ℕ) (x a : ℕ) (d : Tick) → ((i : ℕ) → Fits w8 (byte-at bytes i)) → d ≡ tower-of bytes .step-length x a
+    → d .0 ≤ 255
+unfolding tower-of length-of
+step-most bytes x a d h e = omega (arith, h (header-size + 2 * a), ap (λ (t : Tick). t .0) e)
+
+-- The answer is a state: the action leads to it.
+pub state-reached : (o : Option ℕ) (r : Reached) (y : ℕ) → r ≡ target-read o → r ≡ State y → o ≡ some y
+unfolding target-read
+state-reached none r y e f = let z : _≡_ {A = ℕ} 0 1 = cc in absurd (omega arith)
+state-reached (some x) r y e f = let same : x ≡ y = cc in ap some same
+
+-- The answer is that the action is not enabled: it leads nowhere.
+pub none-reached : (o : Option ℕ) (r : Reached) → r ≡ target-read o → r ≡ NotEnabled → o ≡ none
+unfolding target-read
+none-reached none r e f = refl
+none-reached (some x) r e f = let z : _≡_ {A = ℕ} 0 1 = cc in absurd (omega arith)
+
+-- The start that was read is a state.
+pub start-within : (bytes : List ℕ) (x : ℕ) → FitTower bytes → x ≡ tower-of bytes .start → x < tower-of bytes .states
+start-within bytes x fit e = omega (arith, fit-bounds fit .start-below)
+
+-- What an action was found to lead to is a state.
+pub reached-within : (bytes : List ℕ) (x a y : ℕ) (r : Reached) → FitTower bytes → x < tower-of bytes .states
+    → r ≡ target-read (tower-of bytes .target x a) → r ≡ State y → y < tower-of bytes .states
+reached-within bytes x a y r fit l e f = fit-bounds fit .targets x a y l (state-reached (tower-of bytes .target x a) r y e f)
+
+-- ---- the reader's answer
+
+-- A fit file is read as its tower.
+pub fit-reads : {bytes : List ℕ} → FitTower bytes → read-tower bytes ≡ give (tower-of bytes)
+unfolding read-tower _if_else_
+fit-reads fit = rw (fit .header, fit .counts, fit .size, fit .actions, fit .targets, fit .masks)
+
+-- A file that is read as a tower is fit.
+pub reads-fit : (bytes : List ℕ) {tower : Tower} → read-tower bytes ≡ give tower → FitTower bytes
+unfolding read-tower
+reads-fit bytes e =
+    let (no-1, e₁) = if-gives TowerSize (no-header bytes) _ e in
+    let (no-2, e₂) = if-gives Range (bad-counts bytes) _ e₁ in
+    let (no-3, e₃) = if-gives TowerSize (bad-size bytes) _ e₂ in
+    let (no-4, e₄) = if-gives Action (bad-actions bytes) _ e₃ in
+    let (no-5, e₅) = if-gives Target (bad-targets bytes) _ e₄ in
+    let (no-6, e₆) = if-gives Mask (bad-masks bytes) _ e₅ in
+    record { header = no-1; counts = no-2; size = no-3; actions = no-4; targets = no-5; masks = no-6 }
+
+-- The answer is `Fit`: the file is fit.
+pub fit-of : (bytes : List ℕ) (r : TowerRead) → r ≡ tower-read (read-tower bytes) → r ≡ Fit → FitTower bytes
+unfolding tower-read
+fit-of bytes r e f = go (read-tower bytes) refl (sym e ∙ f)
+  where
+    go : (o : Answer Tower) → read-tower bytes ≡ o → tower-read o ≡ Fit → FitTower bytes
+    go (give tower) p q = reads-fit bytes p
+    go (refuse why) p q = let z : _≡_ {A = ℕ} 0 1 = cc in absurd (omega arith)
+
+-- The answer is `Fit`: the file is read as its tower.
+pub fit-gives : (bytes : List ℕ) (r : TowerRead) → r ≡ tower-read (read-tower bytes) → r ≡ Fit
+    → read-tower bytes ≡ give (tower-of bytes)
+fit-gives bytes r e f = fit-reads (fit-of bytes r e f)
+
+-- The answer is a refusal: so is the definition's, the same.
+pub refused-of : (bytes : List ℕ) (r : TowerRead) (why : Refusal) → r ≡ tower-read (read-tower bytes) → r ≡ Refused why
+    → read-tower bytes ≡ refuse why
+unfolding tower-read
+refused-of bytes r why e f = go (read-tower bytes) refl (sym e ∙ f)
+  where
+    go : (o : Answer Tower) → read-tower bytes ≡ o → tower-read o ≡ Refused why → read-tower bytes ≡ refuse why
+    go (give tower) p q = let z : _≡_ {A = ℕ} 0 1 = cc in absurd (omega arith)
+    go (refuse other) p q = let same : other ≡ why = cc in p ∙ ap refuse same

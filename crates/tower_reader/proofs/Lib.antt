@@ -1,0 +1,4 @@
+mod Places
+mod Scans
+mod Ways
+pub mod Laws

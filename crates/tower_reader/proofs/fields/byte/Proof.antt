@@ -1,0 +1,10 @@
+-- `tower_reader::fields::byte` meets its contract.
+use borrow.Author.Needs.{needs}
+use Rattle.tower_reader.proofs.Places.{cast-byte}
+use Rattle.tower_reader.proofs.fields.byte.Statement.{statement}
+use Rattle.tower_reader.proofs.fields.byte.Tie as tie
+
+ruleset all = (needs, cast-byte)
+
+pub byte-spec : {M : Type 1} → statement M
+byte-spec = tie.close (tie.spec (λ c. search all) (λ c. search all) (λ c. search all))

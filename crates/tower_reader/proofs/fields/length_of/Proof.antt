@@ -1,0 +1,10 @@
+-- `tower_reader::fields::length_of` meets its contract.
+use borrow.Author.Needs.{needs}
+use Rattle.tower_reader.proofs.Places.{length-read}
+use Rattle.tower_reader.proofs.fields.length_of.Statement.{statement}
+use Rattle.tower_reader.proofs.fields.length_of.Tie as tie
+
+ruleset all = (needs, length-read)
+
+pub length-of-spec : {M : Type 1} → statement M
+length-of-spec = tie.close (tie.spec (λ c. search all) (λ c. search all) (λ c κs. search all) (λ c. search all))

@@ -1,0 +1,10 @@
+-- `tower_reader::fields::mask_of` meets its contract.
+use borrow.Author.Needs.{needs}
+use Rattle.tower_reader.proofs.Places.{mask-there, mask-read}
+use Rattle.tower_reader.proofs.fields.mask_of.Statement.{statement}
+use Rattle.tower_reader.proofs.fields.mask_of.Tie as tie
+
+ruleset all = (needs, mask-there, mask-read)
+
+pub mask-of-spec : {M : Type 1} → statement M
+mask-of-spec = tie.close (tie.spec (λ c κs. search all) (λ c κs. search all) (λ c. search all))

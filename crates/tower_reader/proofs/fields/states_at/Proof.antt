@@ -1,0 +1,10 @@
+-- `tower_reader::fields::states_at` meets its contract.
+use borrow.Author.Needs.{needs}
+use Rattle.tower_reader.proofs.Places.{states-place}
+use Rattle.tower_reader.proofs.fields.states_at.Statement.{statement}
+use Rattle.tower_reader.proofs.fields.states_at.Tie as tie
+
+ruleset all = (needs, states-place)
+
+pub states-at-spec : {M : Type 1} → statement M
+states-at-spec = tie.close (tie.spec (λ c κs. search all) (λ c. search all) (λ c. search all) (λ c. search all))

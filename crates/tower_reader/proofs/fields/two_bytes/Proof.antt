@@ -1,0 +1,13 @@
+-- `tower_reader::fields::two_bytes` meets its contract.
+use borrow.Author.Needs.{needs}
+use Rattle.tower_reader.proofs.Places.{cast-byte, upper-fits, two-fit, two-read}
+use Rattle.tower_reader.proofs.fields.two_bytes.Statement.{statement}
+use Rattle.tower_reader.proofs.fields.two_bytes.Tie as tie
+
+ruleset all = (needs, cast-byte, upper-fits, two-fit, two-read)
+
+pub two-bytes-spec : {M : Type 1} → statement M
+two-bytes-spec =
+    tie.close
+    (tie.spec (λ c. search all) (λ c. search all) (λ c. search all) (λ c. search all) (λ c. search all) (λ c. search all)
+    (λ c. search all) (λ c. search all))

@@ -1,0 +1,10 @@
+-- `tower_reader::fit::in_range` meets its contract.
+use borrow.Author.Needs.{needs}
+use Rattle.tower_reader.proofs.Ways.{range-high, range-low}
+use Rattle.tower_reader.proofs.fit.in_range.Statement.{statement}
+use Rattle.tower_reader.proofs.fit.in_range.Tie as tie
+
+ruleset all = (needs, range-high, range-low)
+
+pub in-range-spec : {M : Type 1} → statement M
+in-range-spec = tie.close (tie.spec (λ c. search all) (λ c. search all))

@@ -1,0 +1,10 @@
+-- `tower_reader::fit::no_header` meets its contract.
+use borrow.Author.Needs.{needs}
+use Rattle.tower_reader.proofs.Ways.{header-test}
+use Rattle.tower_reader.proofs.fit.no_header.Statement.{statement}
+use Rattle.tower_reader.proofs.fit.no_header.Tie as tie
+
+ruleset all = (needs, header-test)
+
+pub no-header-spec : {M : Type 1} → statement M
+no-header-spec = tie.close (tie.spec (λ c. search all))

@@ -1,0 +1,15 @@
+-- `tower_reader::read_tower` meets its contract.
+use borrow.Author.Needs.{needs}
+use Rattle.tower_reader.proofs.Ways.{is-headed, is-counted, is-sized, refuse-1, refuse-2}
+use Rattle.tower_reader.proofs.Ways.{refuse-3, refuse-4, refuse-5, refuse-6, refuse-none}
+use Rattle.tower_reader.proofs.read_tower.Statement.{statement}
+use Rattle.tower_reader.proofs.read_tower.Tie as tie
+
+ruleset all = (needs, is-headed, is-counted, is-sized, refuse-1, refuse-2, refuse-3, refuse-4, refuse-5, refuse-6, refuse-none)
+
+pub read-tower-spec : {M : Type 1} → statement M
+read-tower-spec =
+    tie.close
+    (tie.spec (λ c κs. search all) (λ c. search all) (λ c κs. search all) (λ c. search all) (λ c κs. search all) (λ c. search all)
+    (λ c κs. search all) (λ c. search all) (λ c κs. search all) (λ c. search all) (λ c κs. search all) (λ c. search all)
+    (λ c. search all))

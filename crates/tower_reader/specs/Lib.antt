@@ -1,0 +1,2 @@
+pub mod TowerRead
+pub mod Stages
