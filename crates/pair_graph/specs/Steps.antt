@@ -1,0 +1,35 @@
+-- The graph as bytes in a lent area: two bytes for each pair and each of 16 actions.
+use Prim.Native.Nat.{ℕ, zero, suc, _+_, _*_, _≤_, _<_}
+use mathlib.Core.Path.{_≡_}
+use mathlib.Core.List.{List}
+use lib.ListN.{length}
+use Rattle.base.specs.Bytes.{number-at}
+use Rattle.logic.specs.Tower.{Tower}
+use Rattle.pair_graph.specs.Graph.{Move, not-enabled, broken, to, Graph}
+
+-- room for 16 actions from each pair
+unfoldable pub action-room : ℕ
+action-room = 16
+
+-- 0 for not enabled, 1 for a broken step, and the number of a pair plus 2
+unfoldable pub move-of : ℕ → Move
+move-of zero = not-enabled
+move-of (suc zero) = broken
+move-of (suc (suc j)) = to j
+
+-- where the move of action a from pair i is written
+unfoldable pub cell : ℕ → ℕ → ℕ
+cell i a = 2 * (action-room * i + a)
+
+unfoldable pub move-at : List ℕ → ℕ → ℕ → Move
+move-at steps i a = move-of (number-at 2 steps (cell i a))
+
+-- The graph of n pairs that the bytes hold; states are those of the pairs, and kinds those of the tower.
+unfoldable pub graph-of : Tower → ℕ → (ℕ → ℕ) → List ℕ → Graph
+graph-of tower n state steps =
+    record { pairs = n; actions = tower .actions; state = state; kind = tower .kind; move = move-at steps }
+
+-- The bytes are those of a graph of n pairs: every move leads to one of them.
+pub record HoldsGraph (tower : Tower) (n : ℕ) (steps : List ℕ) : Type 0 where
+  pub room : cell n 0 ≤ length steps
+  pub targets : (i a j : ℕ) → i < n → a < tower .actions → move-at steps i a ≡ to j → j < n
