@@ -1,0 +1,27 @@
+// The follower: what a table does at one action. This is the entry that runs on every clavier.
+ghost use mathlib.Core.Path.{_≡_};
+ghost use Rattle.outcome.specs.Follow.{follow-outcome};
+use base::FollowAnswer;
+use base::Refusal;
+use table_reader::Target;
+
+// The row that an action leads to from a row of the table. Refused with 13 if the bytes are not laid
+// out as a table file, 17 if the row or the action lies outside the table, 18 if the action is not
+// allowed in that row.
+pub fn follow(table: &[u8], row: usize, action: usize) -> FollowAnswer
+    ensures { λ r. ⌜ r ≡ follow-outcome (now (table .entry)) row action ⌝ }
+{
+    if !table_reader::laid_out(table) {
+        return FollowAnswer::Refused(Refusal::Layout);
+    }
+    if table_reader::rows(table) <= row {
+        return FollowAnswer::Refused(Refusal::Outside);
+    }
+    if table_reader::actions(table) <= action {
+        return FollowAnswer::Refused(Refusal::Outside);
+    }
+    match table_reader::step_to(table, row, action) {
+        Target::Row(next) => FollowAnswer::Row(next),
+        Target::Nothing => FollowAnswer::Refused(Refusal::NotAllowed),
+    }
+}

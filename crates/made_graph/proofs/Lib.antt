@@ -1,0 +1,3 @@
+pub mod Safe
+pub mod OneRow
+pub mod SameTable

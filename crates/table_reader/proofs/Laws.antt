@@ -1,0 +1,203 @@
+-- What bytes that are laid out as a table file say, for those who read them: the header, every row and every step are in range, and
+-- the moves of the table are what the steps say.
+use Prim.Native.Nat.{ℕ, zero, suc, _+_, _≤_, _<_}
+use mathlib.Core.Path.{_≡_, refl, sym, _∙_}
+use mathlib.Core.Bool.{Bool, true}
+use mathlib.Core.Option.{Option, none, some}
+use mathlib.Core.List.{List, [], map}
+use native.Mathlib.Omega.{arith}
+use native.Mathlib.Decide.{decLt, ℕ-discrete}
+use lib.ListN.{length, List·getD-eq-default}
+use borrow.Author.Tests.{eqb-true, eq-eqb, ne-eqb}
+use Rattle.base.specs.Lists.{count-from}
+use Rattle.base.proofs.Lists.{and-left}
+use Rattle.logic.specs.Tables.{Step, row-at, step-to, move}
+use Rattle.reading.specs.TableReading.{rows-of, steps-of, table-states, table-actions, row-state, row-count, row-first, step-place, step-action, step-target, header-right, steps-right, rows-right, laid-out, step-of, row-of-table, table-of}
+use Rattle.reading.proofs.TableHeader.{HeaderFits, header-out}
+use Rattle.reading.proofs.LaidOut.{steps-right-out, rows-right-out, laid-out-rows, length-table-of, row-of-table-at}
+use Rattle.table_reader.specs.Moves.{target-read}
+use Rattle.table_reader.specs.declared.Target.{Target}
+use Rattle.table_reader.specs.declared.Target.the-variants.{Row, Nothing}
+
+-- ---- answers
+
+-- A test whose answer is true holds.
+pub holds-by : (answer test : Bool) → answer ≡ test → answer ≡ true → test ≡ true
+holds-by answer test e f = sym e ∙ f
+
+-- ---- the header
+
+-- Laid out bytes have a right header.
+pub header-of : (bytes : List ℕ) → laid-out bytes ≡ true → header-right bytes ≡ true
+unfolding laid-out
+header-of bytes h = and-left (header-right bytes) (rows-right bytes 0 0 (rows-of bytes)) h
+
+-- The header gives the size of the file.
+pub size : (bytes : List ℕ) → header-right bytes ≡ true → length bytes ≡ step-place bytes (steps-of bytes)
+size bytes h = header-out bytes h .size
+
+-- With the size `omega` finds the place of every number that a right header tells of inside the file.
+pub ruleset inside = (arith, size)
+
+-- ---- rows and steps
+
+-- The action and the target row of step i are in range.
+pub record StepInside (bytes : List ℕ) (i : ℕ) : Type 0 where
+  pub action : step-action bytes i < table-actions bytes
+  pub target : step-target bytes i < rows-of bytes
+
+-- The state of row r is in range, and its steps are steps of the file and right.
+pub record RowInside (bytes : List ℕ) (r : ℕ) : Type 0 where
+  pub state : row-state bytes r < table-states bytes
+  pub last : row-first bytes r + row-count bytes r ≤ steps-of bytes
+  pub steps : steps-right bytes 0 (row-first bytes r) (row-count bytes r) ≡ true
+
+-- Each of n right steps from step i on is in range.
+pub steps-inside : (bytes : List ℕ) (n low i : ℕ) → steps-right bytes low i n ≡ true → (j : ℕ) → i ≤ j → j < i + n → StepInside bytes j
+steps-inside bytes zero low i h j l g = absurd (omega arith)
+steps-inside bytes (suc n) low i h j l g =
+    let s = steps-right-out bytes low i n h in
+    let rest = steps-inside bytes n (step-action bytes i + 1) (suc i) (s .more) j in
+    elim (decLt i j) [
+      | yes k ↦ rest (omega arith) (omega arith)
+      | no k ↦ let e : i ≡ j = omega arith in rw (← e) (record { action = s .action; target = s .target })
+    ]
+
+-- Right rows have no more steps before them than there are.
+pub rows-within : (bytes : List ℕ) (n first r : ℕ) → rows-right bytes first r n ≡ true → first ≤ steps-of bytes
+unfolding rows-right
+rows-within bytes zero first r h = omega (arith, eqb-true first (steps-of bytes) h)
+rows-within bytes (suc n) first r h =
+    omega (arith, rows-within bytes n (first + row-count bytes r) (suc r) (rows-right-out bytes first r n h .more))
+
+-- Each of n right rows from row r on is in range.
+pub rows-inside : (bytes : List ℕ) (n first r : ℕ) → rows-right bytes first r n ≡ true → (k : ℕ) → r ≤ k → k < r + n → RowInside bytes k
+rows-inside bytes zero first r h k l g = absurd (omega arith)
+rows-inside bytes (suc n) first r h k l g =
+    let s = rows-right-out bytes first r n h in
+    let rest = rows-inside bytes n (first + row-count bytes r) (suc r) (s .more) k in
+    let last = rows-within bytes n (first + row-count bytes r) (suc r) (s .more) in
+    elim (decLt r k) [
+      | yes d ↦ rest (omega arith) (omega arith)
+      | no d ↦
+          let e : r ≡ k = omega arith in
+          rw (← e) (record { state = s .state; last = rw (s .begin) last; steps = rw (s .begin) (s .steps) })
+    ]
+
+-- Each step from the first of n right rows on is in range.
+pub rows-steps-inside : (bytes : List ℕ) (n first r : ℕ) → rows-right bytes first r n ≡ true
+    → (i : ℕ) → first ≤ i → i < steps-of bytes → StepInside bytes i
+unfolding rows-right
+rows-steps-inside bytes zero first r h i l g = absurd (omega (arith, eqb-true first (steps-of bytes) h))
+rows-steps-inside bytes (suc n) first r h i l g =
+    let s = rows-right-out bytes first r n h in
+    let rest = rows-steps-inside bytes n (first + row-count bytes r) (suc r) (s .more) i in
+    elim (decLt i (first + row-count bytes r)) [
+      | yes d ↦ steps-inside bytes (row-count bytes r) 0 first (s .steps) i l d
+      | no d ↦ rest (omega arith) g
+    ]
+
+-- What laid out bytes say.
+pub record LaidOut (bytes : List ℕ) : Type 0 where
+  pub header : HeaderFits bytes
+  pub row : (r : ℕ) → r < rows-of bytes → RowInside bytes r
+  pub step : (i : ℕ) → i < steps-of bytes → StepInside bytes i
+
+pub laid-out-known : (bytes : List ℕ) → laid-out bytes ≡ true → LaidOut bytes
+laid-out-known bytes h =
+    record {
+      header = header-out bytes (header-of bytes h);
+      row = λ r l. rows-inside bytes (rows-of bytes) 0 0 (laid-out-rows bytes h) r (omega arith) (omega arith);
+      step = λ i l. rows-steps-inside bytes (rows-of bytes) 0 0 (laid-out-rows bytes h) i (omega arith) l;
+    }
+
+-- ---- the table
+
+-- n steps of the file from step i on
+abbrev pub steps-from : List ℕ → ℕ → ℕ → List Step
+steps-from bytes i n = map (step-of bytes) (count-from i n)
+
+-- The moves of the table from a row are those of its steps in the file.
+pub move-read : (bytes : List ℕ) (r a : ℕ) → r < rows-of bytes
+    → move (table-of bytes) r a ≡ step-to (steps-from bytes (row-first bytes r) (row-count bytes r)) a
+unfolding move row-of-table
+move-read bytes r a l = rw (row-of-table-at bytes r l)
+
+-- From past the last row there is no move.
+pub move-past : (bytes : List ℕ) (r a : ℕ) → rows-of bytes ≤ r → move (table-of bytes) r a ≡ none
+unfolding move row-at step-to
+move-past bytes r a l = rw (List·getD-eq-default (table-of bytes) (record { state = 0; steps = [] }) {n = r} (rw (length-table-of bytes) l))
+
+-- A step with the action leads to its target row.
+pub step-to-here : (bytes : List ℕ) (i n a : ℕ) → step-action bytes i ≡ a
+    → step-to (steps-from bytes i (suc n)) a ≡ some (step-target bytes i)
+unfolding count-from step-to step-of
+step-to-here bytes i n a e = rw (eq-eqb (step-action bytes i) a e)
+
+-- A step with another action is passed over.
+pub step-to-next : (bytes : List ℕ) (i n a : ℕ) → (step-action bytes i ≡ a → ⊥)
+    → step-to (steps-from bytes i (suc n)) a ≡ step-to (steps-from bytes (suc i) n) a
+unfolding count-from step-to step-of
+step-to-next bytes i n a e = rw (ne-eqb (step-action bytes i) a e)
+
+-- A step that allows the action, among n steps from step i on.
+pub record Allowing (bytes : List ℕ) (i n a t : ℕ) : Type 0 where
+  pub at : ℕ
+  pub from : i ≤ at
+  pub below : at < i + n
+  pub action : step-action bytes at ≡ a
+  pub target : step-target bytes at ≡ t
+
+-- What steps lead to is the target of one of them that has the action.
+pub step-to-from : (bytes : List ℕ) (n i a t : ℕ) → step-to (steps-from bytes i n) a ≡ some t → Allowing bytes i n a t
+unfolding count-from step-to
+step-to-from bytes zero i a t e = absurd (let z : _≡_ {A = ℕ} 0 1 = cc in omega arith)
+step-to-from bytes (suc n) i a t e =
+    elim (ℕ-discrete (step-action bytes i) a) [
+      | yes d ↦
+          let f = sym (step-to-here bytes i n a d) ∙ e in
+          record { at = i; from = omega arith; below = omega arith; action = d; target = cc }
+      | no d ↦
+          let s = step-to-from bytes n (suc i) a t (sym (step-to-next bytes i n a d) ∙ e) in
+          record { at = s .at; from = omega (arith, s .from); below = omega (arith, s .below); action = s .action; target = s .target }
+    ]
+
+-- Right steps lead by each of their actions to its target: no action comes twice.
+pub step-to-each : (bytes : List ℕ) (n low i : ℕ) → steps-right bytes low i n ≡ true → (j : ℕ) → i ≤ j → j < i + n
+    → (low ≤ step-action bytes j) × (step-to (steps-from bytes i n) (step-action bytes j) ≡ some (step-target bytes j))
+step-to-each bytes zero low i h j l g = absurd (omega arith)
+step-to-each bytes (suc n) low i h j l g =
+    let s = steps-right-out bytes low i n h in
+    let rest = step-to-each bytes n (step-action bytes i + 1) (suc i) (s .more) j in
+    elim (decLt i j) [
+      | yes d ↦
+          let k = rest (omega arith) (omega arith) in
+          (omega (arith, s .above, k .0), step-to-next bytes i n (step-action bytes j) (λ e. omega (arith, k .0)) ∙ k .1)
+      | no d ↦ let e : i ≡ j = omega arith in rw (← e) (s .above, step-to-here bytes i n (step-action bytes i) refl)
+    ]
+
+-- A move of the table is a step of the row with that action and that target.
+pub move-from : (bytes : List ℕ) (r a t : ℕ) → r < rows-of bytes → move (table-of bytes) r a ≡ some t
+    → Allowing bytes (row-first bytes r) (row-count bytes r) a t
+move-from bytes r a t l e = step-to-from bytes (row-count bytes r) (row-first bytes r) a t (sym (move-read bytes r a l) ∙ e)
+
+-- Each step of a row of laid out bytes is a move of the table.
+pub move-each : (bytes : List ℕ) (r i : ℕ) → laid-out bytes ≡ true → r < rows-of bytes → row-first bytes r ≤ i
+    → i < row-first bytes r + row-count bytes r → move (table-of bytes) r (step-action bytes i) ≡ some (step-target bytes i)
+move-each bytes r i h l f g =
+    move-read bytes r (step-action bytes i) l
+    ∙ step-to-each bytes (row-count bytes r) 0 (row-first bytes r) (laid-out-known bytes h .row r l .steps) i f g .1
+
+-- ---- the reader's answer
+
+-- Where the reader answers a row, the action leads to it.
+pub target-row : (o : Option ℕ) (answer : Target) (row : ℕ) → answer ≡ target-read o → answer ≡ Row row → o ≡ some row
+unfolding target-read
+target-row none answer row e f = cc
+target-row (some s) answer row e f = cc
+
+-- Where it answers nothing, the action leads nowhere.
+pub target-nothing : (o : Option ℕ) (answer : Target) → answer ≡ target-read o → answer ≡ Nothing → o ≡ none
+unfolding target-read
+target-nothing none answer e f = refl
+target-nothing (some s) answer e f = cc
