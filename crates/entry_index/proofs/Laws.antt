@@ -1,0 +1,276 @@
+-- What callers may use: entries and their bytes, the answer of a search for one, and when an index is one of the entries.
+use Prim.Native.Nat.{ℕ, zero, suc, _+_, _*_, _%_, _≤_, _<_}
+use native.Mathlib.Omega.{arith}
+use native.Mathlib.Nat.{add-zero, zero-add}
+use native.Mathlib.Numerals.{add-one}
+use native.Mathlib.Decide.{decLt}
+use mathlib.Core.Path.{_≡_, refl, sym, _∙_, ap}
+use mathlib.Core.Bool.{Bool, true, false}
+use mathlib.Core.List.{List, [], _∷_, _++_, map, map-append}
+use lib.ListN.{length, getD, take, drop, replicate, length-take, length-drop, length-map, length-replicate}
+use lib.ListN.{getD-replicate, List·getD-map, List·getD-eq-default}
+use lib.Seq.{getD-take, getD-drop, length-take-le, ext-getD}
+use lib.Dec.{eqb}
+use borrow.Author.Tests.{eqb-true, eqb-false, eq-eqb, ne-eqb}
+use Rattle.base.specs.Choice.{pick}
+use Rattle.base.specs.Bytes.{byte-at, number-at}
+use Rattle.base.specs.Lists.{count-from, below, place-of, Distinct}
+use Rattle.base.proofs.Lists.{never-both, same-list-eq, eq-same-list, length-below, getD-below, decides-same}
+use Rattle.base.proofs.Lists.{place-of-le, place-of-at, place-of-before, place-of-first}
+use Rattle.base.proofs.Search.{distinct-apart, apart-at}
+use Rattle.entry_index.specs.Entries.{entry-size, buckets, entry-at, entries-of, same-entry, hash-from, hash-of, last-with, head-of}
+use Rattle.entry_index.specs.Entries.{Indexed}
+
+-- ---- entries
+
+-- The bytes of an entry are those of the area from its place on.
+pub entry-byte : (entries : List ℕ) (i k : ℕ) → k < entry-size → getD (entry-at entries i) k 0 ≡ getD entries (entry-size * i + k) 0
+unfolding entry-at
+entry-byte entries i k l = getD-take 62 (drop (62 * i) entries) k 0 l ∙ getD-drop (62 * i) entries k 0
+
+-- An entry that ends within the area has all its bytes.
+pub entry-length : (entries : List ℕ) (i : ℕ) → entry-size * i + entry-size ≤ length entries → length (entry-at entries i) ≡ entry-size
+unfolding entry-at
+entry-length entries i l =
+    let e = length-drop (62 * i) entries in
+    length-take-le 62 (drop (62 * i) entries) (omega arith)
+
+-- Areas of one length that agree on the bytes before entry n have the same entries before n.
+pub entries-agree : (one other : List ℕ) (n : ℕ) → length one ≡ length other
+    → ((p : ℕ) → p < entry-size * n → byte-at one p ≡ byte-at other p) → (i : ℕ) → i < n → entry-at one i ≡ entry-at other i
+unfolding entry-at
+entries-agree one other n same-length agree i l =
+    let e = length-take 62 (drop (62 * i) one) in
+    let f = length-take 62 (drop (62 * i) other) in
+    let g = length-drop (62 * i) one in
+    let h = length-drop (62 * i) other in
+    ext-getD 0 (take 62 (drop (62 * i) one)) (take 62 (drop (62 * i) other)) (omega arith) (λ k m.
+    let small : k < 62 = omega arith in
+    let before : 62 * i + k < 62 * n = omega arith in
+    getD-take 62 (drop (62 * i) one) k 0 small ∙ getD-drop (62 * i) one k 0 ∙ agree (62 * i + k) before
+    ∙ sym (getD-drop (62 * i) other k 0) ∙ sym (getD-take 62 (drop (62 * i) other) k 0 small))
+
+-- The first n entries are n.
+pub entries-length : (entries : List ℕ) (n : ℕ) → length (entries-of entries n) ≡ n
+unfolding entries-of
+entries-length entries n = length-map (below n) (entry-at entries) ∙ length-below n
+
+-- The i-th of the first n entries is entry i.
+pub entries-at : (entries : List ℕ) (n i : ℕ) → i < n → getD (entries-of entries n) i (entry-at entries 0) ≡ entry-at entries i
+unfolding entries-of
+entries-at entries n i l = List·getD-map (entry-at entries) (below n) i 0 ∙ ap (entry-at entries) (getD-below n i 0 l)
+
+count-more : (k n : ℕ) → count-from k (suc n) ≡ count-from k n ++ ((k + n) ∷ [])
+unfolding count-from
+count-more k zero = ap (λ (a : ℕ). a ∷ []) (sym (add-zero k))
+count-more k (suc n) =
+    let place : suc k + n ≡ k + suc n = omega arith in
+    ap (λ (rest : List ℕ). k ∷ rest) (rw (← place) (count-more (suc k) n))
+
+-- One entry more comes behind the others.
+pub entries-more : (entries : List ℕ) (n : ℕ) → entries-of entries (n + 1) ≡ entries-of entries n ++ (entry-at entries n ∷ [])
+unfolding entries-of below
+entries-more entries n = rw (add-one n, count-more 0 n, zero-add n) (map-append (entry-at entries) (count-from 0 n) (n ∷ []))
+
+count-same : (f g : ℕ → List ℕ) (k n : ℕ) → ((i : ℕ) → k ≤ i → i < k + n → f i ≡ g i) → map f (count-from k n) ≡ map g (count-from k n)
+unfolding count-from
+count-same f g k zero agree = refl
+count-same f g k (suc n) agree =
+    let here = agree k (omega arith) (omega arith) in
+    let rest = count-same f g (suc k) n (λ i l m. agree i (omega arith) (omega arith)) in
+    rw (here, rest)
+
+-- Areas with the same entries before n have the same first n entries.
+pub entries-same : (one other : List ℕ) (n : ℕ) → ((i : ℕ) → i < n → entry-at one i ≡ entry-at other i)
+    → entries-of one n ≡ entries-of other n
+unfolding entries-of below
+entries-same one other n agree = count-same (entry-at one) (entry-at other) 0 n (λ i l m. agree i (omega arith))
+
+-- The test decides equality: what passes it is equal,
+pub same-entry-out : (x y : List ℕ) → same-entry x y ≡ true → x ≡ y
+unfolding same-entry
+same-entry-out x y e = same-list-eq eqb eqb-true x y e
+
+-- and what is equal passes it.
+pub same-entry-in : (x y : List ℕ) → x ≡ y → same-entry x y ≡ true
+unfolding same-entry
+same-entry-in x y e = eq-same-list eqb (λ a. eq-eqb a a refl) e
+
+-- ---- the answer of a search for entry n among the first n
+
+-- The answer is at most n.
+pub found-most : (entries : List ℕ) (n : ℕ) → place-of (same-entry (entry-at entries n)) (entries-of entries n) ≤ n
+found-most entries n =
+    omega (arith, place-of-le (same-entry (entry-at entries n)) (entries-of entries n), entries-length entries n)
+
+-- An answer below n is the number of an entry that is equal.
+pub found-equal : (entries : List ℕ) (n r : ℕ) → r ≡ place-of (same-entry (entry-at entries n)) (entries-of entries n) → r < n
+    → entry-at entries r ≡ entry-at entries n
+found-equal entries n r e l =
+    let test = same-entry (entry-at entries n) in
+    let many = entries-length entries n in
+    let passes = place-of-at test (entries-of entries n) (entry-at entries 0) (omega arith) in
+    sym (same-entry-out (entry-at entries n) (entry-at entries r) (ap test (sym (entries-at entries n r l)) ∙ rw e passes))
+
+-- No entry before the answer is equal.
+pub found-first : (entries : List ℕ) (n r i : ℕ) → r ≡ place-of (same-entry (entry-at entries n)) (entries-of entries n) → i < r
+    → entry-at entries i ≡ entry-at entries n → ⊥
+found-first entries n r i e l same =
+    let test = same-entry (entry-at entries n) in
+    let most = found-most entries n in
+    let fails = place-of-before test (entries-of entries n) i (entry-at entries 0) (omega arith) in
+    never-both (same-entry-in (entry-at entries n) (entry-at entries i) (sym same))
+    (ap test (sym (entries-at entries n i (omega arith))) ∙ fails)
+
+-- The answer is r if entry r is equal and no entry before it is.
+pub found-at : (entries : List ℕ) (n r : ℕ) → r < n → same-entry (entry-at entries n) (entry-at entries r) ≡ true
+    → ((i : ℕ) → i < r → same-entry (entry-at entries n) (entry-at entries i) ≡ false)
+    → r ≡ place-of (same-entry (entry-at entries n)) (entries-of entries n)
+found-at entries n r l hit none =
+    let test = same-entry (entry-at entries n) in
+    let many = entries-length entries n in
+    sym (place-of-first test (entries-of entries n) r (entry-at entries 0) (omega arith)
+    (ap test (entries-at entries n r l) ∙ hit)
+    (λ i m. ap test (entries-at entries n i (omega arith)) ∙ none i m))
+
+-- The answer is n if no entry before n is equal.
+pub found-none : (entries : List ℕ) (n : ℕ) → ((i : ℕ) → i < n → same-entry (entry-at entries n) (entry-at entries i) ≡ false)
+    → n ≡ place-of (same-entry (entry-at entries n)) (entries-of entries n)
+found-none entries n none = go (decLt r n)
+  where
+    r : ℕ
+    r = place-of (same-entry (entry-at entries n)) (entries-of entries n)
+
+    go : Dec (r < n) → n ≡ r
+    go (yes l) =
+        never-both (same-entry-in (entry-at entries n) (entry-at entries r) (sym (found-equal entries n r refl l))) (none r l)
+    go (no m) = omega (arith, found-most entries n)
+
+-- Of different entries the answer is the one that is equal.
+pub found-only : (entries : List ℕ) (n i : ℕ) → Distinct (entries-of entries n) → i < n → entry-at entries i ≡ entry-at entries n
+    → place-of (same-entry (entry-at entries n)) (entries-of entries n) ≡ i
+found-only entries n i distinct l same = go (decLt i r)
+  where
+    r : ℕ
+    r = place-of (same-entry (entry-at entries n)) (entries-of entries n)
+
+    go : Dec (i < r) → r ≡ i
+    go (yes before) = absurd (found-first entries n r i refl before same)
+    go (no m) =
+        let many = entries-length entries n in
+        let e = found-equal entries n r refl (omega arith) in
+        apart-at (decides-same same-entry same-entry-out (λ x. same-entry-in x x refl)) (entries-of entries n) r i (entry-at entries 0)
+        (distinct-apart same-entry same-entry-out (entries-of entries n) distinct) (omega arith) (omega arith)
+        (same-entry-in (getD (entries-of entries n) r (entry-at entries 0)) (getD (entries-of entries n) i (entry-at entries 0))
+        (entries-at entries n r (omega arith) ∙ e ∙ sym same ∙ sym (entries-at entries n i l)))
+
+-- ---- hashes
+
+hash-small : (h : ℕ) (bytes : List ℕ) → h < buckets → hash-from h bytes < buckets
+unfolding hash-from
+hash-small h [] l = l
+hash-small h (b ∷ bs) l = hash-small ((h * 257 + b) % 1021) bs (omega arith)
+
+-- A hash is below the number of buckets.
+pub hash-below : (entry : List ℕ) → hash-of entry < buckets
+unfolding hash-of
+hash-below entry = hash-small 0 entry (omega arith)
+
+module _ (entries : List ℕ) (h : ℕ) where
+  -- The last of n is one of them.
+  pub last-most : (n : ℕ) → last-with entries h n ≤ n
+  unfolding last-with
+  last-most zero = omega arith
+  last-most (suc n) = go (eqb (hash-of (entry-at entries n)) h) (last-most n)
+    where
+      go : (b : Bool) → last-with entries h n ≤ n → pick b (λ _. suc n) (λ _. last-with entries h n) ≤ suc n
+      go true ih = omega arith
+      go false ih = omega arith
+
+  -- It has the hash.
+  pub last-has : (n i : ℕ) → last-with entries h n ≡ suc i → hash-of (entry-at entries i) ≡ h
+  unfolding last-with
+  last-has zero i e = absurd (omega arith)
+  last-has (suc n) i e = go (eqb (hash-of (entry-at entries n)) h) refl e (λ f. last-has n i f)
+    where
+      go : (b : Bool) → eqb (hash-of (entry-at entries n)) h ≡ b → pick b (λ _. suc n) (λ _. last-with entries h n) ≡ suc i
+          → (last-with entries h n ≡ suc i → hash-of (entry-at entries i) ≡ h) → hash-of (entry-at entries i) ≡ h
+      go true t f ih =
+          let same : n ≡ i = omega arith in
+          rw (← same) (eqb-true (hash-of (entry-at entries n)) h t)
+      go false t f ih = ih f
+
+  -- None behind it has.
+  pub last-behind : (n i : ℕ) → last-with entries h n ≤ i → i < n → hash-of (entry-at entries i) ≡ h → ⊥
+  unfolding last-with
+  last-behind zero i k l e = omega arith
+  last-behind (suc n) i k l e = go (eqb (hash-of (entry-at entries n)) h) refl k (λ m. last-behind n i m)
+    where
+      go : (b : Bool) → eqb (hash-of (entry-at entries n)) h ≡ b → pick b (λ _. suc n) (λ _. last-with entries h n) ≤ i
+          → (last-with entries h n ≤ i → i < n → hash-of (entry-at entries i) ≡ h → ⊥) → ⊥
+      go true t m ih = omega arith
+      go false t m ih = elim (decLt i n) [
+        | yes below ↦ ih m below e
+        | no not-below ↦ (
+            let same : i ≡ n = omega arith in
+            eqb-false (hash-of (entry-at entries n)) h t (rw (← same) e))
+      ]
+
+  -- An entry with the hash is the last when it is added.
+  pub last-new : (n : ℕ) → hash-of (entry-at entries n) ≡ h → last-with entries h (suc n) ≡ suc n
+  unfolding last-with
+  last-new n e = rw (eq-eqb (hash-of (entry-at entries n)) h e)
+
+  -- One with another hash changes nothing.
+  pub last-old : (n : ℕ) → (hash-of (entry-at entries n) ≡ h → ⊥) → last-with entries h (suc n) ≡ last-with entries h n
+  unfolding last-with
+  last-old n e = rw (ne-eqb (hash-of (entry-at entries n)) h e)
+
+-- Areas with the same entries before n have the same last entry.
+pub last-same : (one other : List ℕ) (h n : ℕ) → ((i : ℕ) → i < n → entry-at one i ≡ entry-at other i)
+    → last-with one h n ≡ last-with other h n
+unfolding last-with
+last-same one other h zero agree = refl
+last-same one other h (suc n) agree =
+    let here = agree n (omega arith) in
+    let rest = last-same one other h n (λ i l. agree i (omega arith)) in
+    rw (here, rest)
+
+-- ---- the index
+
+-- The index depends on the entries before n alone.
+pub indexed-same : (one other index : List ℕ) (n : ℕ) → ((i : ℕ) → i < n → entry-at one i ≡ entry-at other i) → Indexed one index n
+    → Indexed other index n
+indexed-same one other index n agree indexed =
+    record {
+      heads = λ h l. indexed .heads h l ∙ last-same one other h n agree;
+      links = λ i l.
+          indexed .links i l ∙ last-same one other (hash-of (entry-at one i)) i (λ j m. agree j (omega arith))
+          ∙ ap (λ (entry : List ℕ). last-with other (hash-of entry) i) (agree i l);
+    }
+
+-- What is written into the area from entry n on does not matter to it.
+pub indexed-kept : (one other index : List ℕ) (n : ℕ) → length one ≡ length other
+    → ((p : ℕ) → p < entry-size * n → byte-at one p ≡ byte-at other p) → Indexed one index n → Indexed other index n
+indexed-kept one other index n same-length agree indexed =
+    indexed-same one other index n (entries-agree one other n same-length agree) indexed
+
+-- An index of zeros is one of no entries.
+pub indexed-none : (entries index : List ℕ) → ((p : ℕ) → byte-at index p ≡ 0) → Indexed entries index 0
+unfolding head-of number-at last-with
+indexed-none entries index zeros =
+    record {
+      heads = λ h l. omega (arith, zeros (0 + 2 * h), zeros (0 + 2 * h + 1));
+      links = λ i l. absurd (omega arith);
+    }
+
+-- A cleared area is an index of no entries.
+pub indexed-cleared : (entries : List ℕ) (size : ℕ) → Indexed entries (replicate size 0) 0
+indexed-cleared entries size = indexed-none entries (replicate size 0) zeros
+  where
+    zeros : (p : ℕ) → byte-at (replicate size 0) p ≡ 0
+    zeros p = elim (decLt p size) [
+      | yes l ↦ getD-replicate size p 0 0 l
+      | no l ↦ List·getD-eq-default (replicate size 0) 0
+          (omega (arith, length-replicate {A = ℕ} size 0))
+    ]

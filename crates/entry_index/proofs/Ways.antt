@@ -1,0 +1,374 @@
+-- A law for each way through the code.
+use Prim.Native.Nat.{ℕ, suc, _+_, _-_, _*_, _/_, _%_, _≤_, _<_}
+use native.Mathlib.Omega.{arith}
+use native.Mathlib.Numerals.{add-one}
+use native.Mathlib.Decide.{decLt, ℕ-discrete}
+use mathlib.Core.Path.{_≡_, refl, sym, _∙_, ap, ap₂}
+use mathlib.Core.Bool.{Bool, true, false, _&&_}
+use mathlib.Core.List.{List}
+use lib.ListN.{length, getD, set, drop, length-set, drop-of-length-le}
+use lib.Seq.{sets, length-sets, drop-cons, getD-set-same, getD-set-other}
+use lib.Dec.{eqb}
+use borrow.Author.Tests.{eq-eqb, ne-eqb}
+use mir.Syntax.{w8, w64}
+use mir.Val.{Fits}
+use Rattle.base.specs.Bytes.{number-at, number-bytes}
+use Rattle.base.specs.Lists.{same-list, place-of}
+use Rattle.base.proofs.Lists.{false-by}
+use Rattle.entry_index.specs.Entries.{entry-size, most-entries, index-size, links-at, buckets, entry-at, entries-of, same-entry}
+use Rattle.entry_index.specs.Entries.{hash-from, hash-of, last-with, head-of, link-of, Indexed}
+use Rattle.entry_index.proofs.Laws.{entry-byte, entry-length, same-entry-out, found-at, found-none, hash-below}
+use Rattle.entry_index.proofs.Laws.{last-most, last-has, last-behind, last-new, last-old}
+
+-- ---- two-byte numbers
+
+-- A byte is a number.
+pub cast-byte : (l : List ℕ) (i : ℕ) → ((j : ℕ) → Fits w8 (getD l j 0)) → Fits w64 (getD l i 0)
+cast-byte l i h = omega (arith, h i)
+
+-- The upper byte of a two-byte number.
+pub upper-fits : (l : List ℕ) (i : ℕ) → ((j : ℕ) → Fits w8 (getD l j 0)) → Fits w64 (256 * getD l i 0)
+upper-fits l i h = omega (arith, h i)
+
+-- A two-byte number.
+pub two-fit : (l : List ℕ) (i k : ℕ) → ((j : ℕ) → Fits w8 (getD l j 0)) → Fits w64 (getD l i 0 + 256 * getD l k 0)
+two-fit l i k h = omega (arith, h i, h k)
+
+-- What two bytes spell.
+pub two-read : (l : List ℕ) (p : ℕ) → getD l p 0 + 256 * getD l (p + 1) 0 ≡ number-at 2 l p
+unfolding number-at
+two-read l p = omega arith
+
+-- Two bytes stored are a number written.
+pub two-written : (l : List ℕ) (p n : ℕ) → set (set l p (n % 256)) (p + 1) (n / 256 % 256) ≡ sets l p (number-bytes 2 n)
+unfolding number-bytes
+two-written l p n = rw (add-one p)
+
+-- A number written is read back,
+written-here : (l : List ℕ) (p n : ℕ) → p + 1 < length l → n < 65536 → number-at 2 (sets l p (number-bytes 2 n)) p ≡ n
+unfolding number-at number-bytes
+written-here l p n room small =
+    let one = set l p (n % 256) in
+    let long = length-set l p (n % 256) in
+    let low = getD-set-other one (suc p) p (n / 256 % 256) 0 (λ e. omega arith) ∙ getD-set-same l p (n % 256) 0 (omega arith) in
+    let high = getD-set-same one (suc p) (n / 256 % 256) 0 (omega arith) in
+    rw (add-one p) (omega arith)
+
+-- and a number elsewhere is what it was.
+written-elsewhere : (l : List ℕ) (p q n : ℕ) → (q ≡ p → ⊥) → (q ≡ p + 1 → ⊥) → (q + 1 ≡ p → ⊥)
+    → number-at 2 (sets l p (number-bytes 2 n)) q ≡ number-at 2 l q
+unfolding number-at number-bytes
+written-elsewhere l p q n a b c = rw (at q a (λ e. b (omega arith)), at (q + 1) c (λ e. a (omega arith)))
+  where
+    at : (i : ℕ) → (i ≡ p → ⊥) → (i ≡ suc p → ⊥) → getD (set (set l p (n % 256)) (suc p) (n / 256 % 256)) i 0 ≡ getD l i 0
+    at i d e = getD-set-other (set l p (n % 256)) (suc p) i (n / 256 % 256) 0 e ∙ getD-set-other l p i (n % 256) 0 d
+
+-- ---- the hash
+
+-- The loop over the bytes of entry i, k of which have gone into h.
+pub record Hashing (entries : List ℕ) (i h k : ℕ) : Type 0 where
+  pub small : h < buckets
+  pub most : k ≤ entry-size
+  pub rest : hash-from h (drop k (entry-at entries i)) ≡ hash-of (entry-at entries i)
+
+-- Before the first byte.
+pub hash-start : (entries : List ℕ) (i : ℕ) → Hashing entries i 0 0
+unfolding hash-of
+hash-start entries i = record { small = omega arith; most = omega arith; rest = refl }
+
+-- One byte more.
+pub hash-more : (entries : List ℕ) (i h k : ℕ) → Hashing entries i h k → entry-size * i + entry-size ≤ length entries → k < 62
+    → Hashing entries i ((h * 257 + getD entries (62 * i + k) 0) % 1021) (k + 1)
+unfolding hash-from
+hash-more entries i h k g room l =
+    let entry = entry-at entries i in
+    let long = entry-length entries i room in
+    let next = drop-cons entry k 0 (omega arith) in
+    let byte = entry-byte entries i k l in
+    let r = g .rest in
+    record { small = omega arith; most = omega arith; rest = rw (← byte, add-one k) (ap (hash-from h) (sym next) ∙ r) }
+
+-- All bytes.
+pub hash-end : (entries : List ℕ) (i h k : ℕ) → Hashing entries i h k → entry-size * i + entry-size ≤ length entries → 62 ≤ k
+    → h ≡ hash-of (entry-at entries i)
+unfolding hash-from
+hash-end entries i h k g room l =
+    let long = entry-length entries i room in
+    ap (hash-from h) (sym (drop-of-length-le (entry-at entries i) {i = k} (omega arith))) ∙ g .rest
+
+-- The sum before the remainder is taken fits.
+pub hash-fits : (entries : List ℕ) (i h k p : ℕ) → Hashing entries i h k → ((j : ℕ) → Fits w8 (getD entries j 0))
+    → Fits w64 (h * 257 + getD entries p 0)
+hash-fits entries i h k p g bytes = omega (arith, bytes p, g .small)
+
+-- ---- equal entries
+
+-- The loop over the bytes of entries i and j, the first k of which are equal.
+pub record Comparing (entries : List ℕ) (i j k : ℕ) : Type 0 where
+  pub most : k ≤ entry-size
+  pub rest : same-list eqb (drop k (entry-at entries i)) (drop k (entry-at entries j))
+      ≡ same-entry (entry-at entries i) (entry-at entries j)
+
+-- Before the first bytes.
+pub same-start : (entries : List ℕ) (i j : ℕ) → Comparing entries i j 0
+unfolding same-entry
+same-start entries i j = record { most = omega arith; rest = refl }
+
+-- the next bytes decide, or those behind them
+same-next : (entries : List ℕ) (i j k : ℕ) → entry-size * i + entry-size ≤ length entries → entry-size * j + entry-size ≤ length entries
+    → k < 62 → (b : Bool) → eqb (getD entries (62 * i + k) 0) (getD entries (62 * j + k) 0) ≡ b
+    → same-list eqb (drop k (entry-at entries i)) (drop k (entry-at entries j))
+    ≡ (b && same-list eqb (drop (suc k) (entry-at entries i)) (drop (suc k) (entry-at entries j)))
+unfolding same-list
+same-next entries i j k room room′ l b e =
+    let long = entry-length entries i room in
+    let long′ = entry-length entries j room′ in
+    let next = drop-cons (entry-at entries i) k 0 (omega arith) in
+    let next′ = drop-cons (entry-at entries j) k 0 (omega arith) in
+    rw (next, next′, entry-byte entries i k l, entry-byte entries j k l, e)
+
+-- The next bytes are equal.
+pub same-more : (entries : List ℕ) (i j k m : ℕ) → Comparing entries i j k → entry-size * i + entry-size ≤ length entries
+    → entry-size * j + entry-size ≤ length entries → k < m → m ≤ entry-size → getD entries (62 * i + k) 0 ≡ getD entries (62 * j + k) 0
+    → Comparing entries i j (k + 1)
+same-more entries i j k m g room room′ l most e =
+    record {
+      most = omega arith;
+      rest = rw (add-one k) (sym (same-next entries i j k room room′ (omega arith) true (eq-eqb _ _ e)) ∙ g .rest);
+    }
+
+-- The next bytes are not equal.
+pub same-differ : (entries : List ℕ) (i j k m : ℕ) → Comparing entries i j k → entry-size * i + entry-size ≤ length entries
+    → entry-size * j + entry-size ≤ length entries → k < m → m ≤ entry-size → (getD entries (62 * i + k) 0 ≡ getD entries (62 * j + k) 0 → ⊥)
+    → false ≡ same-entry (entry-at entries i) (entry-at entries j)
+same-differ entries i j k m g room room′ l most e = sym (same-next entries i j k room room′ (omega arith) false (ne-eqb _ _ e)) ∙ g .rest
+
+-- All bytes are equal.
+pub same-end : (entries : List ℕ) (i j k : ℕ) → Comparing entries i j k → entry-size * i + entry-size ≤ length entries
+    → entry-size * j + entry-size ≤ length entries → 62 ≤ k → true ≡ same-entry (entry-at entries i) (entry-at entries j)
+unfolding same-list
+same-end entries i j k g room room′ l =
+    let long = entry-length entries i room in
+    let long′ = entry-length entries j room′ in
+    ap₂ (λ (x y : List ℕ). same-list eqb x y) (sym (drop-of-length-le (entry-at entries i) {i = k} (omega arith)))
+    (sym (drop-of-length-le (entry-at entries j) {i = k} (omega arith)))
+    ∙ g .rest
+
+-- ---- heads and links
+
+-- What belongs to a bucket lies at a number that fits, wherever a table of two-byte numbers begins,
+pub bucket-fits : (entry : List ℕ) (h : ℕ) → h ≡ hash-of entry → Fits w64 (2 * h)
+bucket-fits entry h e = omega (arith, hash-below entry)
+
+pub bucket-place : (entry : List ℕ) (start h : ℕ) → h ≡ hash-of entry → start ≤ links-at → Fits w64 (start + 2 * h)
+bucket-place entry start h e l = omega (arith, hash-below entry)
+
+-- and within the index.
+pub bucket-there : (entry index : List ℕ) (start h : ℕ) → h ≡ hash-of entry → index-size ≤ length index → start ≤ links-at
+    → start + 2 * h + 1 < length index
+bucket-there entry index start h e room l = omega (arith, hash-below entry)
+
+-- What is read at the head of an entry's bucket.
+pub head-read : (entry index : List ℕ) (h r : ℕ) → h ≡ hash-of entry → r ≡ number-at 2 index (0 + 2 * h) → r ≡ head-of index (hash-of entry)
+unfolding head-of
+head-read entry index h r e f = rw (← e) f
+
+-- What is read at the link of an entry.
+pub link-read : (index : List ℕ) (i r : ℕ) → r ≡ number-at 2 index (2048 + 2 * i) → r ≡ link-of index i
+unfolding link-of
+link-read index i r e = e
+
+-- ---- a search along a chain
+
+-- different hashes: different entries
+differ : (x y : List ℕ) → (hash-of y ≡ hash-of x → ⊥) → same-entry x y ≡ false
+differ x y apart = false-by (same-entry x y) (λ e. apart (ap hash-of (sym (same-entry-out x y e))))
+
+-- Of the entries from `at` on `found` is the first that is equal to entry n, or n; `at` is 0, or the number plus one of an entry with the
+-- same hash.
+pub record Searching (entries : List ℕ) (n found at : ℕ) : Type 0 where
+  pub under : at ≤ found
+  pub most : found ≤ n
+  pub none : (i : ℕ) → at ≤ i → i < found → same-entry (entry-at entries n) (entry-at entries i) ≡ false
+  pub hit : found < n → same-entry (entry-at entries n) (entry-at entries found) ≡ true
+  pub chain : (i : ℕ) → at ≡ suc i → hash-of (entry-at entries i) ≡ hash-of (entry-at entries n)
+
+-- from `last-with` on no entry is equal
+behind : (entries : List ℕ) (n m i : ℕ) → last-with entries (hash-of (entry-at entries n)) m ≤ i → i < m
+    → same-entry (entry-at entries n) (entry-at entries i) ≡ false
+behind entries n m i k l =
+    differ (entry-at entries n) (entry-at entries i) (last-behind entries (hash-of (entry-at entries n)) m i k l)
+
+-- The chain begins at the head of the bucket.
+pub find-start : (entries index : List ℕ) (n at : ℕ) → Indexed entries index n
+    → at ≡ head-of index (hash-of (entry-at entries n)) → Searching entries n n at
+find-start entries index n at indexed e =
+    let h = hash-of (entry-at entries n) in
+    let last : at ≡ last-with entries h n = e ∙ indexed .heads h (hash-below (entry-at entries n)) in
+    let most = last-most entries h n in
+    record {
+      under = omega arith;
+      most = omega arith;
+      none = λ i k l. behind entries n n i (omega arith) l;
+      hit = λ l. absurd (omega arith);
+      chain = λ i f. last-has entries h n i (sym last ∙ f);
+    }
+
+-- what the link of an entry of the chain holds
+linked : (entries index : List ℕ) (n found at r : ℕ) → Indexed entries index n → Searching entries n found at → 0 < at
+    → r ≡ link-of index (at - 1) → r ≡ last-with entries (hash-of (entry-at entries n)) (at - 1)
+linked entries index n found at r indexed g l e =
+    let under = g .under in
+    let most = g .most in
+    e ∙ indexed .links (at - 1) (omega arith)
+    ∙ ap (λ (h : ℕ). last-with entries h (at - 1)) (g .chain (at - 1) (omega arith))
+
+-- A link leads to an entry further in front.
+pub find-less : (entries index : List ℕ) (n found at r : ℕ) → Indexed entries index n → Searching entries n found at → 0 < at
+    → r ≡ link-of index (at - 1) → r < at
+find-less entries index n found at r indexed g l e =
+    omega (arith, linked entries index n found at r indexed g l e, last-most entries (hash-of (entry-at entries n)) (at - 1))
+
+-- The entry is equal to the one that is looked up.
+pub find-hit : (entries index : List ℕ) (n found at r : ℕ) (b : Bool) → Indexed entries index n → Searching entries n found at → 0 < at
+    → r ≡ link-of index (at - 1) → b ≡ same-entry (entry-at entries n) (entry-at entries (at - 1)) → b ≡ true
+    → Searching entries n (at - 1) r
+find-hit entries index n found at r b indexed g l e f t =
+    let h = hash-of (entry-at entries n) in
+    let last = linked entries index n found at r indexed g l e in
+    let below = last-most entries h (at - 1) in
+    let under = g .under in
+    let most = g .most in
+    record {
+      under = omega arith;
+      most = omega arith;
+      none = λ i k m. behind entries n (at - 1) i (omega arith) m;
+      hit = λ _. sym f ∙ t;
+      chain = λ i d. last-has entries h (at - 1) i (sym last ∙ d);
+    }
+
+-- It is not.
+pub find-miss : (entries index : List ℕ) (n found at r : ℕ) (b : Bool) → Indexed entries index n → Searching entries n found at → 0 < at
+    → r ≡ link-of index (at - 1) → b ≡ same-entry (entry-at entries n) (entry-at entries (at - 1)) → b ≡ false
+    → Searching entries n found r
+find-miss entries index n found at r b indexed g l e f t =
+    let h = hash-of (entry-at entries n) in
+    let last = linked entries index n found at r indexed g l e in
+    let below = last-most entries h (at - 1) in
+    let under = g .under in
+    let most = g .most in
+    record {
+      under = omega arith;
+      most = omega arith;
+      none = λ i k m. elim (decLt i (at - 1)) [
+        | yes before ↦ behind entries n (at - 1) i (omega arith) before
+        | no not-before ↦ (
+            elim (ℕ-discrete i (at - 1)) [ yes here ↦ rw here (sym f ∙ t) | no not-here ↦ g .none i (omega arith) m ])
+      ];
+      hit = g .hit;
+      chain = λ i d. last-has entries h (at - 1) i (sym last ∙ d);
+    }
+
+-- The chain has ended.
+pub find-end : (entries : List ℕ) (n found at : ℕ) → Searching entries n found at → at ≤ 0
+    → found ≡ place-of (same-entry (entry-at entries n)) (entries-of entries n)
+find-end entries n found at g l = elim (decLt found n) [
+  | yes m ↦ found-at entries n found m (g .hit m) (λ i k. g .none i (omega arith) k)
+  | no m ↦ (
+      let most = g .most in
+      let all : found ≡ n = omega arith in
+      all ∙ found-none entries n (λ i k. g .none i (omega arith) (omega arith)))
+]
+
+-- ---- one entry more
+
+-- The two stores: the link of entry n into `one`, the head of its bucket into `two`.
+record Adding (entries index one two : List ℕ) (n h before : ℕ) : Type 0 where
+  indexed : Indexed entries index n
+  few : n ≤ most-entries
+  room : index-size ≤ length index
+  hash : h ≡ hash-of (entry-at entries n)
+  old : before ≡ number-at 2 index (0 + 2 * h)
+  link-stored : one ≡ sets index (2048 + 2 * n) (number-bytes 2 before)
+  head-stored : two ≡ sets one (0 + 2 * h) (number-bytes 2 (n + 1))
+
+module _ (entries index one two : List ℕ) (n h before : ℕ) (a : Adding entries index one two n h before) where
+  bucket-small : h < buckets
+  bucket-small = rw (a .hash) (hash-below (entry-at entries n))
+
+  long : length one ≡ length index
+  long = ap length (a .link-stored) ∙ length-sets index (2048 + 2 * n) (number-bytes 2 before)
+
+  before-last : before ≡ last-with entries h n
+  unfolding head-of
+  before-last = a .old ∙ a .indexed .heads h bucket-small
+
+  -- what the stores leave elsewhere
+  kept : (q : ℕ) → (q ≡ 0 + 2 * h → ⊥) → (q ≡ 0 + 2 * h + 1 → ⊥) → (q + 1 ≡ 0 + 2 * h → ⊥) → number-at 2 two q ≡ number-at 2 one q
+  kept q d e f = ap (λ (l : List ℕ). number-at 2 l q) (a .head-stored) ∙ written-elsewhere one (0 + 2 * h) q (n + 1) d e f
+
+  kept-before : (q : ℕ) → (q ≡ 2048 + 2 * n → ⊥) → (q ≡ 2048 + 2 * n + 1 → ⊥) → (q + 1 ≡ 2048 + 2 * n → ⊥)
+      → number-at 2 one q ≡ number-at 2 index q
+  kept-before q d e f =
+      ap (λ (l : List ℕ). number-at 2 l q) (a .link-stored) ∙ written-elsewhere index (2048 + 2 * n) q before d e f
+
+  head-new : head-of two h ≡ n + 1
+  unfolding head-of
+  head-new =
+      let there = bucket-small in
+      let same = long in
+      let room = a .room in
+      let few = a .few in
+      ap (λ (l : List ℕ). number-at 2 l (0 + 2 * h)) (a .head-stored) ∙ written-here one (0 + 2 * h) (n + 1) (omega arith) (omega arith)
+
+  head-old : (g : ℕ) → g < buckets → (g ≡ h → ⊥) → head-of two g ≡ head-of index g
+  unfolding head-of
+  head-old g l apart =
+      kept (0 + 2 * g) (λ e. apart (omega arith)) (λ e. omega arith) (λ e. omega arith)
+      ∙ kept-before (0 + 2 * g) (λ e. omega arith) (λ e. omega arith) (λ e. omega arith)
+
+  link-new : link-of two n ≡ before
+  unfolding link-of
+  link-new =
+      let there = bucket-small in
+      let room = a .room in
+      let few = a .few in
+      let last = before-last in
+      let most = last-most entries h n in
+      kept (2048 + 2 * n) (λ e. omega arith) (λ e. omega arith) (λ e. omega arith)
+      ∙ ap (λ (l : List ℕ). number-at 2 l (2048 + 2 * n)) (a .link-stored)
+      ∙ written-here index (2048 + 2 * n) before (omega arith) (omega arith)
+
+  link-old : (i : ℕ) → i < n → link-of two i ≡ link-of index i
+  unfolding link-of
+  link-old i l =
+      let there = bucket-small in
+      kept (2048 + 2 * i) (λ e. omega arith) (λ e. omega arith) (λ e. omega arith)
+      ∙ kept-before (2048 + 2 * i) (λ e. omega arith) (λ e. omega arith) (λ e. omega arith)
+
+  added : Indexed entries two (n + 1)
+  added = record { heads = heads; links = links }
+    where
+      heads : (g : ℕ) → g < buckets → head-of two g ≡ last-with entries g (n + 1)
+      heads g l = elim (ℕ-discrete g h) [
+        | yes same ↦ rw (same, head-new, add-one n) (sym (last-new entries h n (sym (a .hash))))
+        | no apart ↦ rw (add-one n) (head-old g l apart ∙ a .indexed .heads g l
+            ∙ sym (last-old entries g n (λ e. apart (sym e ∙ sym (a .hash)))))
+      ]
+
+      links : (i : ℕ) → i < n + 1 → link-of two i ≡ last-with entries (hash-of (entry-at entries i)) i
+      links i l = elim (decLt i n) [
+        | yes m ↦ link-old i m ∙ a .indexed .links i m
+        | no m ↦ (
+            let same : i ≡ n = omega arith in
+            rw (same, ← a .hash) (link-new ∙ before-last))
+      ]
+
+-- After the two stores the index is one of one entry more.
+pub add-entry : (entries index one two : List ℕ) (n h before : ℕ) → Indexed entries index n → n ≤ most-entries
+    → index-size ≤ length index → h ≡ hash-of (entry-at entries n) → before ≡ number-at 2 index (0 + 2 * h)
+    → one ≡ sets index (2048 + 2 * n) (number-bytes 2 before) → two ≡ sets one (0 + 2 * h) (number-bytes 2 (n + 1))
+    → Indexed entries two (n + 1)
+add-entry entries index one two n h before indexed few room e b o t =
+    added entries index one two n h before
+    (record { indexed = indexed; few = few; room = room; hash = e; old = b; link-stored = o; head-stored = t })

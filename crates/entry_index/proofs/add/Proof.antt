@@ -1,0 +1,13 @@
+-- `entry_index::add` meets its contract.
+use borrow.Author.Needs.{needs}
+use Rattle.entry_index.proofs.Ways.{bucket-fits, bucket-place, bucket-there, add-entry}
+use Rattle.entry_index.proofs.add.Statement.{statement}
+use Rattle.entry_index.proofs.add.Tie as tie
+
+ruleset all = (needs, bucket-fits, bucket-place, bucket-there, add-entry)
+
+pub add-spec : {M : Type 1} → statement M
+add-spec =
+    tie.close
+    (tie.spec (λ c κs. search all) (λ c. search all) (λ c. search all) (λ c κs. search all) (λ c. search all) (λ c. search all)
+    (λ c κs. search all) (λ c. search all) (λ c κs. search all) (λ c. search all) (λ c. search all))

@@ -1,0 +1,21 @@
+-- `entry_index::same` meets its contract.
+-- The invariant: the bytes passed are equal, so those that are left decide. The measure: how many are left.
+use Prim.Native.Nat.{_-_}
+use borrow.Author.Needs.{needs}
+use Rattle.entry_index.proofs.Ways.{Comparing, same-start, same-more, same-differ, same-end}
+use Rattle.entry_index.proofs.same.Statement.{statement}
+use Rattle.entry_index.proofs.same.Tie as tie
+
+ruleset all = (needs, same-start, same-more, same-differ, same-end)
+
+abbrev Inv-loop : tie.InvT-loop
+Inv-loop entries i j one other offset₀ offset = Comparing entries i j offset
+
+abbrev μ-loop : tie.MeasureT-loop
+μ-loop entries i j one other offset₀ offset = 62 - offset
+
+pub same-spec : {M : Type 1} → statement M
+same-spec =
+    tie.close
+    (tie.spec Inv-loop μ-loop (λ c. search all) (λ c. search all) (λ c. search all) (λ c. search all) (λ c. search all) (λ c. search all)
+    (λ c. search all) (λ c. search all) (λ c. search all) (λ c. search all) (λ c. search all) (λ c. search all))

@@ -1,0 +1,13 @@
+-- `entry_index::two_bytes` meets its contract.
+use borrow.Author.Needs.{needs}
+use Rattle.entry_index.proofs.Ways.{cast-byte, upper-fits, two-fit, two-read}
+use Rattle.entry_index.proofs.two_bytes.Statement.{statement}
+use Rattle.entry_index.proofs.two_bytes.Tie as tie
+
+ruleset all = (needs, cast-byte, upper-fits, two-fit, two-read)
+
+pub two-bytes-spec : {M : Type 1} → statement M
+two-bytes-spec =
+    tie.close
+    (tie.spec (λ c. search all) (λ c. search all) (λ c. search all) (λ c. search all) (λ c. search all) (λ c. search all)
+    (λ c. search all) (λ c. search all))

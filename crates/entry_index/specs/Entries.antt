@@ -1,0 +1,84 @@
+-- Entries of fixed size, one behind the other, and an index by which one is found again without a comparison with all of them.
+use Prim.Native.Nat.{ℕ, zero, suc, _+_, _*_, _%_, _<_}
+use mathlib.Core.Path.{_≡_}
+use mathlib.Core.Bool.{Bool}
+use mathlib.Core.List.{List, [], _∷_, map}
+use lib.ListN.{take, drop}
+use lib.Dec.{eqb}
+use Rattle.base.specs.Choice.{pick}
+use Rattle.base.specs.Bytes.{number-at}
+use Rattle.base.specs.Lists.{below, same-list}
+
+-- ---- entries
+
+-- the bytes of an entry
+abbrev pub entry-size : ℕ
+entry-size = 62
+
+-- the most entries there may be beside the one that is looked up
+abbrev pub most-entries : ℕ
+most-entries = 1000
+
+-- the bytes of the area that holds them and the one that is looked up
+abbrev pub entries-size : ℕ
+entries-size = 62062
+
+-- entry i
+unfoldable pub entry-at : List ℕ → ℕ → List ℕ
+entry-at entries i = take entry-size (drop (entry-size * i) entries)
+
+-- the first n entries, in order
+unfoldable pub entries-of : List ℕ → ℕ → List (List ℕ)
+entries-of entries n = map (entry-at entries) (below n)
+
+-- two entries are equal, byte by byte
+unfoldable pub same-entry : List ℕ → List ℕ → Bool
+same-entry x y = same-list eqb x y
+
+-- ---- the hash of an entry
+
+-- how many different hashes there are
+abbrev pub buckets : ℕ
+buckets = 1021
+
+-- the hash of bytes that come behind others with the hash h
+unfoldable pub hash-from : ℕ → List ℕ → ℕ
+hash-from h [] = h
+hash-from h (b ∷ bs) = hash-from ((h * 257 + b) % buckets) bs
+
+-- the hash of an entry
+unfoldable pub hash-of : List ℕ → ℕ
+hash-of entry = hash-from 0 entry
+
+-- of the first n entries the last with the hash h: its number plus one, or 0 if there is none
+unfoldable pub last-with : List ℕ → ℕ → ℕ → ℕ
+last-with entries h zero = 0
+last-with entries h (suc n) = pick (eqb (hash-of (entry-at entries n)) h) (λ _. suc n) (λ _. last-with entries h n)
+
+-- ---- the index
+
+-- its bytes
+abbrev pub index-size : ℕ
+index-size = 8192
+
+-- where the heads begin
+abbrev pub heads-at : ℕ
+heads-at = 0
+
+-- where the links begin
+abbrev pub links-at : ℕ
+links-at = 2048
+
+-- the head of bucket h
+unfoldable pub head-of : List ℕ → ℕ → ℕ
+head-of index h = number-at 2 index (heads-at + 2 * h)
+
+-- the link of entry i
+unfoldable pub link-of : List ℕ → ℕ → ℕ
+link-of index i = number-at 2 index (links-at + 2 * i)
+
+-- The index is one of the first n entries: each bucket leads to the last entry with its hash, and each entry to the last one before it
+-- with the same hash.
+pub record Indexed (entries index : List ℕ) (n : ℕ) : Type 0 where
+  pub heads : (h : ℕ) → h < buckets → head-of index h ≡ last-with entries h n
+  pub links : (i : ℕ) → i < n → link-of index i ≡ last-with entries (hash-of (entry-at entries i)) i

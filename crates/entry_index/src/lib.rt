@@ -1,0 +1,126 @@
+// Entries of fixed size in a lent area, and an index in another by which one is found again without
+// a comparison with all of them: specs/Entries.antt. Entry n is the one that is looked up, behind n others.
+ghost use Prim.Native.Nat.{_+_, _*_, _<_, _≤_};
+ghost use mathlib.Core.Path.{_≡_};
+ghost use lib.ListN.{length};
+ghost use lib.Seq.{sets};
+ghost use Rattle.base.specs.Bytes.{number-at, number-bytes};
+ghost use Rattle.base.specs.Lists.{place-of};
+ghost use Rattle.entry_index.specs.Entries.{entry-size, most-entries, entries-size, index-size};
+ghost use Rattle.entry_index.specs.Entries.{entry-at, entries-of, same-entry, hash-of, head-of, link-of, Indexed};
+
+// The bytes of an entry.
+const ENTRY_SIZE: usize = 62;
+
+// The hash of an entry: each byte is added to the multiple of what came before it, modulo a prime.
+const MULTIPLIER: usize = 257;
+
+const BUCKETS: usize = 1021;
+
+// Where the heads and the links begin in the index.
+const HEADS_AT: usize = 0;
+
+const LINKS_AT: usize = 2048;
+
+// The two-byte number at p, the low byte first.
+fn two_bytes(bytes: &[u8], p: usize) -> usize
+    requires { ⌜ p + 1 < length (now bytes) ⌝ }
+    ensures { λ r. ⌜ r ≡ number-at 2 (now (bytes .entry)) p ⌝ }
+{
+    bytes[p] as usize + 256 * (bytes[p + 1] as usize)
+}
+
+// Writes n as a two-byte number at p, the low byte first.
+fn put_two_bytes(bytes: &mut [u8], p: usize, n: usize)
+    requires { ⌜ p + 1 < length (now bytes) ⌝ }
+    ensures { λ _. ⌜ now (bytes .exit) ≡ sets (now (bytes .entry)) p (number-bytes 2 n) ⌝ }
+{
+    bytes[p] = (n % 256) as u8;
+    bytes[p + 1] = (n / 256 % 256) as u8;
+}
+
+// The hash of entry i.
+pub fn hash(entries: &[u8], i: usize) -> usize
+    requires { ⌜ entry-size * i + entry-size ≤ length (now entries) ⌝ }
+    ensures { λ r. ⌜ r ≡ hash-of (entry-at (now (entries .entry)) i) ⌝ }
+{
+    let start = ENTRY_SIZE * i;
+    let mut h = 0;
+    let mut k = 0;
+    while k < ENTRY_SIZE {
+        h = (h * MULTIPLIER + entries[start + k] as usize) % BUCKETS;
+        k += 1;
+    }
+    h
+}
+
+// Whether entries i and j are equal.
+pub fn same(entries: &[u8], i: usize, j: usize) -> bool
+    requires { ⌜ entry-size * i + entry-size ≤ length (now entries) ⌝ }
+    requires { ⌜ entry-size * j + entry-size ≤ length (now entries) ⌝ }
+    ensures { λ r. ⌜ r ≡ same-entry (entry-at (now (entries .entry)) i) (entry-at (now (entries .entry)) j) ⌝ }
+{
+    let one = ENTRY_SIZE * i;
+    let other = ENTRY_SIZE * j;
+    let mut offset = 0;
+    while offset < ENTRY_SIZE {
+        if entries[one + offset] != entries[other + offset] {
+            return false;
+        }
+        offset += 1;
+    }
+    true
+}
+
+// The head of the bucket of entry n: the last entry before n with the same hash, plus one, or 0.
+fn head(entries: &[u8], index: &[u8], n: usize) -> usize
+    requires { ⌜ n ≤ most-entries ⌝ }
+    requires { ⌜ entries-size ≤ length (now entries) ⌝ }
+    requires { ⌜ index-size ≤ length (now index) ⌝ }
+    ensures { λ r. ⌜ r ≡ head-of (now (index .entry)) (hash-of (entry-at (now (entries .entry)) n)) ⌝ }
+{
+    two_bytes(index, HEADS_AT + 2 * hash(entries, n))
+}
+
+// The link of entry i: the last entry before i with the same hash, plus one, or 0.
+fn link(index: &[u8], i: usize) -> usize
+    requires { ⌜ i < most-entries ⌝ }
+    requires { ⌜ index-size ≤ length (now index) ⌝ }
+    ensures { λ r. ⌜ r ≡ link-of (now (index .entry)) i ⌝ }
+{
+    two_bytes(index, LINKS_AT + 2 * i)
+}
+
+// The number of the first of n entries that is equal to entry n, or n if there is none.
+pub fn find(entries: &[u8], index: &[u8], n: usize) -> usize
+    requires { ⌜ Indexed (now entries) (now index) n ⌝ }
+    requires { ⌜ n ≤ most-entries ⌝ }
+    requires { ⌜ entries-size ≤ length (now entries) ⌝ }
+    requires { ⌜ index-size ≤ length (now index) ⌝ }
+    ensures { λ r. ⌜ r ≡ place-of (same-entry (entry-at (now (entries .entry)) n)) (entries-of (now (entries .entry)) n) ⌝ }
+{
+    let mut found = n;
+    let mut at = head(entries, index, n);
+    while 0 < at {
+        let i = at - 1;
+        at = link(index, i);
+        if same(entries, n, i) {
+            found = i;
+        }
+    }
+    found
+}
+
+// Brings entry n into the index.
+pub fn add(entries: &[u8], index: &mut [u8], n: usize)
+    requires { ⌜ Indexed (now entries) (now index) n ⌝ }
+    requires { ⌜ n ≤ most-entries ⌝ }
+    requires { ⌜ entries-size ≤ length (now entries) ⌝ }
+    requires { ⌜ index-size ≤ length (now index) ⌝ }
+    ensures { λ _. ⌜ Indexed (now (entries .entry)) (now (index .exit)) (n + 1) ⌝ }
+{
+    let head_at = HEADS_AT + 2 * hash(entries, n);
+    let before = two_bytes(index, head_at);
+    put_two_bytes(index, LINKS_AT + 2 * n, before);
+    put_two_bytes(index, head_at, n + 1);
+}
