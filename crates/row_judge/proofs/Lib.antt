@@ -1,0 +1,3 @@
+mod Scans
+mod Ways
+pub mod Laws
