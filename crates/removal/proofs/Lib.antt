@@ -1,0 +1,5 @@
+pub mod FinePairs
+mod Holding
+mod Moves
+mod Scans
+mod Turns
