@@ -1,0 +1,10 @@
+pub mod Nodes
+pub mod Cells
+pub mod Holding
+pub mod Putting
+pub mod Progressing
+pub mod BookHeld
+pub mod Lines
+pub mod Areas
+pub mod Stepping
+pub mod Callers

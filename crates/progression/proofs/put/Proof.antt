@@ -1,0 +1,15 @@
+-- `progression::put` meets its contract, by the laws of Putting.
+use Rattle.progression.proofs.Putting.{put-stored}
+use borrow.Author.Needs.{needs}
+use Rattle.progression.proofs.put.Statement.{statement}
+use Rattle.progression.proofs.put.Tie as tie
+
+pub put-spec : {M : Type 1} → statement M
+put-spec = tie.close (tie.spec
+    (λ c. search needs)
+    (λ c κs. search needs)
+    (λ c. search needs)
+    (λ c. search needs)
+    (λ c. search needs)
+    (λ c. search needs)
+    (λ c. search (needs, put-stored)))

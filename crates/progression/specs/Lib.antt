@@ -1,0 +1,3 @@
+pub mod PendingBytes
+pub mod NodeBytes
+pub mod Contracts
