@@ -1,0 +1,73 @@
+//! What an entry answers, whoever answers.
+
+use reference::Refusal;
+use std::fmt;
+
+/// The values of an answer (number 0), or a refusal's number, place and letter (0 for none).
+#[derive(Clone, Debug, Default, PartialEq, Eq)]
+pub struct Answer {
+    pub number: u8,
+    pub place: usize,
+    pub letter: u8,
+    pub values: Vec<usize>,
+}
+
+impl Answer {
+    pub fn of_values(values: impl Into<Vec<usize>>) -> Self {
+        Answer {
+            values: values.into(),
+            ..Answer::default()
+        }
+    }
+}
+
+impl From<Refusal> for Answer {
+    fn from(refusal: Refusal) -> Self {
+        Answer {
+            number: refusal.number,
+            place: refusal.place,
+            ..Answer::default()
+        }
+    }
+}
+
+/// As the vectors write it, but for the word before the values.
+impl fmt::Display for Answer {
+    fn fmt(&self, f: &mut fmt::Formatter) -> fmt::Result {
+        if self.number == 0 {
+            let values: Vec<String> = self.values.iter().map(usize::to_string).collect();
+            return write!(f, "{}", values.join(" "));
+        }
+        write!(f, "refused {} {}", self.number, self.place)?;
+        match self.letter {
+            0 => Ok(()),
+            letter => write!(f, " {}", char::from(letter)),
+        }
+    }
+}
+
+/// An answer as the proved code hands it over: `Answer` of the crate `testing`.
+#[repr(C)]
+pub struct Handed {
+    number: u32,
+    letter: u8,
+    place: usize,
+    first: usize,
+    second: usize,
+}
+
+impl Handed {
+    /// The answer of an entry that has so many values, at most 2.
+    pub fn with_values(self, count: usize) -> Answer {
+        let number = u8::try_from(self.number).expect("a number of the paper");
+        let count = if number == 0 { count } else { 0 };
+        let values = [self.first, self.second];
+        assert!(values[count..].iter().all(|value| *value == 0));
+        Answer {
+            number,
+            place: self.place,
+            letter: self.letter,
+            values: values[..count].to_vec(),
+        }
+    }
+}

@@ -1,0 +1,107 @@
+//! The paper's own examples of refusals, and its small table.
+
+use product::answer::Answer;
+use product::common::{lines, SMALL_TOWER};
+use product::{follow, table, tower};
+use reference::{make, Refusal};
+
+/// The small tower with one byte changed.
+fn small_tower_with(at: usize, byte: u8) -> Vec<u8> {
+    let mut file = SMALL_TOWER.to_vec();
+    file[at] = byte;
+    file
+}
+
+/// Outcome 1 of the paper's table, 50 bytes.
+fn small_table() -> Vec<u8> {
+    let book = lines(&["always !p0 | E 3 p1", "always !p0 | E 3 p2"]);
+    make::make(&SMALL_TOWER, &book, 50).expect("the paper's table")
+}
+
+fn refused(number: u8) -> Answer {
+    Refusal::new(number).into()
+}
+
+#[test]
+fn the_small_tower_is_fit() {
+    assert_eq!(tower::read(&SMALL_TOWER), Answer::default());
+    let header = [
+        (tower::Field::States, 3),
+        (tower::Field::Actions, 4),
+        (tower::Field::Marks, 3),
+    ];
+    for (field, value) in header {
+        assert_eq!(tower::field(&SMALL_TOWER, field, 0, 0), value);
+    }
+}
+
+#[test]
+fn seven_bytes_are_1() {
+    assert_eq!(tower::read(&SMALL_TOWER[..7]), refused(1));
+}
+
+#[test]
+fn no_states_are_2() {
+    assert_eq!(tower::read(&small_tower_with(0, 0)), refused(2));
+}
+
+#[test]
+fn an_action_without_length_is_3() {
+    let file = small_tower_with(8, 0);
+    assert_eq!(file[8..10], [0x00, 0x01]);
+    assert_eq!(tower::read(&file), refused(3));
+}
+
+#[test]
+fn target_3_of_3_is_4() {
+    assert_eq!(tower::read(&small_tower_with(18, 3)), refused(4));
+}
+
+#[test]
+fn mark_3_of_3_is_5() {
+    let file = small_tower_with(16, 8);
+    assert_eq!(file[16..18], [0x08, 0x00]);
+    assert_eq!(tower::read(&file), refused(5));
+}
+
+#[test]
+fn target_row_5_of_5_is_13() {
+    let mut file = small_table();
+    assert!(table::laid_out(&file));
+    file[33] = 5;
+    assert!(!table::laid_out(&file));
+    assert_eq!(follow::follow(&file, 0, 0), refused(13));
+}
+
+#[test]
+fn row_5_of_5_is_17() {
+    assert_eq!(follow::follow(&small_table(), 5, 0), refused(17));
+}
+
+#[test]
+fn action_0_in_row_3_is_18() {
+    assert_eq!(follow::follow(&small_table(), 3, 0), refused(18));
+}
+
+/// The paper's listing: in each row the actions that are allowed, with their target rows.
+#[test]
+fn the_small_table_is_followed_as_listed() {
+    let file = small_table();
+    assert_eq!(file.len(), 50);
+    let listing: [&[(usize, usize)]; 5] = [
+        &[(0, 1), (2, 2)],
+        &[(1, 3)],
+        &[(3, 4)],
+        &[(2, 2)],
+        &[(0, 1)],
+    ];
+    for (row, steps) in listing.iter().enumerate() {
+        for action in 0..4 {
+            let expected = match steps.iter().find(|step| step.0 == action) {
+                Some((_, target)) => Answer::of_values([*target]),
+                None => refused(18),
+            };
+            assert_eq!(follow::follow(&file, row, action), expected);
+        }
+    }
+}
