@@ -1,20 +1,28 @@
 -- What bytes that are laid out as a table file say, for those who read them: the header, every row and every step are in range, and
 -- the moves of the table are what the steps say.
 use Prim.Native.Nat.{ℕ, zero, suc, _+_, _≤_, _<_}
-use mathlib.Core.Path.{_≡_, refl, sym, _∙_}
-use mathlib.Core.Bool.{Bool, true}
+use mathlib.Core.Path.{_≡_, refl, sym, _∙_, ap}
+use mathlib.Core.Logic.{_⊎_, inl, inr}
+use mathlib.Core.Bool.{Bool, true, false, _&&_, not}
 use mathlib.Core.Option.{Option, none, some}
 use mathlib.Core.List.{List, [], map}
 use native.Mathlib.Omega.{arith}
 use native.Mathlib.Decide.{decLt, ℕ-discrete}
 use lib.ListN.{length, List·getD-eq-default}
+use lib.Dec.{eqb}
 use borrow.Author.Tests.{eqb-true, eq-eqb, ne-eqb}
 use Rattle.base.specs.Lists.{count-from}
-use Rattle.base.proofs.Lists.{and-left}
+use Rattle.base.specs.Answers.{give, refuse, _if_else_}
+use Rattle.base.specs.declared.Refusal.the-variants.{Layout}
+use Rattle.base.proofs.Lists.{and-left, and-right, and-fails}
+use Rattle.base.proofs.Answers.{if-on, if-refuses}
+use Rattle.logic.specs.Tower.{Tower}
 use Rattle.logic.specs.Tables.{Step, row-at, step-to, move}
-use Rattle.reading.specs.TableReading.{rows-of, steps-of, table-states, table-actions, row-state, row-count, row-first, step-place, step-action, step-target, header-right, steps-right, rows-right, laid-out, step-of, row-of-table, table-of}
+use Rattle.reading.specs.TableReading.{rows-of, steps-of, table-states, table-actions, row-state, row-count, row-first, step-place, step-action, step-target, header-right, steps-right, rows-right, laid-out, step-of, row-of-table, table-of, read-table}
 use Rattle.reading.proofs.TableHeader.{HeaderFits, header-out}
 use Rattle.reading.proofs.LaidOut.{steps-right-out, rows-right-out, laid-out-rows, length-table-of, row-of-table-at}
+use Rattle.reading.proofs.FitInput.{laid-out-read}
+use Rattle.table_reader.specs.Layout.{laid-out-for}
 use Rattle.table_reader.specs.Moves.{target-read}
 use Rattle.table_reader.specs.declared.Target.{Target}
 use Rattle.table_reader.specs.declared.Target.the-variants.{Row, Nothing}
@@ -201,3 +209,34 @@ pub target-nothing : (o : Option ℕ) (answer : Target) → answer ≡ target-re
 unfolding target-read
 target-nothing none answer e f = refl
 target-nothing (some s) answer e f = cc
+
+-- ---- a table for a tower
+
+-- Bytes that are laid out for a tower are read as their table.
+pub laid-for-read : (tower : Tower) (bytes : List ℕ) → laid-out-for bytes (tower .states) (tower .actions) ≡ true
+    → read-table tower bytes ≡ give (table-of bytes)
+unfolding laid-out-for
+laid-for-read tower bytes e =
+    let same = and-right (laid-out bytes) (eqb (table-states bytes) (tower .states) && eqb (table-actions bytes) (tower .actions)) e in
+    laid-out-read tower bytes
+    (and-left (laid-out bytes) (eqb (table-states bytes) (tower .states) && eqb (table-actions bytes) (tower .actions)) e)
+    (eqb-true (table-states bytes) (tower .states) (and-left (eqb (table-states bytes) (tower .states)) (eqb (table-actions bytes) (tower .actions)) same))
+    (eqb-true (table-actions bytes) (tower .actions) (and-right (eqb (table-states bytes) (tower .states)) (eqb (table-actions bytes) (tower .actions)) same))
+
+-- Others are refused with 13.
+pub not-laid-for-read : (tower : Tower) (bytes : List ℕ) → laid-out-for bytes (tower .states) (tower .actions) ≡ false
+    → read-table tower bytes ≡ refuse Layout
+unfolding laid-out-for read-table
+not-laid-for-read tower bytes e =
+    go (and-fails (laid-out bytes) (eqb (table-states bytes) (tower .states) && eqb (table-actions bytes) (tower .actions)) e)
+  where
+    go : (laid-out bytes ≡ false) ⊎ ((eqb (table-states bytes) (tower .states) && eqb (table-actions bytes) (tower .actions)) ≡ false)
+        → read-table tower bytes ≡ refuse Layout
+    go (inl f) = if-refuses Layout _ (ap not f)
+    go (inr f) = both (not (laid-out bytes)) (ap not f)
+      where
+        both : (b : Bool) → not (eqb (table-states bytes) (tower .states) && eqb (table-actions bytes) (tower .actions)) ≡ true
+            → (Layout if b else (Layout if not (eqb (table-states bytes) (tower .states) && eqb (table-actions bytes) (tower .actions)) else give (table-of bytes)))
+            ≡ refuse Layout
+        both true g = if-refuses Layout _ refl
+        both false g = if-on Layout _ refl ∙ if-refuses Layout _ g

@@ -18,7 +18,7 @@ use Rattle.logic.specs.Tables.{step-to, move}
 use Rattle.logic.specs.TableFile.{most-rows, rows-at, row-size, step-size, steps-at}
 use Rattle.reading.specs.TableReading.{rows-of, steps-of, table-states, table-actions, row-state, row-count, row-first, step-place, step-action, step-target, header-right, steps-right, rows-right, laid-out, table-of}
 use Rattle.reading.proofs.TableHeader.{header-out}
-use Rattle.table_reader.specs.Layout.{counts-right, places-right, step-right, row-right}
+use Rattle.table_reader.specs.Layout.{laid-out-for, counts-right, places-right, step-right, row-right}
 use Rattle.table_reader.specs.Moves.{target-read}
 use Rattle.table_reader.specs.declared.Target.the-variants.{Row, Nothing}
 use Rattle.table_reader.proofs.Laws.{rows-within, laid-out-known, steps-from, move-read, step-to-here, step-to-next}
@@ -357,3 +357,21 @@ module _ (bytes : List ℕ) (row a end i : ℕ) (left : SearchLeft bytes row a e
   pub search-end : end ≤ i → Nothing ≡ target-read (move (table-of bytes) row a)
   unfolding target-read count-from step-to
   search-end h = let e : end - i ≡ 0 = omega arith in rw (← left .same, e)
+
+-- ---- laid out for a tower
+
+pub not-laid-for : (bytes : List ℕ) (s a : ℕ) (b : Bool) → b ≡ laid-out bytes → b ≡ false → false ≡ laid-out-for bytes s a
+unfolding laid-out-for
+not-laid-for bytes s a b e f = sym (and-fails-left (eqb (table-states bytes) s && eqb (table-actions bytes) a) (sym e ∙ f))
+
+pub other-states : (bytes : List ℕ) (s a n : ℕ) → n ≡ table-states bytes → (n ≡ s → ⊥) → false ≡ laid-out-for bytes s a
+unfolding laid-out-for
+other-states bytes s a n e f =
+    sym (and-fails-right (laid-out bytes)
+    (and-fails-left (eqb (table-actions bytes) a) (ap (λ z. eqb z s) (sym e) ∙ ne-eqb n s f)))
+
+pub other-actions : (bytes : List ℕ) (s a n m : ℕ) (b : Bool) → b ≡ laid-out bytes → b ≡ true → n ≡ table-states bytes → n ≡ s
+    → m ≡ table-actions bytes → eqb m a ≡ laid-out-for bytes s a
+unfolding laid-out-for
+other-actions bytes s a n m b e f g h k =
+    sym (rw (← e, f, ← g, ← k, eq-eqb n s h))

@@ -7,7 +7,7 @@ use lib.Dec.{leb, ltb, eqb}
 use Rattle.base.specs.Bytes.{number-at}
 use Rattle.logic.specs.Tower.{most-states, most-actions, in-range}
 use Rattle.logic.specs.TableFile.{most-rows, rows-at, steps-at}
-use Rattle.reading.specs.TableReading.{rows-of, steps-of, table-states, table-actions, row-state, row-count, row-first, step-place, step-action, step-target, steps-right}
+use Rattle.reading.specs.TableReading.{rows-of, steps-of, table-states, table-actions, row-state, row-count, row-first, step-place, step-action, step-target, steps-right, laid-out}
 
 -- the header's counts: rows, S and A are in range
 unfoldable pub counts-right : List ℕ → Bool
@@ -34,3 +34,7 @@ row-right bytes first r =
     ltb (row-state bytes r) (table-states bytes)
     && eqb (row-first bytes r) first
     && steps-right bytes 0 first (row-count bytes r)
+
+-- laid out, with the S and A of a tower
+unfoldable pub laid-out-for : List ℕ → ℕ → ℕ → Bool
+laid-out-for bytes s a = laid-out bytes && (eqb (table-states bytes) s && eqb (table-actions bytes) a)

@@ -9,7 +9,7 @@ ghost use Rattle.logic.specs.Tower.{state-width, in-range};
 ghost use Rattle.logic.specs.Tables.{move};
 ghost use Rattle.logic.specs.TableFile.{rows-at};
 ghost use Rattle.reading.specs.TableReading.{rows-of, steps-of, table-states, table-actions, row-state, row-count, row-first, step-place, step-action, step-target, header-right, steps-right, rows-right, laid-out, table-of};
-ghost use Rattle.table_reader.specs.Layout.{counts-right, places-right, step-right, row-right};
+ghost use Rattle.table_reader.specs.Layout.{counts-right, places-right, step-right, row-right, laid-out-for};
 ghost use Rattle.table_reader.specs.Moves.{target-read};
 
 // The places of the six two-byte numbers in the header.
@@ -293,6 +293,19 @@ pub fn laid_out(bytes: &[u8]) -> bool
         return false;
     }
     rows_right(bytes)
+}
+
+// The bytes are laid out as a table file for a tower of s states and a actions.
+pub fn laid_out_for(bytes: &[u8], s: usize, a: usize) -> bool
+    ensures { λ r. ⌜ r ≡ laid-out-for (now (bytes .entry)) s a ⌝ }
+{
+    if !laid_out(bytes) {
+        return false;
+    }
+    if states(bytes) != s {
+        return false;
+    }
+    actions(bytes) == a
 }
 
 // ---- moves
