@@ -1,8 +1,10 @@
 // Inner functions for tests and benchmarks in other languages, which no product links. An enum
-// cannot cross, so an answer crosses as numbers. None of these functions requires anything: each
-// tests what the function below it requires, and answers NOTHING where that does not hold.
+// cannot cross, so an answer crosses as numbers. None of these functions but those of `runs`
+// requires anything: each tests what the function below it requires, and answers NOTHING where that
+// does not hold.
 mod answer;
 mod follow;
+mod runs;
 mod table;
 mod tower;
 

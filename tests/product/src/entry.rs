@@ -20,7 +20,10 @@ pub trait Entry {
     /// The numbers of the refusals that the entry can answer, 15 apart.
     const REFUSALS: &'static [u8];
 
-    /// The files of vectors whose lines have cases for this entry.
+    /// What else has to come, and of how many cases at least one.
+    const KINDS: &'static [(&'static str, usize)] = &[];
+
+    /// The files of vectors whose lines have cases for this entry, if there are any.
     const FILES: &'static [&'static str];
 
     fn proved(case: &Self::Case) -> Answer;
@@ -32,6 +35,11 @@ pub trait Entry {
 
     fn accepted(answer: &Answer) -> bool {
         answer.number == 0
+    }
+
+    /// The kinds of a case, by the reference's answer.
+    fn kinds(_: &Self::Case, _: &Answer) -> Vec<&'static str> {
+        Vec::new()
     }
 
     /// The case of a line of vectors, from its inputs.
@@ -50,6 +58,7 @@ pub trait Test {
 struct Tally {
     name: &'static str,
     numbers: BTreeMap<u8, usize>,
+    kinds: BTreeMap<&'static str, usize>,
     accepted: usize,
     wrong: usize,
 }
@@ -59,6 +68,7 @@ impl Tally {
         Tally {
             name,
             numbers: BTreeMap::new(),
+            kinds: BTreeMap::new(),
             accepted: 0,
             wrong: 0,
         }
@@ -76,6 +86,9 @@ impl Tally {
             self.note_wrong(format!("{case} = {reference}, and not {proved}"));
         }
         *self.numbers.entry(reference.number).or_default() += 1;
+        for kind in E::kinds(case, &reference) {
+            *self.kinds.entry(kind).or_default() += 1;
+        }
         self.accepted += usize::from(E::accepted(&reference));
         proved
     }
@@ -96,6 +109,9 @@ impl Tally {
         for (number, count) in &self.numbers {
             println!("    {number:>2}: {count}");
         }
+        for (kind, count) in &self.kinds {
+            println!("    {kind}: {count}");
+        }
     }
 }
 
@@ -104,6 +120,9 @@ pub struct Vectors;
 
 impl Test for Vectors {
     fn on<E: Entry>(&self) -> bool {
+        if E::FILES.is_empty() {
+            return true;
+        }
         let mut tally = Tally::new(E::NAME);
         for file in E::FILES {
             let folder = Path::new(env!("CARGO_MANIFEST_DIR")).join("../vectors");
@@ -144,11 +163,18 @@ impl Test for Generated {
         if !rare.is_empty() {
             println!("    came fewer than {LEAST} times: {rare:?}");
         }
+        let kind_count = |kind: &str| tally.kinds.get(kind).copied().unwrap_or(0);
+        let seldom = E::KINDS.iter();
+        let seldom = seldom.filter(|(kind, within)| within * kind_count(kind) < tally.cases());
+        let seldom: Vec<_> = seldom.collect();
+        if !seldom.is_empty() {
+            println!("    came fewer than once in so many cases: {seldom:?}");
+        }
         let few = 3 * tally.accepted < tally.cases();
         if few {
             println!("    fewer than a third are accepted");
         }
-        tally.wrong == 0 && rare.is_empty() && !few
+        tally.wrong == 0 && rare.is_empty() && seldom.is_empty() && !few
     }
 }
 

@@ -9,6 +9,7 @@ pub mod common;
 pub mod edits;
 pub mod entry;
 pub mod follow;
+pub mod runs;
 pub mod table;
 pub mod tables;
 pub mod tower;
@@ -22,6 +23,7 @@ pub fn for_each_entry(test: impl Test) -> bool {
         test.on::<tower::Tower>(),
         test.on::<table::Table>(),
         test.on::<follow::Follow>(),
+        test.on::<runs::Runs>(),
     ];
     passed.iter().all(|passed| *passed)
 }

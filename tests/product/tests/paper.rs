@@ -1,9 +1,11 @@
-//! The paper's own examples of refusals, and its small table.
+//! The paper's own examples of refusals, its small table, and runs of the small tower.
 
 use product::answer::Answer;
 use product::common::{lines, SMALL_TOWER};
+use product::entry::{Entry, NOTHING};
+use product::runs::{Case, Runs};
 use product::{follow, table, tower};
-use reference::{make, Refusal};
+use reference::{book, make, Refusal};
 
 /// The small tower with one byte changed.
 fn small_tower_with(at: usize, byte: u8) -> Vec<u8> {
@@ -104,4 +106,40 @@ fn the_small_table_is_followed_as_listed() {
             assert_eq!(follow::follow(&file, row, action), expected);
         }
     }
+}
+
+/// How many actions the first broken beginning of a run has, by the proved progression.
+fn first_broken(line: &str, run: &[usize]) -> usize {
+    let case = Case {
+        tower: reference::tower::parse(&SMALL_TOWER).expect("the small tower"),
+        book: book::read(3, &lines(&[line])).expect("a book"),
+        run: run.to_vec(),
+    };
+    Runs::proved(&case).values[0]
+}
+
+#[test]
+fn the_last_position_is_not_judged() {
+    assert_eq!(first_broken("start F", &[]), NOTHING);
+    assert_eq!(first_broken("start F", &[0]), 1);
+}
+
+#[test]
+fn always_for_ends_with_its_bound() {
+    assert_eq!(first_broken("start A 0 p0", &[0, 1, 0]), NOTHING);
+    assert_eq!(first_broken("start A 1 p0", &[0, 1, 0]), 2);
+}
+
+#[test]
+fn within_may_end_at_its_bound() {
+    assert_eq!(first_broken("start E 1 p1", &[0, 1]), NOTHING);
+    assert_eq!(first_broken("start E 1 p1", &[2, 3]), 2);
+}
+
+/// Each visit of state 0 makes the promise again, and the first one still counts.
+#[test]
+fn the_earlier_deadline_is_kept() {
+    let line = "always !p0 | E 3 p1";
+    assert_eq!(first_broken(line, &[2, 3, 0, 1]), NOTHING);
+    assert_eq!(first_broken(line, &[2, 3, 2, 3]), 4);
 }

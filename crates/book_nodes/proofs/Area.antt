@@ -1,0 +1,291 @@
+-- The reader's state in its area: what each store makes of it.
+use Prim.Native.Nat.{ℕ, suc, _+_, _-_, _*_, _%_, _≤_, _<_, min}
+use native.Mathlib.Omega.{arith}
+use native.Mathlib.Numerals.{towards-suc}
+use mathlib.Core.Path.{_≡_, refl, sym, _∙_, ap}
+use mathlib.Core.Bool.{true, false, not}
+use mathlib.Core.List.{List, [], _∷_}
+use lib.ListN.{length, getD, set, take}
+use lib.Seq.{sets, length-sets, take-set-le, take-set-lt, getD-set-same, getD-set-other}
+use lib.Dec.{eqb, leb, ltb}
+use borrow.Author.Tests.{lt-ltb, le-ltb, le-leb, lt-leb, ne-eqb}
+use Rattle.base.specs.Bytes.{byte-at}
+use Rattle.book_nodes.specs.State.{State, state-of, put-bytes, stored, noted, noted-if, told-timed, last-node, leaf, and-node, or-node, bounded-node, until-node, mark-node, opened, Opens}
+use Rattle.reading.specs.BookReading.{most-nodes, most-ticks}
+use Rattle.reading.specs.BookArea.{node-size}
+
+-- A run of stores below a place leaves what stands from there on, and keeps within what is taken.
+take-sets : (vs : List ℕ) (n i : ℕ) (l : List ℕ) → i + length vs ≤ n → take n (sets l i vs) ≡ sets (take n l) i vs
+take-sets [] n i l le = refl
+take-sets (v ∷ vs) n i l le =
+    take-sets vs n (suc i) (set l i v) (omega arith) ∙ ap (λ (k : List ℕ). sets k (suc i) vs) (take-set-lt n l i v (omega arith))
+
+getD-sets-above : (vs : List ℕ) (i j : ℕ) (l : List ℕ) → i + length vs ≤ j → getD (sets l i vs) j 0 ≡ getD l j 0
+getD-sets-above [] i j l le = refl
+getD-sets-above (v ∷ vs) i j l le =
+    getD-sets-above vs (suc i) j (set l i v) (omega arith) ∙ getD-set-other l i j v 0 (λ e. omega arith)
+
+-- A run of stores among the nodes and lines leaves the reader's own bytes.
+pub state-sets : (vs : List ℕ) (i : ℕ) (a : List ℕ) → i + length vs ≤ 360
+    → state-of (sets a i vs)
+    ≡ record {
+      nodes = record { kept = sets (take 360 a) i vs; count = byte-at a 360 };
+      fault = byte-at a 361;
+      is-timed = byte-at a 362;
+      marks = byte-at a 363;
+    }
+unfolding state-of
+state-sets vs i a le =
+    rw (
+      take-sets vs 360 i a le,
+      getD-sets-above vs i 360 a le,
+      getD-sets-above vs i 361 a (omega arith),
+      getD-sets-above vs i 362 a (omega arith),
+      getD-sets-above vs i 363 a (omega arith),
+    )
+
+state-count : (a : List ℕ) (v : ℕ) → 512 ≤ length a
+    → state-of (set a 360 v)
+    ≡ record {
+      nodes = record { kept = take 360 a; count = v };
+      fault = byte-at a 361;
+      is-timed = byte-at a 362;
+      marks = byte-at a 363;
+    }
+unfolding state-of
+state-count a v le =
+    rw (
+      take-set-le 360 a 360 v (omega arith),
+      getD-set-same a 360 v 0 (omega arith),
+      getD-set-other a 360 361 v 0 (λ e. omega arith),
+      getD-set-other a 360 362 v 0 (λ e. omega arith),
+      getD-set-other a 360 363 v 0 (λ e. omega arith),
+    )
+
+state-fault : (a : List ℕ) (v : ℕ) → 512 ≤ length a
+    → state-of (set a 361 v)
+    ≡ record {
+      nodes = record { kept = take 360 a; count = byte-at a 360 };
+      fault = v;
+      is-timed = byte-at a 362;
+      marks = byte-at a 363;
+    }
+unfolding state-of
+state-fault a v le =
+    rw (
+      take-set-le 360 a 361 v (omega arith),
+      getD-set-other a 361 360 v 0 (λ e. omega arith),
+      getD-set-same a 361 v 0 (omega arith),
+      getD-set-other a 361 362 v 0 (λ e. omega arith),
+      getD-set-other a 361 363 v 0 (λ e. omega arith),
+    )
+
+-- Whether the formula read last is timed is stored.
+pub state-timed : (a : List ℕ) (v : ℕ) → 512 ≤ length a → state-of (set a 362 v) ≡ told-timed v (state-of a)
+unfolding state-of told-timed
+state-timed a v le =
+    rw (
+      take-set-le 360 a 362 v (omega arith),
+      getD-set-other a 362 360 v 0 (λ e. omega arith),
+      getD-set-other a 362 361 v 0 (λ e. omega arith),
+      getD-set-same a 362 v 0 (omega arith),
+      getD-set-other a 362 363 v 0 (λ e. omega arith),
+    )
+
+-- The number of marks is stored.
+pub state-marks : (a : List ℕ) (v : ℕ) → 512 ≤ length a
+    → state-of (set a 363 v)
+    ≡ record {
+      nodes = record { kept = take 360 a; count = byte-at a 360 };
+      fault = byte-at a 361;
+      is-timed = byte-at a 362;
+      marks = v;
+    }
+unfolding state-of
+state-marks a v le =
+    rw (
+      take-set-le 360 a 363 v (omega arith),
+      getD-set-other a 363 360 v 0 (λ e. omega arith),
+      getD-set-other a 363 361 v 0 (λ e. omega arith),
+      getD-set-other a 363 362 v 0 (λ e. omega arith),
+      getD-set-same a 363 v 0 (omega arith),
+    )
+
+-- ---- one more node
+
+pub put-full : (a : List ℕ) (bytes : List ℕ) → 512 ≤ length a → 60 ≤ getD a 360 0 → state-of (set a 360 61) ≡ stored bytes (state-of a)
+unfolding stored put-bytes most-nodes
+put-full a bytes le full = state-count a 61 le ∙ sym (go full)
+  where
+    go : 60 ≤ getD a 360 0 → stored bytes (state-of a)
+        ≡ record {
+          nodes = record { kept = take 360 a; count = 61 };
+          fault = byte-at a 361;
+          is-timed = byte-at a 362;
+          marks = byte-at a 363;
+        }
+    go h = let t = le-ltb (byte-at a 360) 60 h in unfold state-of in rw t
+
+put-bytes-at : (a vs : List ℕ) (n at : ℕ) → length vs ≡ 4 → n ≡ getD a 360 0 → n < 60 → at ≡ 4 * n
+    → record {
+      nodes = record { kept = take 360 (sets a at vs); count = n + 1 };
+      fault = byte-at (sets a at vs) 361;
+      is-timed = byte-at (sets a at vs) 362;
+      marks = byte-at (sets a at vs) 363;
+    }
+    ≡ stored vs (state-of a)
+unfolding state-of stored put-bytes most-nodes node-size
+put-bytes-at a vs n at four e lt f =
+    rw (
+      take-sets vs 360 at a (omega arith),
+      getD-sets-above vs at 361 a (omega arith),
+      getD-sets-above vs at 362 a (omega arith),
+      getD-sets-above vs at 363 a (omega arith),
+      ← e,
+      lt-ltb n 60 lt,
+      f,
+    )
+
+pub put-room : (a : List ℕ) (code number first second w : ℕ) → 512 ≤ length a → w ≡ getD a 360 0 → getD a 360 0 < 60
+    → state-of (set (set (set (set (set a (4 * w) code) (4 * w + 1) number) (4 * w + 2) first) (4 * w + 3) second) 360 (getD a 360 0 + 1))
+    ≡ stored (code ∷ number ∷ first ∷ second ∷ []) (state-of a)
+put-room a code number first second w le e lt = go (4 * w) (ap (λ (k : ℕ). 4 * k) e)
+  where
+    go : (at : ℕ) → at ≡ 4 * getD a 360 0
+        → state-of (set (set (set (set (set a at code) (at + 1) number) (at + 2) first) (at + 3) second) 360 (getD a 360 0 + 1))
+        ≡ stored (code ∷ number ∷ first ∷ second ∷ []) (state-of a)
+    go at f =
+        let vs : List ℕ = code ∷ number ∷ first ∷ second ∷ [] in
+        let inner : set (set (set (set a at code) (at + 1) number) (at + 2) first) (at + 3) second ≡ sets a at vs = simp towards-suc in
+        ap (λ (l : List ℕ). state-of (set l 360 (getD a 360 0 + 1))) inner
+        ∙ state-count (sets a at vs) (getD a 360 0 + 1) (omega (arith, length-sets a at vs))
+        ∙ put-bytes-at a vs (getD a 360 0) at refl refl lt f
+
+-- ---- notes
+
+fault-noted : (a : List ℕ) (k : ℕ) → min k (byte-at a 361) ≡ k
+    → noted k (state-of a)
+    ≡ record {
+      nodes = record { kept = take 360 a; count = byte-at a 360 };
+      fault = k;
+      is-timed = byte-at a 362;
+      marks = byte-at a 363;
+    }
+unfolding noted state-of
+fault-noted a k e = rw e
+
+pub note-less : (a : List ℕ) (k : ℕ) → 512 ≤ length a → k < getD a 361 0 → state-of (set a 361 k) ≡ noted k (state-of a)
+note-less a k le lt = state-fault a k le ∙ sym (fault-noted a k (omega arith))
+
+pub note-more : (a : List ℕ) (k : ℕ) → getD a 361 0 ≤ k → state-of a ≡ noted k (state-of a)
+unfolding noted state-of
+note-more a k h = let m : min k (getD a 361 0) ≡ getD a 361 0 = omega arith in rw m
+
+pub timed-not : (a : List ℕ) (t : ℕ) → t ≡ state-of a .is-timed → t ≡ 0
+    → state-of a ≡ noted-if (not (eqb (state-of a .is-timed) 0)) 10 (state-of a)
+unfolding noted-if
+timed-not a t e f = rw (← e, f)
+
+pub timed-noted : (a z : List ℕ) (t : ℕ) → t ≡ state-of a .is-timed → (t ≡ 0 → ⊥) → state-of z ≡ noted 10 (state-of a)
+    → state-of z ≡ noted-if (not (eqb (state-of a .is-timed) 0)) 10 (state-of a)
+unfolding noted-if
+timed-noted a z t e n f = rw (ne-eqb (state-of a .is-timed) 0 (λ g. n (e ∙ g))) f
+
+pub number-small : (a : List ℕ) (amount : ℕ) → amount ≤ 254 → state-of a ≡ noted-if (ltb 254 amount) 7 (state-of a)
+unfolding noted-if
+number-small a amount le = rw (le-ltb 254 amount le)
+
+pub number-noted : (a z : List ℕ) (amount : ℕ) → 254 < amount → state-of z ≡ noted 7 (state-of a) → state-of z ≡ noted-if (ltb 254 amount) 7 (state-of a)
+unfolding noted-if
+number-noted a z amount lt f = rw (lt-ltb 254 amount lt) f
+
+-- ---- reading
+
+pub timed-read : (a : List ℕ) → getD a 362 0 ≡ state-of a .is-timed
+unfolding state-of
+timed-read a = refl
+
+pub last-none : (a : List ℕ) (n : ℕ) → n ≡ getD a 360 0 → n ≡ 0 → 0 ≡ last-node (state-of a)
+unfolding state-of last-node
+last-none a n e f = omega arith
+
+pub last-one : (a : List ℕ) (n : ℕ) → n ≡ getD a 360 0 → n - 1 ≡ last-node (state-of a)
+unfolding state-of last-node
+last-one a n e = rw e
+
+-- ---- nodes
+
+pub leaf-stored : (a y z : List ℕ) (code number : ℕ) → state-of y ≡ stored (code ∷ number ∷ 0 ∷ 0 ∷ []) (state-of a)
+    → state-of z ≡ told-timed 0 (state-of y) → state-of z ≡ leaf code number (state-of a)
+unfolding leaf
+leaf-stored a y z code number e f = f ∙ ap (told-timed 0) e
+
+pub and-untimed : (a z : List ℕ) (first t second : ℕ) → second ≡ last-node (state-of a)
+    → state-of z ≡ stored (4 ∷ 0 ∷ first ∷ second ∷ []) (state-of a) → t ≡ 0 → state-of z ≡ and-node first t (state-of a)
+unfolding and-node stored told-timed
+and-untimed a z first t second e f g = rw g (f ∙ rw e)
+
+pub and-timed : (a y z : List ℕ) (first t second : ℕ) → second ≡ last-node (state-of a)
+    → state-of y ≡ stored (4 ∷ 0 ∷ first ∷ second ∷ []) (state-of a) → (t ≡ 0 → ⊥) → state-of z ≡ told-timed 1 (state-of y)
+    → state-of z ≡ and-node first t (state-of a)
+unfolding and-node
+and-timed a y z first t second e f n g = rw (ne-eqb t 0 n, ← e) (g ∙ ap (told-timed 1) f)
+
+pub or-untimed : (a z : List ℕ) (first t second : ℕ) → second ≡ last-node (state-of a) → t ≡ 0
+    → state-of z ≡ stored (6 ∷ 0 ∷ first ∷ second ∷ []) (state-of a) → state-of z ≡ or-node first t (state-of a)
+unfolding or-node
+or-untimed a z first t second e g f = rw (g, ← e) f
+
+stored-timed : (bytes : List ℕ) (st : State) → stored bytes st .is-timed ≡ st .is-timed
+unfolding stored
+stored-timed bytes st = refl
+
+pub or-timed : (a x y z : List ℕ) (first t second : ℕ) → second ≡ last-node (state-of a) → (t ≡ 0 → ⊥)
+    → state-of x ≡ stored (5 ∷ 0 ∷ first ∷ second ∷ []) (state-of a)
+    → state-of y ≡ noted-if (not (eqb (state-of x .is-timed) 0)) 10 (state-of x) → state-of z ≡ told-timed 1 (state-of y)
+    → state-of z ≡ or-node first t (state-of a)
+unfolding or-node
+or-timed a x y z first t second e n f g h =
+    rw (ne-eqb t 0 n, ← e, h, g, f, stored-timed (5 ∷ 0 ∷ first ∷ second ∷ []) (state-of a))
+
+pub bounded-stored : (a x y z : List ℕ) (code amount first second : ℕ) → second ≡ last-node (state-of a)
+    → state-of x ≡ noted-if (ltb 254 amount) 7 (state-of a) → state-of y ≡ stored (code ∷ amount % 256 ∷ first ∷ second ∷ []) (state-of x)
+    → state-of z ≡ told-timed 1 (state-of y) → state-of z ≡ bounded-node code amount first (state-of a)
+unfolding bounded-node most-ticks
+bounded-stored a x y z code amount first second e f g h = rw (h, g, f, e)
+
+pub until-stored : (a y z : List ℕ) (amount first : ℕ) → state-of y ≡ noted-if (not (eqb (state-of a .is-timed) 0)) 10 (state-of a)
+    → state-of z ≡ bounded-node 12 amount first (state-of y) → state-of z ≡ until-node amount first (state-of a)
+unfolding until-node
+until-stored a y z amount first e f = rw (f, e)
+
+marks-above : (a : List ℕ) (value w : ℕ) → w ≡ getD a 363 0 → value < w → leb (state-of a .marks) value ≡ false
+unfolding state-of
+marks-above a value w e lt = lt-leb (getD a 363 0) value (omega arith)
+
+marks-within : (a : List ℕ) (value w : ℕ) → w ≡ getD a 363 0 → w ≤ value → leb (state-of a .marks) value ≡ true
+unfolding state-of
+marks-within a value w e le = le-leb (getD a 363 0) value (omega arith)
+
+pub mark-known : (a : List ℕ) (value w : ℕ) → w ≡ getD a 363 0 → value < w
+    → state-of a ≡ noted-if (leb (state-of a .marks) value) 8 (state-of a)
+unfolding noted-if
+mark-known a value w e lt = let h : leb (state-of a .marks) value ≡ false = marks-above a value w e lt in rw h
+
+pub mark-noted : (a z : List ℕ) (value w : ℕ) → w ≡ getD a 363 0 → w ≤ value → state-of z ≡ noted 8 (state-of a)
+    → state-of z ≡ noted-if (leb (state-of a .marks) value) 8 (state-of a)
+unfolding noted-if
+mark-noted a z value w e le f = let h : leb (state-of a .marks) value ≡ true = marks-within a value w e le in rw h f
+
+pub mark-stored : (a y z : List ℕ) (code value : ℕ) → state-of y ≡ noted-if (leb (state-of a .marks) value) 8 (state-of a)
+    → state-of z ≡ leaf code (value % 256) (state-of y) → state-of z ≡ mark-node code value (state-of a)
+unfolding mark-node
+mark-stored a y z code value e f = rw (f, e)
+
+pub opens-none : (room : ℕ) (a z : List ℕ) → room ≡ 0 → state-of z ≡ noted 9 (state-of a) → Opens 0 room a z
+unfolding opened noted-if
+opens-none room a z e f = record { inner = omega arith; state = rw e f }
+
+pub opens-some : (room : ℕ) (a : List ℕ) → (room ≡ 0 → ⊥) → Opens (room - 1) room a a
+unfolding opened noted-if
+opens-some room a n = record { inner = refl; state = rw (ne-eqb room 0 n) }

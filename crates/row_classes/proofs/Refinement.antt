@@ -1,0 +1,155 @@
+-- Partition refinement: a pass keeps together what no action ever tells apart, and where it parts nothing the classes are the right ones.
+use Prim.Native.Nat.{ℕ, zero, suc, _+_, _-_, _≤_, _<_}
+use native.Mathlib.Omega.{arith}
+use native.Mathlib.Decide.{decLt}
+use mathlib.Core.Path.{_≡_, refl, sym, ap, _∙_, subst}
+use mathlib.Core.Bool.{Bool, true, false}
+use mathlib.Core.Option.{Option, none, some}
+use mathlib.Core.List.{List}
+use lib.Dec.{eqb}
+use borrow.Author.Tests.{eq-eqb}
+use Rattle.base.specs.Choice.{pick}
+use Rattle.base.specs.Lists.{same-option}
+use Rattle.base.proofs.Lists.{never-both, whether}
+use Rattle.pair_graph.specs.Graph.{Move, not-enabled, broken, to, Graph, allowed-to, AlikeNow, Kept, Classes}
+use Rattle.pair_graph.specs.Steps.{move-at}
+use Rattle.row_classes.specs.View.{kept-in, state-in, class-in, pairs-graph, shown, shows-in, view-of, Alike}
+use Rattle.row_classes.specs.Passes.{Numbered}
+
+-- What an allowed step leads to is kept.
+allowed-out : (kept : ℕ → Bool) (m : Move) (j : ℕ) → allowed-to kept m ≡ some j → (m ≡ to j) × (kept j ≡ true)
+unfolding allowed-to
+allowed-out kept not-enabled j e = let z : _≡_ {A = ℕ} 0 1 = cc in absurd (omega arith)
+allowed-out kept broken j e = let z : _≡_ {A = ℕ} 0 1 = cc in absurd (omega arith)
+allowed-out kept (to k) j e = go (kept k) refl e
+  where
+    go : (b : Bool) → kept k ≡ b → pick b (λ _. some k) (λ _. none) ≡ some j → (to k ≡ to j) × (kept j ≡ true)
+    go true p f = let same : k ≡ j = cc in (ap to same, ap kept (sym same) ∙ p)
+    go false p f = let z : _≡_ {A = ℕ} 0 1 = cc in absurd (omega arith)
+
+-- The second half of `Classes`: two pairs that are never told apart are of one class.
+pub record Coarse (graph : Graph) (kept : ℕ → Bool) (class : ℕ → ℕ) : Type 0 where
+  pub coarsest : (same : ℕ → ℕ → Bool)
+      → ((i j : ℕ) → Kept graph kept i → Kept graph kept j → same i j ≡ true → AlikeNow graph kept same i j)
+      → (i j : ℕ) → Kept graph kept i → Kept graph kept j → same i j ≡ true → class i ≡ class j
+
+-- Equal classes are as coarse.
+pub coarse-along : {graph : Graph} {kept : ℕ → Bool} {class : ℕ → ℕ} (other : ℕ → ℕ) → Coarse graph kept class
+    → ((k : ℕ) → k < graph .pairs → other k ≡ class k) → Coarse graph kept other
+coarse-along other c same =
+    record { coarsest = λ s now i j ki kj e. same i (ki .there) ∙ c .coarsest s now i j ki kj e ∙ sym (same j (kj .there)) }
+
+-- Every allowed step of a kept pair leads to one of the pairs.
+pub record Closed (steps flags : List ℕ) (actions n : ℕ) : Type 0 where
+  pub targets : (i a j : ℕ) → i < n → kept-in flags i ≡ true → a < actions → move-at steps i a ≡ to j → j < n
+
+module _ (steps flags entries : List ℕ) (actions n : ℕ) (kind : ℕ → ℕ) where
+  -- the graph and its kept pairs
+  abbrev graph : Graph
+  graph = pairs-graph steps entries actions n kind
+
+  abbrev KeptHere : ℕ → Type 0
+  KeptHere i = Kept graph (kept-in flags) i
+
+  abbrev step : ℕ → ℕ → Option ℕ
+  step i a = allowed-to (kept-in flags) (move-at steps i a)
+
+  led-kept : Closed steps flags actions n → (i a j : ℕ) → KeptHere i → a < actions → step i a ≡ some j → KeptHere j
+  led-kept closed i a j k l e =
+      let (m, p) = allowed-out (kept-in flags) (move-at steps i a) j e in
+      record { there = closed .targets i a j (k .there) (k .is-kept) l m; is-kept = p }
+
+  -- All in one class: nothing is parted.
+  pub coarse-start : (class : ℕ → ℕ) → ((i : ℕ) → i < n → class i ≡ 0) → Coarse graph (kept-in flags) class
+  coarse-start class zeros =
+      record { coarsest = λ same now i j ki kj e. zeros i (ki .there) ∙ sym (zeros j (kj .there)) }
+
+  module _ (closed : Closed steps flags actions n) (old : List ℕ) (new class : ℕ → ℕ)
+      (numbered : Numbered (view-of steps flags entries actions old) new n)
+      (taken : (i : ℕ) → i < n → kept-in flags i ≡ true → class i ≡ new i) where
+    -- A pass parts no two pairs that are never told apart.
+    pub coarse-pass : Coarse graph (kept-in flags) (class-in old) → Coarse graph (kept-in flags) class
+    unfolding view-of shows-in shown same-option
+    coarse-pass coarse = record { coarsest = go }
+      where
+        go : (same : ℕ → ℕ → Bool)
+            → ((i j : ℕ) → KeptHere i → KeptHere j → same i j ≡ true → AlikeNow graph (kept-in flags) same i j)
+            → (i j : ℕ) → KeptHere i → KeptHere j → same i j ≡ true → class i ≡ class j
+        go same now i j ki kj e =
+            let here = now i j ki kj e in
+            taken i (ki .there) (ki .is-kept)
+            ∙ numbered .joined i j (ki .there) (kj .there) (ki .is-kept) (kj .is-kept)
+            (record {
+              state = here .state;
+              class = coarse .coarsest same now i j ki kj e;
+              shows = λ a l. shows a l (step i a) (step j a) refl refl (here .steps a l);
+            })
+            ∙ sym (taken j (kj .there) (kj .is-kept))
+          where
+            shows : (a : ℕ) → a < actions → (o p : Option ℕ) → step i a ≡ o → step j a ≡ p → same-option same o p ≡ true
+                → shown (class-in old) o ≡ shown (class-in old) p
+            shows a l none none f g s = refl
+            shows a l none (some y) f g s = never-both s refl
+            shows a l (some x) none f g s = never-both s refl
+            shows a l (some x) (some y) f g s =
+                ap (λ z. z + 1) (coarse .coarsest same now x y (led-kept closed i a x ki l f) (led-kept closed j a y kj l g) s)
+
+    -- Where a pass parts nothing, no two pairs of one class are told apart.
+    pub stable-pass : ((i : ℕ) → i < n → kept-in flags i ≡ true → new i ≡ class-in old i) → (i j : ℕ) → KeptHere i → KeptHere j
+        → class i ≡ class j → AlikeNow graph (kept-in flags) (λ k l. eqb (class k) (class l)) i j
+    unfolding view-of shows-in shown same-option
+    stable-pass still i j ki kj e =
+        let ri = numbered .alike i (ki .there) (ki .is-kept) in
+        let rj = numbered .alike j (kj .there) (kj .is-kept) in
+        let one : new i ≡ new j = sym (taken i (ki .there) (ki .is-kept)) ∙ e ∙ taken j (kj .there) (kj .is-kept) in
+        record {
+          state = ri .state ∙ ap (state-in entries) one ∙ sym (rj .state);
+          steps =
+              λ a l.
+              steps-same a l (step i a) (step j a) refl refl
+              (ri .shows a l ∙ ap (λ k. shown (class-in old) (step k a)) one ∙ sym (rj .shows a l));
+        }
+      where
+        back : (k : ℕ) → KeptHere k → class k ≡ class-in old k
+        back k kk = taken k (kk .there) (kk .is-kept) ∙ still k (kk .there) (kk .is-kept)
+
+        steps-same : (a : ℕ) → a < actions → (o p : Option ℕ) → step i a ≡ o → step j a ≡ p
+            → shown (class-in old) o ≡ shown (class-in old) p → same-option (λ k l. eqb (class k) (class l)) o p ≡ true
+        steps-same a l none none f g s = refl
+        steps-same a l none (some y) f g s = absurd (omega arith)
+        steps-same a l (some x) none f g s = absurd (omega arith)
+        steps-same a l (some x) (some y) f g s =
+            let bx = back x (led-kept closed i a x ki l f) in
+            let by = back y (led-kept closed j a y kj l g) in
+            eq-eqb (class x) (class y) (omega arith)
+
+    -- Where a pass parts nothing, the classes are the right ones.
+    pub right-classes : Coarse graph (kept-in flags) (class-in old) → ((i : ℕ) → i < n → kept-in flags i ≡ true → new i ≡ class-in old i)
+        → Classes graph (kept-in flags) class
+    right-classes coarse still = record { stable = stable-pass still; coarsest = coarse-pass coarse .coarsest }
+
+-- ---- how many passes there can be
+
+-- the sum of f over the numbers below n
+unfoldable pub sum : (ℕ → ℕ) → ℕ → ℕ
+sum f zero = 0
+sum f (suc n) = sum f n + f n
+
+-- Smaller terms make no larger sum.
+sum-le : (f g : ℕ → ℕ) (n : ℕ) → ((k : ℕ) → k < n → g k ≤ f k) → sum g n ≤ sum f n
+unfolding sum
+sum-le f g zero h = omega arith
+sum-le f g (suc n) h = omega (arith, sum-le f g n (λ k l. h k (omega arith)), h n (omega arith))
+
+-- A smaller term among them makes the sum smaller.
+pub sum-lt : (f g : ℕ → ℕ) (n i : ℕ) → ((k : ℕ) → k < n → g k ≤ f k) → i < n → g i < f i → sum g n < sum f n
+unfolding sum
+sum-lt f g zero i h l s = absurd (omega arith)
+sum-lt f g (suc n) i h l s = go (decLt i n) (λ m. sum-lt f g n i (λ k less. h k (omega arith)) m s)
+  where
+    go : Dec (i < n) → (i < n → sum g n < sum f n) → sum g n + g n < sum f n + f n
+    go (yes m) ih = omega (arith, ih m, h n (omega arith))
+    go (no m) ih =
+        let same : i ≡ n = omega arith in
+        let less : g n < f n = subst (λ x. g x < f x) same s in
+        omega (arith, sum-le f g n (λ k less. h k (omega arith)))

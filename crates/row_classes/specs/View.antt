@@ -1,0 +1,96 @@
+-- What a pass sees of the pairs: of each its tower state, its class, and the class that each action leads to.
+use Prim.Native.Nat.{ℕ, zero, suc, _+_, _*_, _%_, _<_}
+use mathlib.Core.Path.{_≡_}
+use mathlib.Core.Bool.{Bool}
+use mathlib.Core.Option.{Option, none, some}
+use mathlib.Core.List.{List}
+use lib.ListN.{take}
+use lib.Dec.{eqb}
+use Rattle.base.specs.Bytes.{byte-at, number-at}
+use Rattle.pair_graph.specs.Graph.{Graph, allowed-to}
+use Rattle.pair_graph.specs.Steps.{move-at}
+
+-- pair i is kept
+unfoldable pub kept-in : List ℕ → ℕ → Bool
+kept-in flags i = eqb (byte-at flags i) 1
+
+-- the tower state of pair i
+abbrev pub state-in : List ℕ → ℕ → ℕ
+state-in entries i = number-at 2 entries (62 * i)
+
+-- the class of pair i
+abbrev pub class-in : List ℕ → ℕ → ℕ
+class-in area i = number-at 2 area (2 * i)
+
+-- ---- the parts of the area in which a pass works
+
+-- the classes that the pass begins with
+abbrev pub old-part : List ℕ → List ℕ
+old-part area = take 2000 area
+
+-- the new class of pair i
+abbrev pub new-in : List ℕ → ℕ → ℕ
+new-in area i = number-at 2 area (2000 + 2 * i)
+
+-- the pair before pair i in its bucket plus 1, or 0
+abbrev pub link-in : List ℕ → ℕ → ℕ
+link-in area i = number-at 2 area (4000 + 2 * i)
+
+-- the last pair of bucket h plus 1, or 0
+abbrev pub head-in : List ℕ → ℕ → ℕ
+head-in area h = number-at 2 area (6000 + 2 * h)
+
+-- ---- what is seen
+
+-- The graph of n pairs in the bytes.
+abbrev pub pairs-graph : List ℕ → List ℕ → ℕ → ℕ → (ℕ → ℕ) → Graph
+pairs-graph steps entries actions n kind =
+    record { pairs = n; actions = actions; state = state-in entries; kind = kind; move = move-at steps }
+
+-- What is seen of the pairs.
+pub record View : Type 0 where
+  pub actions : ℕ
+  pub kept : ℕ → Bool
+  pub state : ℕ → ℕ
+  pub class : ℕ → ℕ
+  -- what action a of pair i shows
+  pub shows : ℕ → ℕ → ℕ
+
+-- an allowed step shows the class it leads to plus 1, and none shows 0
+unfoldable pub shown : (ℕ → ℕ) → Option ℕ → ℕ
+shown class none = 0
+shown class (some j) = class j + 1
+
+-- what action a of pair i shows, with the classes in the given bytes
+unfoldable pub shows-in : List ℕ → List ℕ → List ℕ → ℕ → ℕ → ℕ
+shows-in steps flags classes i a = shown (class-in classes) (allowed-to (kept-in flags) (move-at steps i a))
+
+-- What is seen with the classes in the given bytes.
+unfoldable pub view-of : List ℕ → List ℕ → List ℕ → ℕ → List ℕ → View
+view-of steps flags entries actions classes =
+    record {
+      actions = actions;
+      kept = kept-in flags;
+      state = state-in entries;
+      class = class-in classes;
+      shows = shows-in steps flags classes;
+    }
+
+-- Two pairs look the same.
+pub record Alike (v : View) (i j : ℕ) : Type 0 where
+  pub state : v .state i ≡ v .state j
+  pub class : v .class i ≡ v .class j
+  pub shows : (a : ℕ) → a < v .actions → v .shows i a ≡ v .shows j a
+
+-- how many buckets there are
+abbrev pub buckets : ℕ
+buckets = 1021
+
+-- the hash of what is seen of pair i, with its first `a` actions
+unfoldable pub bucket-upto : View → ℕ → ℕ → ℕ
+bucket-upto v i zero = (v .state i * 31 + v .class i) % buckets
+bucket-upto v i (suc a) = (bucket-upto v i a * 31 + v .shows i a) % buckets
+
+-- the bucket of pair i
+unfoldable pub bucket-of : View → ℕ → ℕ
+bucket-of v i = bucket-upto v i (v .actions)
