@@ -1,8 +1,11 @@
 -- From an answer that is known to how it is shown.
 use Prim.Native.Nat.{ℕ}
 use mathlib.Core.Path.{_≡_, refl, sym, _∙_, ap}
-use mathlib.Core.List.{List, []}
-use Rattle.base.specs.Answers.{Said, refusal-said, follow-said}
+use mathlib.Core.List.{List, [], _∷_}
+use Rattle.base.specs.Answers.{Said, refusal-said, book-said, follow-said}
+use Rattle.base.specs.declared.BookAnswer.{BookAnswer}
+use Rattle.outcome.specs.ReadBook.{read-outcome}
+use Rattle.book_reader.specs.Lines.{Outcome}
 use Rattle.base.specs.declared.Refusal.{Refusal}
 use Rattle.base.specs.declared.Refusal.the-variants.{TowerSize, Range, Action, Target, Mask, Grammar, Number, Mark, Limit, Timed}
 use Rattle.base.specs.declared.Refusal.the-variants.{Pairs, NoTable, Layout, NotGood, Area, Output, Outside, NotAllowed}
@@ -54,3 +57,8 @@ tower-by = shown-by tower-said
 
 pub follow-by : ShownBy follow-said
 follow-by = shown-by follow-said
+
+-- The book reader's promise has the areas beside its answer.
+pub book-by : (o x : BookAnswer) (marks : ℕ) (text area after : List ℕ) (z : Answer) → Outcome o marks text area after → o ≡ x
+    → z ≡ shown (book-said x) → z ≡ shown (book-said (read-outcome marks text (area ∷ []) .answer))
+book-by o x marks text area after z e f g = shown-by book-said o x (read-outcome marks text (area ∷ []) .answer) z (e .answer) f g

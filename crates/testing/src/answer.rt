@@ -41,6 +41,19 @@ pub fn value(first: usize) -> Answer
     }
 }
 
+// An answer with two values.
+pub fn two_values(first: usize, second: usize) -> Answer
+    ensures { λ a. ⌜ a ≡ shown (answered (first ∷ second ∷ [])) ⌝ }
+{
+    Answer {
+        number: 0,
+        letter: 0,
+        place: 0,
+        first: first,
+        second: second,
+    }
+}
+
 // A refusal.
 pub fn refused(refusal: Refusal) -> Answer
     ensures { λ a. ⌜ a ≡ shown (refusal-said refusal) ⌝ }

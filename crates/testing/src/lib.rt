@@ -3,6 +3,7 @@
 // requires anything: each tests what the function below it requires, and answers NOTHING where that
 // does not hold.
 mod answer;
+mod book;
 mod follow;
 mod runs;
 mod table;

@@ -4,6 +4,7 @@
 //! that `for_each_entry` names.
 
 pub mod answer;
+pub mod book;
 #[path = "../../reference/tests/common/mod.rs"]
 pub mod common;
 pub mod edits;
@@ -22,6 +23,7 @@ pub fn for_each_entry(test: impl Test) -> bool {
     let passed = [
         test.on::<tower::Tower>(),
         test.on::<table::Table>(),
+        test.on::<book::Book>(),
         test.on::<follow::Follow>(),
         test.on::<runs::Runs>(),
     ];

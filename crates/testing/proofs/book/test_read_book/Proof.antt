@@ -1,0 +1,15 @@
+-- `testing::book::test_read_book` meets its contract.
+use borrow.Author.Needs.{needs}
+use Rattle.base.specs.Answers.{book-said}
+use Rattle.testing.proofs.Laws.{book-by}
+use Rattle.testing.proofs.book.test_read_book.Statement.{statement}
+use Rattle.testing.proofs.book.test_read_book.Tie as tie
+
+ruleset all = (needs, book-by)
+
+pub test-read-book-spec : {M : Type 1} → statement M
+unfolding book-said
+test-read-book-spec =
+    tie.close
+    (tie.spec (λ c κs. search all) (λ c. search all) (λ c κs. search all) (λ c. search all) (λ c κs. search all)
+    (λ c. search all) (λ c. search all) (λ c. search all) (λ c. search all))

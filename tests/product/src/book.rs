@@ -1,0 +1,162 @@
+//! The book reader.
+
+use crate::answer::{Answer, Handed};
+use crate::common::{random_book, Random};
+use crate::entry::{bytes, hexadecimal, Entry};
+use reference::book;
+use std::fmt;
+
+/// The length of the area that the book reader borrows.
+pub const AREA: usize = 512;
+
+extern "C" {
+    fn test_read_book(
+        marks: usize,
+        text: *const u8,
+        length: usize,
+        area: *mut u8,
+        area_length: usize,
+    ) -> Handed;
+}
+
+pub fn read(marks: usize, text: &[u8], area: &mut [u8]) -> Answer {
+    let answer = unsafe {
+        test_read_book(
+            marks,
+            text.as_ptr(),
+            text.len(),
+            area.as_mut_ptr(),
+            area.len(),
+        )
+    };
+    answer.with_values(2)
+}
+
+pub struct Book;
+
+pub struct Call {
+    marks: usize,
+    text: Vec<u8>,
+}
+
+impl fmt::Display for Call {
+    fn fmt(&self, f: &mut fmt::Formatter) -> fmt::Result {
+        write!(f, "{} {}", self.marks, hexadecimal(&self.text))
+    }
+}
+
+impl Entry for Book {
+    type Case = Call;
+
+    const NAME: &'static str = "book reader";
+    const GENERATED: usize = 100_000;
+    const REFUSALS: &'static [u8] = &[2, 6, 7, 8, 9, 10];
+    const FILES: &'static [&'static str] = &["book.txt"];
+
+    /// The area is longer than it has to be and holds something; it is all zero afterwards.
+    fn proved(call: &Call) -> Answer {
+        let mut area = [0xa5; AREA + 7];
+        let answer = read(call.marks, &call.text, &mut area);
+        assert!(area.iter().all(|byte| *byte == 0), "{call}");
+        answer
+    }
+
+    fn reference(call: &Call) -> Answer {
+        if call.marks > 16 {
+            return reference::Refusal::new(2).into();
+        }
+        match book::read(call.marks, &call.text) {
+            Ok(book) => Answer::of_values([book.lines.len(), book.nodes.len()]),
+            Err(refusal) => refusal.into(),
+        }
+    }
+
+    fn generate(random: &mut Random) -> Call {
+        let marks = if random.once_in(100) {
+            17 + random.below(300)
+        } else {
+            random.below(17)
+        };
+        let (mut text, _) = random_book(random, marks.clamp(1, 16));
+        match random.below(12) {
+            0 => text.extend(deep(random)),
+            1 => text.extend(wide(random)),
+            2 => text.extend(late(random)),
+            3 => text.extend(timed_wrongly(random)),
+            4 => text.extend(format!("start p{}\n", random.below(20)).into_bytes()),
+            5 | 6 => damage(random, &mut text),
+            _ => {}
+        }
+        if random.once_in(8) {
+            damage(random, &mut text);
+        }
+        Call { marks, text }
+    }
+
+    fn of_line(_: &str, inputs: &[&str]) -> Option<Call> {
+        let [marks, text] = inputs else {
+            return None;
+        };
+        Some(Call {
+            marks: marks.parse().ok()?,
+            text: bytes(text)?,
+        })
+    }
+
+    fn fits_line(_: &str, answer: &Answer, stated: &str) -> bool {
+        stated.strip_prefix("ok ").unwrap_or(stated) == answer.to_string()
+    }
+}
+
+/// Brackets, about as many as may stand open.
+fn deep(random: &mut Random) -> Vec<u8> {
+    let depth = 13 + random.below(6);
+    let open = random.pick(&["(", "( ", "U 3 (T, ", "A("]);
+    let close = ")".repeat(depth - usize::from(random.once_in(10)));
+    format!("start {}T{close}\n", open.repeat(depth)).into_bytes()
+}
+
+/// Nodes, about as many as there may be.
+fn wide(random: &mut Random) -> Vec<u8> {
+    let join = random.pick(&["&", " | ", "& "]);
+    let units: Vec<&str> = (0..20 + random.below(14))
+        .map(|_| random.pick(&["T", "F", "!p0", "p0"]))
+        .collect();
+    format!("always {}\n", units.join(join)).into_bytes()
+}
+
+/// A number, about as large as it may be.
+fn late(random: &mut Random) -> Vec<u8> {
+    let lead = random.pick(&["A", "E ", "N <= ", "N>"]);
+    format!("start {lead}{} T\n", 230 + random.below(60)).into_bytes()
+}
+
+/// A timed formula where it may not be.
+fn timed_wrongly(random: &mut Random) -> Vec<u8> {
+    let line = random.pick(&[
+        "start E 1 T | E 1 F",
+        "always U 2 (T, N < 3 T)",
+        "start E A T",
+        "start (A 3 T & T) | (F & E T)",
+    ]);
+    format!("{line}\n").into_bytes()
+}
+
+/// Changes, drops or adds a byte, most often one that the grammar knows.
+fn damage(random: &mut Random, text: &mut Vec<u8>) {
+    const LETTERS: &[u8] = b"TFp!&|NAEU<>=()0123456789, \nalwysrt";
+    let byte = if random.once_in(6) {
+        random.below(256) as u8
+    } else {
+        LETTERS[random.below(LETTERS.len())]
+    };
+    let at = random.below(text.len() + 1);
+    match random.below(3) {
+        0 => text.insert(at, byte),
+        1 if at < text.len() => text[at] = byte,
+        _ if at < text.len() => {
+            text.remove(at);
+        }
+        _ => text.push(byte),
+    }
+}
