@@ -1,3 +1,3 @@
-mod Scans
-mod Ways
+pub mod Scans
+pub mod Ways
 pub mod Laws

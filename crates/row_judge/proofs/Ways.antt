@@ -94,12 +94,12 @@ module _ (tower table : List ℕ) (ok : Judgeable tower table) where
 
 module _ (table : List ℕ) (r : ℕ) (l : r < rows-of table) where
   -- The state of a row of the table is the one in the file.
-  row-state-at : row-at (table-of table) r .state ≡ row-state table r
+  pub row-state-at : row-at (table-of table) r .state ≡ row-state table r
   unfolding row-of-table
   row-state-at = rw (row-of-table-at table r l)
 
   -- So are its steps.
-  row-steps-at : row-at (table-of table) r .steps ≡ map (step-of table) (count-from (row-first table r) (row-count table r))
+  pub row-steps-at : row-at (table-of table) r .steps ≡ map (step-of table) (count-from (row-first table r) (row-count table r))
   unfolding row-of-table
   row-steps-at = rw (row-of-table-at table r l)
 
@@ -193,7 +193,7 @@ module _ (tower table : List ℕ) (r i x a : ℕ) (v : Reached) (l : r < rows-of
       rw (h, ← at-t, row-state-at table t k, at-z)
 
 -- a test of steps, by their numbers
-some-mapped : {A B : Type 0} (test : B → Bool) (f : A → B) (xs : List A) → some-of test (map f xs) ≡ some-of (λ x. test (f x)) xs
+pub some-mapped : {A B : Type 0} (test : B → Bool) (f : A → B) (xs : List A) → some-of test (map f xs) ≡ some-of (λ x. test (f x)) xs
 unfolding some-of
 some-mapped test f [] = refl
 some-mapped test f (x ∷ xs) = rw (some-mapped test f xs)

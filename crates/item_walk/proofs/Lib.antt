@@ -1,0 +1,5 @@
+mod Entries
+mod Following
+mod Growing
+mod Walking
+pub mod Laws
