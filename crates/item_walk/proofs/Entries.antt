@@ -4,20 +4,19 @@ use native.Mathlib.Omega.{arith}
 use native.Mathlib.Nat.{add-zero}
 use native.Mathlib.Decide.{decLt}
 use mathlib.Core.Path.{_≡_, refl, sym, _∙_, ap, ap₂}
-use mathlib.Core.Logic.{_⊎_, inl, inr, ⊎-elim}
-use mathlib.Core.Bool.{Bool, true, false}
-use mathlib.Core.List.{List, [], _∷_, _++_, map, map-append, List·Memᴰ, Memᴰ·of-map}
+use mathlib.Core.Logic.{_⊎_, inl, inr}
+use mathlib.Core.Bool.{true, false}
+use mathlib.Core.List.{List, [], _∷_, _++_, map, map-append, Memᴰ·of-map}
 use lib.ListN.{length, getD, take, drop, length-map, List·getD-map}
 use lib.Seq.{getD-take, getD-drop, take-take, drop-drop, ext-getD}
 use mir.Syntax.{w8}
 use mir.Val.{Fits}
-use Rattle.base.specs.Choice.{pick}
 use Rattle.base.specs.Bytes.{byte-at, number-at}
 use Rattle.base.specs.Lists.{some-of, place-of, below}
-use Rattle.base.proofs.Lists.{some-of-mem, none-of, mem-getD, mem-below, never-both, false-by}
+use Rattle.base.proofs.Lists.{some-of-mem, none-of, mem-getD, mem-below, false-by}
 use Rattle.outcome.specs.Check.{Item, same-item}
 use Rattle.outcome.proofs.Items.{item-eq, item-refl}
-use Rattle.progression.specs.PendingBytes.{pending-of, part}
+use Rattle.progression.specs.PendingBytes.{part}
 use Rattle.progression.specs.Contracts.{Beside}
 use Rattle.progression.proofs.Cells.{pending-eq}
 use Rattle.entry_index.specs.Entries.{entry-size, entry-at, entries-of, same-entry, Indexed}

@@ -1,13 +1,13 @@
 -- One step of an item: what the functions that write entry n leave in the area.
-use Prim.Native.Nat.{ℕ, suc, _+_, _-_, _*_, _/_, _%_, _^_, _≤_, _<_}
+use Prim.Native.Nat.{ℕ, _+_, _-_, _*_, _/_, _%_, _≤_, _<_}
 use native.Mathlib.Omega.{arith}
 use native.Mathlib.Decide.{decLt}
-use mathlib.Core.Path.{_≡_, refl, sym, _∙_, ap, ap₂, subst}
+use mathlib.Core.Path.{_≡_, sym, _∙_, ap, ap₂, subst}
 use mathlib.Core.Logic.{_⊎_, inl, inr}
 use mathlib.Core.Bool.{Bool, true, false}
-use mathlib.Core.Option.{Option, none, some}
-use mathlib.Core.List.{List, [], _∷_}
-use lib.ListN.{length, getD, set, take, drop, length-set}
+use mathlib.Core.Option.{Option, some}
+use mathlib.Core.List.{List}
+use lib.ListN.{length, getD, set, take, length-set}
 use lib.Seq.{getD-set-same, getD-set-other, take-set-le, drop-set-lt}
 use mir.Syntax.{w8, w64}
 use mir.Val.{Fits}
@@ -15,20 +15,19 @@ use Rattle.base.specs.Bytes.{byte-at, number-at}
 use Rattle.logic.specs.Tower.{tower-of, mask-of}
 use Rattle.logic.specs.Tables.{row-at}
 use Rattle.logic.specs.declared.Tick.{Tick}
-use Rattle.logic.specs.TableFile.{most-rows, step-size}
-use Rattle.reading.specs.TableReading.{rows-of, steps-of, row-state, row-first, row-count, step-action, step-target, step-of, step-place, table-of}
+use Rattle.logic.specs.TableFile.{most-rows}
+use Rattle.reading.specs.TableReading.{rows-of, steps-of, row-state, step-action, step-target, step-of, table-of}
 use Rattle.pending.specs.Pending.{Pending, progressed}
 use Rattle.outcome.specs.Check.{item-pending, item-at}
 use Rattle.progression.specs.PendingBytes.{pending-of, part, outcome}
 use Rattle.progression.specs.NodeBytes.{IsHeld}
 use Rattle.progression.specs.Contracts.{Beside, Parts, Progressed}
 use Rattle.progression.proofs.Callers.{progressed-is}
-use Rattle.entry_index.specs.Entries.{entry-size, entries-size, entry-at}
+use Rattle.entry_index.specs.Entries.{entry-at}
 use Rattle.entry_index.proofs.Laws.{entries-agree}
 use Rattle.table_reader.proofs.Laws.{laid-out-known}
-use Rattle.row_judge.specs.RowVerdict.{Judgeable}
-use Rattle.row_judge.proofs.Ways.{row-state-at, steps-inside, action-inside, target-inside, state-inside, has-header}
-use Rattle.item_walk.specs.Items.{item-of, entry-row, Blank, Filled, Walkable, StepOf, RowPut, follower, item-read, Followed}
+use Rattle.row_judge.proofs.Ways.{row-state-at, steps-inside, action-inside, target-inside, state-inside}
+use Rattle.item_walk.specs.Items.{item-of, entry-row, Filled, Walkable, StepOf, RowPut, follower, item-read, Followed}
 use Rattle.item_walk.proofs.Entries.{row-of-entry, part-of-entry, beside-byte}
 
 -- ---- row_of, put_row

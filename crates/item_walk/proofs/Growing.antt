@@ -3,7 +3,7 @@ use Prim.Native.Nat.{ℕ, suc, _+_, _-_, _^_, _≤_, _<_}
 use native.Mathlib.Omega.{arith}
 use native.Mathlib.Numerals.{add-one}
 use native.Mathlib.Decide.{decLt}
-use mathlib.Core.Path.{_≡_, refl, sym, _∙_, ap, ap₂, subst}
+use mathlib.Core.Path.{_≡_, refl, sym, _∙_, ap, ap₂}
 use mathlib.Core.Bool.{Bool, true, false, _||_, not}
 use mathlib.Core.Option.{Option, none, some}
 use mathlib.Core.List.{List, [], _∷_, _++_, map, map-map}
@@ -15,10 +15,10 @@ use mir.Val.{Fits}
 use Rattle.base.specs.Choice.{pick}
 use Rattle.base.specs.Lists.{some-of, count-from, present, is-there}
 use Rattle.base.specs.Search.{new-ones}
-use Rattle.base.proofs.Lists.{or-right, or-left}
+use Rattle.base.proofs.Lists.{or-right}
 use Rattle.logic.specs.Tower.{tower-of}
 use Rattle.logic.specs.Book.{Book}
-use Rattle.logic.specs.Tables.{Step, row-at}
+use Rattle.logic.specs.Tables.{Step}
 use Rattle.logic.specs.TableFile.{step-size}
 use Rattle.reading.specs.TableReading.{rows-of, row-first, row-count, step-target, step-of, step-place, table-of}
 use Rattle.pending.specs.Pending.{Pending}
@@ -27,9 +27,8 @@ use Rattle.progression.specs.NodeBytes.{IsHeld}
 use Rattle.entry_index.specs.Entries.{entry-at, Indexed}
 use Rattle.entry_index.proofs.Laws.{indexed-same}
 use Rattle.table_reader.proofs.Laws.{laid-out-known}
-use Rattle.row_judge.proofs.Ways.{row-steps-at, some-mapped, row-end-fits}
+use Rattle.row_judge.proofs.Ways.{row-steps-at, some-mapped}
 use Rattle.item_walk.specs.Items.{item-of, items-of, entry-row, Filled, Walkable, StepOf, follower, item-read, Followed, Noted, with-new, Grown}
-use Rattle.item_walk.specs.declared.Expanded.{Expanded}
 use Rattle.item_walk.proofs.Entries.{items-length, items-more, items-same}
 
 -- ---- an item's steps by their numbers

@@ -2,7 +2,7 @@
 use mathlib.Core.Path.{_≡_, refl}
 use mathlib.Core.Bool.{Bool, true, false}
 use Rattle.base.specs.Choice.{pick}
-use Rattle.base.specs.Answers.{Answer, refuse, give, _if_else_}
+use Rattle.base.specs.Answers.{give, _if_else_}
 use Rattle.base.specs.declared.Reason.the-variants as Why
 use Rattle.base.specs.declared.Refusal.the-variants.{Pairs, NotGood}
 use Rattle.logic.specs.Tower.{Tower}

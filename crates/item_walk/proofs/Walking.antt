@@ -9,29 +9,25 @@ use mathlib.Core.Bool.{Bool, true, false, _||_, or-false}
 use mathlib.Core.List.{List, [], _∷_, _++_}
 use lib.ListN.{length, getD, take, drop, replicate, length-replicate, getD-replicate, List·getD-eq-default}
 use lib.Seq.{take-suc, drop-cons, drop-append-le, take-append-le, take-length, drop-length}
-use lib.Dec.{ltb}
 use borrow.Author.Tests.{lt-ltb, le-ltb}
-use Rattle.base.specs.Choice.{pick}
 use Rattle.base.specs.Bytes.{byte-at, number-at}
 use Rattle.base.specs.Lists.{some-of, below, count-from}
 use Rattle.base.specs.Search.{new-ones, search-on, search-from}
 use Rattle.base.proofs.Lists.{some-append}
 use Rattle.logic.specs.Tower.{tower-of}
 use Rattle.logic.specs.Book.{Book}
-use Rattle.reading.specs.TableReading.{rows-of, table-of}
+use Rattle.reading.specs.TableReading.{table-of}
 use Rattle.pending.specs.Pairs.{most-pairs}
-use Rattle.pending.specs.Pending.{first-pending}
 use Rattle.outcome.specs.Check.{Item, same-item, first-item, item-followers, items, over-items, breaks, some-broken}
-use Rattle.progression.specs.PendingBytes.{pending-of, part}
+use Rattle.progression.specs.PendingBytes.{pending-of}
 use Rattle.progression.specs.NodeBytes.{IsHeld}
-use Rattle.progression.specs.Contracts.{Beside, Begun}
+use Rattle.progression.specs.Contracts.{Begun}
 use Rattle.progression.proofs.Callers.{begun-is}
 use Rattle.entry_index.specs.Entries.{entry-at, entries-of, Indexed}
 use Rattle.entry_index.proofs.Laws.{indexed-cleared}
 use Rattle.table_reader.proofs.Laws.{laid-out-known}
 use Rattle.item_walk.specs.Items.{item-of, items-of, entry-row, Filled, Walkable, with-new, Grown, Started, walk-verdict, Walked}
 use Rattle.item_walk.specs.declared.Expanded.{Expanded}
-use Rattle.item_walk.specs.declared.WalkEnd.{WalkEnd}
 use Rattle.item_walk.specs.declared.WalkEnd.the-variants.{TooMany, Broken, Whole}
 use Rattle.item_walk.proofs.Entries.{row-of-entry, part-of-entry, beside-byte, items-length, items-at}
 

@@ -1,0 +1,4 @@
+pub mod Areas
+pub mod Rest
+pub mod Orders
+pub mod Ways

@@ -1,0 +1,183 @@
+// The rows of the made table in the order in which they are met (01, 'Good tables': row 0 is the
+// start; others are numbered as first met, rows in order, actions ascending). specs/Orders.antt says
+// how the area is laid out: classes, then the pairs of the rows, then the rows of the classes.
+ghost use Prim.Native.Nat.{_+_, _*_, _<_, _≤_};
+ghost use mathlib.Core.Path.{_≡_};
+ghost use mathlib.Core.List.{[], _∷_};
+ghost use lib.ListN.{length};
+ghost use lib.Seq.{sets};
+ghost use Rattle.base.specs.Lists.{present};
+ghost use Rattle.base.specs.Bytes.{number-at, number-bytes};
+ghost use Rattle.row_order.specs.Orders.{led-to, led-of, followers, Moves, order-of, marks-at, Numbered, Grows, Classed, Cleared, InOrder};
+
+// Room for so many actions from each pair, two bytes each.
+const ACTION_ROOM: usize = 16;
+
+// How a move is written that leads to pair 0. What is below leads to no pair.
+const FIRST_PAIR: usize = 2;
+
+// The flag of a kept pair.
+const KEPT: u8 = 1;
+
+// Where the list of rows begins in the area, and how many classes there may be.
+const ORDER_AT: usize = 2000;
+
+const MOST_CLASSES: usize = 1000;
+
+// Where an action leads: to a kept pair, or nowhere if it is not allowed.
+pub enum Led {
+    To(usize),
+    Nowhere,
+}
+
+// The two-byte number at p, the low byte first.
+pub fn two_bytes(bytes: &[u8], p: usize) -> usize
+    requires { ⌜ p + 1 < length (now bytes) ⌝ }
+    ensures { λ r. ⌜ r ≡ number-at 2 (now (bytes .entry)) p ⌝ }
+{
+    bytes[p] as usize + 256 * (bytes[p + 1] as usize)
+}
+
+// Writes n as a two-byte number at p, the low byte first.
+pub fn put_two_bytes(bytes: &mut [u8], p: usize, n: usize)
+    requires { ⌜ p + 1 < length (now bytes) ⌝ }
+    ensures { λ _. ⌜ now (bytes .exit) ≡ sets (now (bytes .entry)) p (number-bytes 2 n) ⌝ }
+{
+    bytes[p] = (n % 256) as u8;
+    bytes[p + 1] = (n / 256 % 256) as u8;
+}
+
+// Where action a leads from pair i.
+pub fn allowed(steps: &[u8], flags: &[u8], pairs: usize, actions: usize, i: usize, a: usize) -> Led
+    requires { ⌜ Moves (now steps) (now flags) pairs actions ⌝ }
+    requires { ⌜ i < pairs ⌝ }
+    requires { ⌜ a < actions ⌝ }
+    ensures { λ r. ⌜ r ≡ led-of (led-to (now (steps .entry)) (now (flags .entry)) i a) ⌝ }
+{
+    let m = two_bytes(steps, 2 * (ACTION_ROOM * i + a));
+    if m < FIRST_PAIR {
+        return Led::Nowhere;
+    }
+    let j = m - FIRST_PAIR;
+    if flags[j] != KEPT {
+        return Led::Nowhere;
+    }
+    Led::To(j)
+}
+
+// Meets pair j after so many rows: if its class has no row yet, it is the next row. Returns the number of rows.
+fn meet(area: &mut [u8], pairs: usize, rows: usize, j: usize) -> usize
+    requires { ⌜ Numbered pairs (now area) rows ⌝ }
+    requires { ⌜ j < pairs ⌝ }
+    ensures { λ r. ⌜ Grows pairs (now (area .entry)) rows (j ∷ []) (now (area .exit)) r ⌝ }
+{
+    let class = two_bytes(area, 2 * j);
+    let mark = ORDER_AT + 2 * pairs + 2 * class;
+    if two_bytes(area, mark) != 0 {
+        return rows;
+    }
+    put_two_bytes(area, ORDER_AT + 2 * rows, j);
+    put_two_bytes(area, mark, rows + 1);
+    rows + 1
+}
+
+// Meets the pair that action a leads to from pair i, if it is allowed. Returns the number of rows.
+fn meet_by(
+    steps: &[u8],
+    flags: &[u8],
+    area: &mut [u8],
+    pairs: usize,
+    actions: usize,
+    rows: usize,
+    i: usize,
+    a: usize,
+) -> usize
+    requires { ⌜ Moves (now steps) (now flags) pairs actions ⌝ }
+    requires { ⌜ Numbered pairs (now area) rows ⌝ }
+    requires { ⌜ i < pairs ⌝ }
+    requires { ⌜ a < actions ⌝ }
+    ensures { λ r. ⌜ Grows pairs (now (area .entry)) rows (present (led-to (now (steps .entry)) (now (flags .entry)) i a ∷ [])) (now (area .exit)) r ⌝ }
+{
+    let Led::To(j) = allowed(steps, flags, pairs, actions, i, a) else {
+        return rows;
+    };
+    meet(area, pairs, rows, j)
+}
+
+// Meets the pairs that allowed actions lead to from pair i, actions ascending. Returns the number of rows.
+fn expand(
+    steps: &[u8],
+    flags: &[u8],
+    area: &mut [u8],
+    pairs: usize,
+    actions: usize,
+    rows: usize,
+    i: usize,
+) -> usize
+    requires { ⌜ Moves (now steps) (now flags) pairs actions ⌝ }
+    requires { ⌜ Numbered pairs (now area) rows ⌝ }
+    requires { ⌜ i < pairs ⌝ }
+    ensures { λ r. ⌜ Grows pairs (now (area .entry)) rows (followers (now (steps .entry)) (now (flags .entry)) actions i) (now (area .exit)) r ⌝ }
+{
+    let mut met = rows;
+    let mut a = 0;
+    while a < actions {
+        met = meet_by(steps, flags, area, pairs, actions, met, i, a);
+        a += 1;
+    }
+    met
+}
+
+// No class has a row.
+fn clear_marks(area: &mut [u8], pairs: usize)
+    requires { ⌜ marks-at pairs + 2000 ≤ length (now area) ⌝ }
+    ensures { λ _. ⌜ Cleared pairs (now (area .entry)) (now (area .exit)) 2000 ⌝ }
+{
+    let start = ORDER_AT + 2 * pairs;
+    let mut k = 0;
+    while k < 2 * MOST_CLASSES {
+        area[start + k] = 0;
+        k += 1;
+    }
+}
+
+// Expands the rows in order, from the first on, until none is left. Returns the number of rows.
+fn expand_all(
+    steps: &[u8],
+    flags: &[u8],
+    area: &mut [u8],
+    pairs: usize,
+    actions: usize,
+    first: usize,
+) -> usize
+    requires { ⌜ Moves (now steps) (now flags) pairs actions ⌝ }
+    requires { ⌜ Numbered pairs (now area) first ⌝ }
+    requires { ⌜ order-of (now area) first ≡ 0 ∷ [] ⌝ }
+    ensures { λ r. ⌜ InOrder (now (steps .entry)) (now (flags .entry)) pairs actions (now (area .entry)) (now (area .exit)) r ⌝ }
+{
+    let mut rows = first;
+    let mut r = 0;
+    while r < rows {
+        let i = two_bytes(area, ORDER_AT + 2 * r);
+        rows = expand(steps, flags, area, pairs, actions, rows, i);
+        r += 1;
+    }
+    rows
+}
+
+// Numbers the rows from pair 0 on. Returns how many there are.
+pub fn order_rows(
+    steps: &[u8],
+    flags: &[u8],
+    area: &mut [u8],
+    pairs: usize,
+    actions: usize,
+) -> usize
+    requires { ⌜ Moves (now steps) (now flags) pairs actions ⌝ }
+    requires { ⌜ Classed pairs (now area) ⌝ }
+    ensures { λ r. ⌜ InOrder (now (steps .entry)) (now (flags .entry)) pairs actions (now (area .entry)) (now (area .exit)) r ⌝ }
+{
+    clear_marks(area, pairs);
+    let first = meet(area, pairs, 0, 0);
+    expand_all(steps, flags, area, pairs, actions, first)
+}

@@ -1,0 +1,20 @@
+-- `table_writer::step_count` meets its contract.
+-- The invariant: the actions below the counter are counted. The measure: how many are left.
+use Prim.Native.Nat.{_-_}
+use borrow.Author.Needs.{needs}
+use Rattle.table_writer.proofs.Going.{Counting, counting-start, counting-more, counting-fits, counting-end}
+use Rattle.table_writer.proofs.step_count.Statement.{statement}
+use Rattle.table_writer.proofs.step_count.Tie as tie
+
+ruleset all = (needs, counting-start, counting-more, counting-fits, counting-end)
+
+abbrev Inv-loop : tie.InvT-loop
+Inv-loop steps flags pairs actions i count₀ a₀ count a = Counting steps flags actions i count a
+
+abbrev μ-loop : tie.MeasureT-loop
+μ-loop steps flags pairs actions i count₀ a₀ count a = actions - a
+
+pub step-count-spec : {M : Type 1} → statement M
+step-count-spec =
+    tie.close
+    (tie.spec Inv-loop μ-loop (λ c. search all) (λ c κs. search all) (λ c. search all) (λ c. search all) (λ c. search all) (λ c. search all) (λ c. search all))

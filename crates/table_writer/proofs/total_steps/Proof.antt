@@ -1,0 +1,20 @@
+-- `table_writer::total_steps` meets its contract.
+-- The invariant: the steps of the rows below the counter are counted. The measure: how many rows are left.
+use Prim.Native.Nat.{_-_}
+use borrow.Author.Needs.{needs}
+use Rattle.table_writer.proofs.Going.{Totalling, pair-there, pair-below, totalling-start, totalling-more, totalling-fits, totalling-end}
+use Rattle.table_writer.proofs.total_steps.Statement.{statement}
+use Rattle.table_writer.proofs.total_steps.Tie as tie
+
+ruleset all = (needs, pair-there, pair-below, totalling-start, totalling-more, totalling-fits, totalling-end)
+
+abbrev Inv-loop : tie.InvT-loop
+Inv-loop steps flags area pairs actions rows total₀ r₀ total r = Totalling steps flags area actions rows total r
+
+abbrev μ-loop : tie.MeasureT-loop
+μ-loop steps flags area pairs actions rows total₀ r₀ total r = rows - r
+
+pub total-steps-spec : {M : Type 1} → statement M
+total-steps-spec =
+    tie.close
+    (tie.spec Inv-loop μ-loop (λ c. search all) (λ c κs. search all) (λ c κs. search all) (λ c. search all) (λ c. search all) (λ c. search all) (λ c. search all) (λ c. search all))

@@ -1,0 +1,318 @@
+// The made table as a file (01, 'Good tables', from 'Table file' on): rows in the order in which they
+// are met, each with its state and its allowed steps. specs/Writing.antt says which table that is.
+ghost use Prim.Native.Nat.{_+_, _*_, _<_, _≤_};
+ghost use mathlib.Core.Path.{_≡_};
+ghost use mathlib.Core.List.{[], _∷_, _++_};
+ghost use lib.ListN.{length};
+ghost use lib.Seq.{sets};
+ghost use Rattle.base.specs.Lists.{present};
+ghost use Rattle.base.specs.Bytes.{number-at, number-bytes};
+ghost use Rattle.logic.specs.TableFile.{header-bytes, table-file};
+ghost use Rattle.row_order.specs.Orders.{led-to, followers, Moves, order-of};
+ghost use Rattle.table_writer.specs.Writing.{table-in, Writable, Writes, steps-total, step-of, steps-of, packed-of, Laid, IsRow, Marked, Wrote, WroteRows, WroteFile};
+use row_order;
+use row_order::Led;
+
+// The bytes of a pair's entry, of which the first two are its tower state.
+const ENTRY_SIZE: usize = 62;
+
+// Where the list of rows begins in the area of classes.
+const ORDER_AT: usize = 2000;
+
+// The bytes of the header, of a row and of a step.
+const ROWS_AT: usize = 12;
+
+const ROW_SIZE: usize = 4;
+
+const STEP_SIZE: usize = 3;
+
+// The length of the table, or that there is no room for it.
+pub enum Written {
+    Made(usize),
+    NoRoom,
+}
+
+// The pair that stands for row r.
+fn pair_of(area: &[u8], r: usize) -> usize
+    requires { ⌜ 2000 + 2 * r + 1 < length (now area) ⌝ }
+    ensures { λ i. ⌜ i ≡ number-at 2 (now (area .entry)) (2000 + 2 * r) ⌝ }
+{
+    row_order::two_bytes(area, ORDER_AT + 2 * r)
+}
+
+// The row of pair j's class.
+fn row_of(area: &[u8], pairs: usize, j: usize) -> usize
+    requires { ⌜ Marked (now area) pairs j ⌝ }
+    ensures { λ r. ⌜ r + 1 ≡ number-at 2 (now (area .entry)) (2000 + 2 * pairs + 2 * number-at 2 (now (area .entry)) (2 * j)) ⌝ }
+{
+    let class = row_order::two_bytes(area, 2 * j);
+    row_order::two_bytes(area, ORDER_AT + 2 * pairs + 2 * class) - 1
+}
+
+// 1 if action a is allowed from pair i, and else 0.
+fn has_step(steps: &[u8], flags: &[u8], pairs: usize, actions: usize, i: usize, a: usize) -> usize
+    requires { ⌜ Moves (now steps) (now flags) pairs actions ⌝ }
+    requires { ⌜ i < pairs ⌝ }
+    requires { ⌜ a < actions ⌝ }
+    ensures { λ r. ⌜ r ≡ length (present (led-to (now (steps .entry)) (now (flags .entry)) i a ∷ [])) ⌝ }
+{
+    let Led::To(_) = row_order::allowed(steps, flags, pairs, actions, i, a) else {
+        return 0;
+    };
+    1
+}
+
+// The number of steps from pair i.
+fn step_count(steps: &[u8], flags: &[u8], pairs: usize, actions: usize, i: usize) -> usize
+    requires { ⌜ Moves (now steps) (now flags) pairs actions ⌝ }
+    requires { ⌜ i < pairs ⌝ }
+    ensures { λ r. ⌜ r ≡ length (followers (now (steps .entry)) (now (flags .entry)) actions i) ⌝ }
+{
+    let mut count = 0;
+    let mut a = 0;
+    while a < actions {
+        count += has_step(steps, flags, pairs, actions, i, a);
+        a += 1;
+    }
+    count
+}
+
+// The number of steps of all rows.
+fn total_steps(
+    steps: &[u8],
+    flags: &[u8],
+    area: &[u8],
+    pairs: usize,
+    actions: usize,
+    rows: usize,
+) -> usize
+    requires { ⌜ Laid (now steps) (now flags) (now area) pairs actions rows ⌝ }
+    ensures { λ r. ⌜ r ≡ steps-total (now (steps .entry)) (now (flags .entry)) actions (order-of (now (area .entry)) rows) ⌝ }
+{
+    let mut total = 0;
+    let mut r = 0;
+    while r < rows {
+        total += step_count(steps, flags, pairs, actions, pair_of(area, r));
+        r += 1;
+    }
+    total
+}
+
+// Writes the header.
+fn write_header(out: &mut [u8], rows: usize, steps: usize, states: usize, actions: usize)
+    requires { ⌜ 12 ≤ length (now out) ⌝ }
+    requires { ⌜ rows ≤ 1000 ⌝ }
+    ensures { λ _. ⌜ now (out .exit) ≡ sets (now (out .entry)) 0 (header-bytes rows steps states actions) ⌝ }
+{
+    row_order::put_two_bytes(out, 0, rows);
+    row_order::put_two_bytes(out, 2, steps);
+    row_order::put_two_bytes(out, 4, ROWS_AT);
+    row_order::put_two_bytes(out, 6, ROWS_AT + ROW_SIZE * rows);
+    row_order::put_two_bytes(out, 8, states);
+    row_order::put_two_bytes(out, 10, actions);
+}
+
+// Writes a row at p: state, step count, first step.
+fn write_row(out: &mut [u8], p: usize, state: u8, count: usize, first: usize)
+    requires { ⌜ p + 4 ≤ length (now out) ⌝ }
+    ensures { λ _. ⌜ now (out .exit) ≡ sets (now (out .entry)) p (state ∷ (number-bytes 1 count ++ number-bytes 2 first)) ⌝ }
+{
+    out[p] = state;
+    out[p + 1] = (count % 256) as u8;
+    row_order::put_two_bytes(out, p + 2, first);
+}
+
+// Writes the rows, each with the number of steps before it as its first step.
+fn write_rows(
+    steps: &[u8],
+    flags: &[u8],
+    entries: &[u8],
+    area: &[u8],
+    out: &mut [u8],
+    pairs: usize,
+    actions: usize,
+    rows: usize,
+)
+    requires { ⌜ Laid (now steps) (now flags) (now area) pairs actions rows ⌝ }
+    requires { ⌜ 62 * pairs ≤ length (now entries) ⌝ }
+    requires { ⌜ 12 + 4 * rows ≤ length (now out) ⌝ }
+    ensures { λ _. ⌜ WroteRows (now (steps .entry)) (now (flags .entry)) (now (entries .entry)) (now (area .entry)) actions rows (now (out .entry)) (now (out .exit)) ⌝ }
+{
+    let mut first = 0;
+    let mut row = 0;
+    while row < rows {
+        let i = pair_of(area, row);
+        let count = step_count(steps, flags, pairs, actions, i);
+        write_row(
+            out,
+            ROWS_AT + ROW_SIZE * row,
+            entries[ENTRY_SIZE * i],
+            count,
+            first,
+        );
+        first += count;
+        row += 1;
+    }
+}
+
+// Writes a step at p: action, target row.
+fn write_step(out: &mut [u8], p: usize, a: usize, target: usize)
+    requires { ⌜ p + 3 ≤ length (now out) ⌝ }
+    ensures { λ _. ⌜ now (out .exit) ≡ sets (now (out .entry)) p (number-bytes 1 a ++ number-bytes 2 target) ⌝ }
+{
+    out[p] = (a % 256) as u8;
+    row_order::put_two_bytes(out, p + 1, target);
+}
+
+// Writes the step of action a from pair i at p, if it is allowed. Returns where the next step goes.
+fn write_allowed(
+    steps: &[u8],
+    flags: &[u8],
+    area: &[u8],
+    out: &mut [u8],
+    pairs: usize,
+    actions: usize,
+    rows: usize,
+    i: usize,
+    a: usize,
+    p: usize,
+) -> usize
+    requires { ⌜ Laid (now steps) (now flags) (now area) pairs actions rows ⌝ }
+    requires { ⌜ IsRow (now area) rows i ⌝ }
+    requires { ⌜ a < actions ⌝ }
+    requires { ⌜ p + 3 * length (present (step-of (now steps) (now flags) (now area) rows i a ∷ [])) ≤ length (now out) ⌝ }
+    ensures { λ r. ⌜ Wrote (present (step-of (now (steps .entry)) (now (flags .entry)) (now (area .entry)) rows i a ∷ [])) (now (out .entry)) p (now (out .exit)) r ⌝ }
+{
+    let Led::To(j) = row_order::allowed(steps, flags, pairs, actions, i, a) else {
+        return p;
+    };
+    write_step(out, p, a, row_of(area, pairs, j));
+    p + STEP_SIZE
+}
+
+// Writes the steps from pair i at p, actions ascending. Returns where the next step goes.
+fn write_steps_of(
+    steps: &[u8],
+    flags: &[u8],
+    area: &[u8],
+    out: &mut [u8],
+    pairs: usize,
+    actions: usize,
+    rows: usize,
+    i: usize,
+    p: usize,
+) -> usize
+    requires { ⌜ Laid (now steps) (now flags) (now area) pairs actions rows ⌝ }
+    requires { ⌜ IsRow (now area) rows i ⌝ }
+    requires { ⌜ p + 3 * length (steps-of (now steps) (now flags) (now area) rows actions i) ≤ length (now out) ⌝ }
+    ensures { λ r. ⌜ Wrote (steps-of (now (steps .entry)) (now (flags .entry)) (now (area .entry)) rows actions i) (now (out .entry)) p (now (out .exit)) r ⌝ }
+{
+    let mut next = p;
+    let mut a = 0;
+    while a < actions {
+        next = write_allowed(steps, flags, area, out, pairs, actions, rows, i, a, next);
+        a += 1;
+    }
+    next
+}
+
+// Writes the steps of all rows at p, packed in row order. Returns where the file ends.
+fn write_steps(
+    steps: &[u8],
+    flags: &[u8],
+    area: &[u8],
+    out: &mut [u8],
+    pairs: usize,
+    actions: usize,
+    rows: usize,
+    p: usize,
+) -> usize
+    requires { ⌜ Laid (now steps) (now flags) (now area) pairs actions rows ⌝ }
+    requires { ⌜ p + 3 * steps-total (now steps) (now flags) actions (order-of (now area) rows) ≤ length (now out) ⌝ }
+    ensures { λ r. ⌜ Wrote (packed-of (now (steps .entry)) (now (flags .entry)) (now (area .entry)) rows actions) (now (out .entry)) p (now (out .exit)) r ⌝ }
+{
+    let mut next = p;
+    let mut done = 0;
+    while done < rows {
+        next = write_steps_of(
+            steps,
+            flags,
+            area,
+            out,
+            pairs,
+            actions,
+            rows,
+            pair_of(area, done),
+            next,
+        );
+        done += 1;
+    }
+    next
+}
+
+// Writes the table of so many rows with so many steps. Returns its length.
+fn write_file(
+    steps: &[u8],
+    flags: &[u8],
+    entries: &[u8],
+    area: &[u8],
+    out: &mut [u8],
+    pairs: usize,
+    states: usize,
+    actions: usize,
+    rows: usize,
+    total: usize,
+) -> usize
+    requires { ⌜ Laid (now steps) (now flags) (now area) pairs actions rows ⌝ }
+    requires { ⌜ 62 * pairs ≤ length (now entries) ⌝ }
+    requires { ⌜ total ≡ steps-total (now steps) (now flags) actions (order-of (now area) rows) ⌝ }
+    requires { ⌜ 12 + 4 * rows + 3 * total ≤ length (now out) ⌝ }
+    ensures { λ r. ⌜ WroteFile (now (steps .entry)) (now (flags .entry)) (now (entries .entry)) (now (area .entry)) states actions rows (now (out .entry)) (now (out .exit)) r ⌝ }
+{
+    write_header(out, rows, total, states, actions);
+    write_rows(steps, flags, entries, area, out, pairs, actions, rows);
+    write_steps(
+        steps,
+        flags,
+        area,
+        out,
+        pairs,
+        actions,
+        rows,
+        ROWS_AT + ROW_SIZE * rows,
+    )
+}
+
+// Writes the table of the kept pairs and their classes, if there is room for it. Behind the classes
+// the area is used for the order of the rows.
+pub fn write_table(
+    steps: &[u8],
+    flags: &[u8],
+    entries: &[u8],
+    classes: &mut [u8],
+    out: &mut [u8],
+    pairs: usize,
+    states: usize,
+    actions: usize,
+) -> Written
+    requires { ⌜ Writable (now steps) (now flags) (now entries) (now classes) pairs actions ⌝ }
+    ensures { λ r. ⌜ Writes (table-file states actions (table-in (now (steps .entry)) (now (flags .entry)) (now (entries .entry)) (now (classes .entry)) pairs actions)) (now (out .entry)) r (now (out .exit)) ⌝ }
+{
+    let rows = row_order::order_rows(steps, flags, classes, pairs, actions);
+    let total = total_steps(steps, flags, classes, pairs, actions, rows);
+    if out.len() < ROWS_AT + ROW_SIZE * rows + STEP_SIZE * total {
+        return Written::NoRoom;
+    }
+    Written::Made(write_file(
+        steps,
+        flags,
+        entries,
+        classes,
+        out,
+        pairs,
+        states,
+        actions,
+        rows,
+        total,
+    ))
+}
