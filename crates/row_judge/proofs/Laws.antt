@@ -1,6 +1,6 @@
 -- What the rows make of a table is the checker's answer as far as the rows decide it.
 use Prim.Native.Nat.{ℕ}
-use mathlib.Core.Path.{_≡_, refl, sym, _∙_, ap}
+use mathlib.Core.Path.{_≡_, refl, _∙_, ap}
 use mathlib.Core.Bool.{Bool, true, false}
 use mathlib.Core.List.{List, [], _∷_}
 use lib.ListN.{length}
@@ -15,7 +15,7 @@ use Rattle.logic.specs.Tables.{Table}
 use Rattle.outcome.specs.Check.{wrong-start, stopped, judge-row, judge-rows, over-items, some-broken, judge}
 use Rattle.row_judge.specs.RowVerdict.{some-withheld, some-wrong-step, row-verdict, rows-from, rows-verdict, answer-after}
 use Rattle.row_judge.specs.declared.RowVerdict.{RowVerdict}
-use Rattle.row_judge.specs.declared.RowVerdict.the-variants.{Right, Wrong}
+use Rattle.row_judge.specs.declared.RowVerdict.the-variants.{Wrong}
 
 -- One row.
 pub judge-row-after : (tower : Tower) (table : Table) (r : ℕ) (v : RowVerdict) (after : Answer (Unit {0}))

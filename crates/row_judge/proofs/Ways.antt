@@ -1,13 +1,12 @@
 -- A law for each way through the judge's code: from what is known there, the answer is what the definitions say.
-use Prim.Native.Nat.{ℕ, suc, _+_, _-_, _^_, _≤_, _<_}
+use Prim.Native.Nat.{ℕ, _+_, _-_, _^_, _≤_, _<_}
 use native.Mathlib.Omega.{arith}
 use mathlib.Core.Path.{_≡_, refl, sym, _∙_, ap}
-use mathlib.Core.Bool.{Bool, true, false, _&&_, not, and-false}
+use mathlib.Core.Bool.{Bool, true, false, not, and-false}
 use mathlib.Core.Option.{Option, none, some}
 use mathlib.Core.List.{List, [], _∷_, map}
 use lib.ListN.{length}
 use lib.Dec.{eqb}
-use borrow.Author.Tests.{eqb-true, eq-eqb, ne-eqb}
 use mir.Syntax.{w64}
 use mir.Val.{Fits}
 use Rattle.base.specs.Choice.{pick}
@@ -17,13 +16,13 @@ use Rattle.base.specs.declared.Reason.the-variants.{Start, Withheld, Step, Stop
 use Rattle.logic.specs.Tower.{Tower, tower-of, controllable, goes-on}
 use Rattle.logic.specs.Tables.{Table, row-at, move}
 use Rattle.logic.specs.TableFile.{step-size}
-use Rattle.reading.specs.TableReading.{rows-of, steps-of, row-state, row-count, row-first, step-place, step-action, step-target, header-right, laid-out, step-of, row-of-table, table-of}
+use Rattle.reading.specs.TableReading.{rows-of, steps-of, row-state, row-count, row-first, step-place, step-action, step-target, header-right, step-of, row-of-table, table-of}
 use Rattle.reading.proofs.LaidOut.{row-of-table-at, length-table-of}
 use Rattle.outcome.specs.Check.{wrong-start, withheld, wrong-step, stopped}
 use Rattle.tower_reader.specs.TowerRead.{target-read}
 use Rattle.tower_reader.specs.declared.Reached.{Reached}
 use Rattle.tower_reader.specs.declared.Reached.the-variants.{State, NotEnabled}
-use Rattle.tower_reader.proofs.Laws.{state-reached, none-reached, fit-bounds}
+use Rattle.tower_reader.proofs.Laws.{state-reached, none-reached}
 use Rattle.table_reader.specs.Moves as Moves
 use Rattle.table_reader.specs.declared.Target.{Target}
 use Rattle.table_reader.specs.declared.Target.the-variants.{Row, Nothing}
@@ -31,7 +30,7 @@ use Rattle.table_reader.proofs.Laws.{header-of, laid-out-known, target-row, tar
 use Rattle.row_judge.specs.RowVerdict.{Judgeable, some-withheld, some-wrong-step, row-verdict, rows-from, rows-verdict}
 use Rattle.row_judge.specs.declared.RowVerdict.{RowVerdict}
 use Rattle.row_judge.specs.declared.RowVerdict.the-variants.{Right, Wrong}
-use Rattle.row_judge.proofs.Scans.{Left, left-cons, left-more, left-none, left-start, left-below}
+use Rattle.row_judge.proofs.Scans.{Left, left-cons, left-more, left-none}
 
 -- ---- kinds
 

@@ -1,6 +1,6 @@
 -- What the rows of a table make of it: the first of the reasons a to d, in the checker's order (01, 'Good tables' and 'Why a call is
 -- turned down').
-use Prim.Native.Nat.{ℕ, _<_}
+use Prim.Native.Nat.{ℕ}
 use mathlib.Core.Path.{_≡_}
 use mathlib.Core.Bool.{Bool, true}
 use mathlib.Core.List.{List, [], _∷_}
@@ -12,7 +12,7 @@ use Rattle.base.specs.declared.Reason.the-variants.{Start, Withheld, Step, Stop
 use Rattle.base.specs.declared.Refusal.the-variants.{NotGood}
 use Rattle.logic.specs.Tower.{Tower, FitTower, tower-of}
 use Rattle.logic.specs.Tables.{Table, row-at}
-use Rattle.reading.specs.TableReading.{laid-out, table-states, table-actions, table-of}
+use Rattle.reading.specs.TableReading.{laid-out, table-states, table-actions}
 use Rattle.outcome.specs.Check.{wrong-start, withheld, wrong-step, stopped}
 use Rattle.row_judge.specs.declared.RowVerdict.{RowVerdict}
 use Rattle.row_judge.specs.declared.RowVerdict.the-variants.{Right, Wrong}

@@ -1,0 +1,2 @@
+mod Few
+mod Ways

@@ -1,0 +1,12 @@
+-- `checker::check_book` meets its contract.
+use borrow.Author.Needs.{needs}
+use Rattle.checker.proofs.Ways.{book-refused, marks-few, book-known, book-good}
+use Rattle.checker.proofs.check_book.Statement.{statement}
+use Rattle.checker.proofs.check_book.Tie as tie
+
+ruleset all = (needs, book-refused, marks-few, book-known, book-good)
+
+pub check-book-spec : {M : Type 1} → statement M
+check-book-spec =
+    tie.close
+    (tie.spec (λ c κs. search all) (λ c κs. (search all, search (marks-few, c .before .marks .ensures, c .before .before .before .before .before .before .before .before .pre))) (λ c. search all) (λ c κs. search all) (λ c. search all) (λ c κs. (search (book-known, c .before .before .before .before .before .before .before .before .read-lines .ensures, c .before .before .before .before .before .before .before .before .before .before .marks .ensures, c .before .before .before .before .before .before .before .before .before .before .before .before .before .before .before .before .before .pre), (search all, search all))) (λ c. search all) (λ c. search (book-refused, c .turned-down .ensures, c .before .before .before .before .before .before .read-lines .ensures, c .before .before .before .before .before .before .before .before .marks .ensures)) (λ c. search all) (λ c. search all) (λ c. search all) (λ c. search (book-good, c .before .before .before .before .check-table .ensures, c .before .before .before .before .before .before .before .before .before .before .before .before .before .read-lines .ensures, c .before .before .before .before .before .before .before .before .before .before .before .before .before .before .before .marks .ensures, c .before .before .before .before .before .before .before .before .before .before .before .before .before .before .before .before .before .before .before .before .before .before .pre)))

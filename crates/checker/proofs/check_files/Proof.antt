@@ -1,0 +1,12 @@
+-- `checker::check_files` meets its contract.
+use borrow.Author.Needs.{needs}
+use Rattle.checker.proofs.Ways.{tower-refused, tower-fit, tower-good}
+use Rattle.checker.proofs.check_files.Statement.{statement}
+use Rattle.checker.proofs.check_files.Tie as tie
+
+ruleset all = (needs, tower-refused, tower-fit, tower-good)
+
+pub check-files-spec : {M : Type 1} → statement M
+check-files-spec =
+    tie.close
+    (tie.spec (λ c κs. search all) (λ c. search all) (λ c κs. search all) (λ c. search all) (λ c. search all) (λ c κs. search (tower-fit, c .before .before .before .before .before .read-tower .ensures, c .before .before .before .before .before .before .before .before .before .before .before .before .pre)) (λ c. search all) (λ c. search all) (λ c. search all) (λ c. search (tower-good, c .before .before .before .before .before .before .check-book .ensures, c .before .before .before .before .before .before .before .before .before .before .before .before .read-tower .ensures)))
