@@ -1,4 +1,5 @@
 pub mod ElevenOutcomes
+pub mod Forced
 pub mod Game
 pub mod Reasons
 pub mod Alike
