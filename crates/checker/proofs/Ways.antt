@@ -2,15 +2,15 @@
 use Prim.Native.Nat.{ℕ, _≤_, _<_}
 use native.Mathlib.Omega.{arith}
 use mathlib.Core.Path.{_≡_, refl, sym, _∙_, ap, ap₂}
-use mathlib.Core.Bool.{Bool, true, false, _&&_, not, and-true}
+use mathlib.Core.Bool.{Bool, true, false, _&&_, and-true}
 use mathlib.Core.List.{List, [], _∷_}
 use lib.ListN.{length, replicate}
-use lib.Dec.{leb, eqb}
-use borrow.Author.Tests.{eqb-true, eq-eqb, ne-eqb, leb-true, le-leb, lt-leb}
+use lib.Dec.{leb}
+use borrow.Author.Tests.{leb-true, le-leb, lt-leb}
 use types.Run.{OneOf, miss}
 use denote.Enum.Declared.{tagOf, declared}
 use Rattle.base.proofs.Refusal.{enum}
-use Rattle.base.specs.Answers.{Answer, refuse, give, _if_else_, _then_}
+use Rattle.base.specs.Answers.{Answer, refuse, give, _then_}
 use Rattle.base.specs.declared.Reason.{Reason}
 use Rattle.base.specs.declared.Reason.the-variants as Why
 use Rattle.base.specs.declared.Refusal.{Refusal}
@@ -19,10 +19,9 @@ use Rattle.base.specs.declared.Verdict.{Verdict}
 use Rattle.base.specs.declared.Verdict.the-variants as Check
 use Rattle.base.proofs.Lists.{and-left, and-right}
 use Rattle.logic.specs.Tower.{Tower, FitTower, tower-of}
-use Rattle.logic.specs.Tables.{Table}
-use Rattle.reading.specs.TableReading.{laid-out, table-states, table-actions, table-of, read-table}
+use Rattle.reading.specs.TableReading.{table-of, read-table}
 use Rattle.reading.proofs.FitInput.{laid-out-read}
-use Rattle.outcome.specs.Check.{judge, turned-down, verdict}
+use Rattle.outcome.specs.Check.{turned-down, verdict}
 use Rattle.progression.specs.NodeBytes.{IsHeld}
 use Rattle.row_judge.specs.RowVerdict.{Judgeable, rows-verdict, answer-after}
 use Rattle.row_judge.specs.declared.RowVerdict.{RowVerdict}
@@ -49,78 +48,48 @@ use Rattle.tower_reader.specs.declared.TowerRead.the-variants as Fits
 use Rattle.tower_reader.proofs.Laws.{fit-bounds, fit-of, fit-gives, refused-of}
 use Rattle.progression.proofs.Callers.{held-read, is-held}
 use Rattle.book_reader.specs.Lines.{Answers}
-use Rattle.checker.specs.Checking.{for-tower, checked-table, checked-book, BookRead, TableChecked, lengths-right, Room, Checks}
-use Rattle.checker.proofs.Few.{book-few}
+use Rattle.reading.proofs.BookLines.{book-few}
+use Rattle.table_reader.specs.Layout.{laid-out-for}
+use Rattle.table_reader.proofs.Laws.{laid-for-parts, not-laid-for-read}
+use Rattle.checker.specs.Checking.{checked-table, checked-book, BookRead, TableChecked, lengths-right, Room, Checks}
 
 -- ---- for_tower
 
-module _ (tower : Tower) (table : List ℕ) (b : Bool) (is-b : b ≡ laid-out table) where
-  pub not-laid-out : b ≡ false → false ≡ for-tower tower table
-  unfolding for-tower
-  not-laid-out f = rw (← is-b, f)
-
-  module _ (s t : ℕ) (yes-b : b ≡ true) (is-s : s ≡ table-states table) (is-t : t ≡ tower .states) where
-    pub other-states : (s ≡ t → ⊥) → false ≡ for-tower tower table
-    unfolding for-tower
-    other-states f = rw (← is-b, yes-b, ← is-s, ← is-t, ne-eqb s t f)
-
-    pub actions-decide : (u v : ℕ) → s ≡ t → u ≡ table-actions table → v ≡ tower .actions → eqb u v ≡ for-tower tower table
-    unfolding for-tower
-    actions-decide u v e is-u is-v = rw (← is-b, yes-b, ← is-s, ← is-t, eq-eqb s t e, ← is-u, ← is-v)
+-- The reader's answer for the tower's counts.
+pub for-counts : (tower table : List ℕ) (s a : ℕ) (b : Bool) → s ≡ tower-of tower .states → a ≡ tower-of tower .actions → b ≡ laid-out-for table s a
+    → b ≡ laid-out-for table (tower-of tower .states) (tower-of tower .actions)
+for-counts tower table s a b is-s is-a e = rw (← is-s, ← is-a) e
 
 -- ---- check_table
 
--- A table that is for the tower can be judged.
-pub judgeable : (tower table nodes : List ℕ) (lines count : ℕ) (b : Bool) → BookRead tower nodes lines count
-    → b ≡ for-tower (tower-of tower) table → b ≡ true → Judgeable tower table
-unfolding for-tower
-judgeable tower table nodes lines count b world e f =
-    let all = sym e ∙ f in
-    let sizes = and-right (laid-out table)
-    (eqb (table-states table) (tower-of tower .states) && eqb (table-actions table) (tower-of tower .actions)) all in
-    record {
-      fit = world .fit;
-      layout = and-left (laid-out table)
-          (eqb (table-states table) (tower-of tower .states) && eqb (table-actions table) (tower-of tower .actions)) all;
-      states = eqb-true (table-states table) (tower-of tower .states)
-          (and-left (eqb (table-states table) (tower-of tower .states)) (eqb (table-actions table) (tower-of tower .actions)) sizes);
-      actions = eqb-true (table-actions table) (tower-of tower .actions)
-          (and-right (eqb (table-states table) (tower-of tower .states)) (eqb (table-actions table) (tower-of tower .actions)) sizes);
-    }
+module _ (tower table nodes : List ℕ) (lines count : ℕ) (b : Bool)
+    (is-b : b ≡ laid-out-for table (tower-of tower .states) (tower-of tower .actions)) where
+  -- A table that is for the tower can be judged.
+  pub judgeable : BookRead tower nodes lines count → b ≡ true → Judgeable tower table
+  judgeable world f =
+      let (layout, states, actions) = laid-for-parts table (tower-of tower .states) (tower-of tower .actions) (sym is-b ∙ f) in
+      record { fit = world .fit; layout = layout; states = states; actions = actions }
 
-pub walkable : (tower table nodes : List ℕ) (lines count : ℕ) (b : Bool) → BookRead tower nodes lines count
-    → b ≡ for-tower (tower-of tower) table → b ≡ true → Walkable tower table nodes lines count
-walkable tower table nodes lines count b world e f =
-    record { files = judgeable tower table nodes lines count b world e f; held = world .held; few = world .few }
+  pub walkable : BookRead tower nodes lines count → b ≡ true → Walkable tower table nodes lines count
+  walkable world f = record { files = judgeable world f; held = world .held; few = world .few }
 
--- 13.
-pub not-for-tower : (tower table nodes : List ℕ) (lines count : ℕ) (b : Bool) → b ≡ for-tower (tower-of tower) table → b ≡ false
-    → TableChecked (Check.Refused Layout) tower table nodes lines count
-unfolding for-tower checked-table _then_ verdict turned-down
-not-for-tower tower table nodes lines count b e f =
-    record { says = λ h. sym (ap (λ (o : Answer Table). verdict (o then λ rows. judge (tower-of tower) (h .book) rows)) refused) }
-  where
-    go : (c d : Bool) → (c && d) ≡ false → _≡_ {A = Answer Table} (Layout if not c else Layout if not d else give (table-of table)) (refuse Layout)
-    go true true p = cc
-    go true false p = unfold _if_else_ in refl
-    go false d p = unfold _if_else_ in refl
-
-    refused : read-table (tower-of tower) table ≡ refuse Layout
-    refused = unfold read-table in
-        (go (laid-out table) (eqb (table-states table) (tower-of tower .states) && eqb (table-actions table) (tower-of tower .actions)) (sym e ∙ f))
+  -- 13.
+  pub not-for-tower : b ≡ false → TableChecked (Check.Refused Layout) tower table nodes lines count
+  unfolding checked-table _then_ verdict turned-down
+  not-for-tower f = record { says = λ h. sym (rw (not-laid-for-read (tower-of tower) table (sym is-b ∙ f))) }
 
 -- The rows decide, and then the walk.
 table-answer : (tower table : List ℕ) → Judgeable tower table → read-table (tower-of tower) table ≡ give (table-of table)
 table-answer tower table ok = laid-out-read (tower-of tower) table (ok .layout) (ok .states) (ok .actions)
 
 module _ (tower table nodes : List ℕ) (lines count : ℕ) (b : Bool) (world : BookRead tower nodes lines count)
-    (is-b : b ≡ for-tower (tower-of tower) table) (yes-b : b ≡ true) (v : RowVerdict)
+    (is-b : b ≡ laid-out-for table (tower-of tower .states) (tower-of tower .actions)) (yes-b : b ≡ true) (v : RowVerdict)
     (is-v : v ≡ rows-verdict (tower-of tower) (table-of table)) where
   judged : (h : IsHeld nodes lines count)
       → checked-table (tower-of tower) (h .book) table ≡ answer-after v (walk-answer (walk-verdict (tower-of tower) (h .book) (table-of table)))
   unfolding checked-table _then_
   judged h =
-      rw (table-answer tower table (judgeable tower table nodes lines count b world is-b yes-b))
+      rw (table-answer tower table (judgeable tower table nodes lines count b is-b world yes-b))
       (judge-after-rows (tower-of tower) (h .book) (table-of table)
       ∙ ap₂ answer-after (sym is-v) (walk-answers (tower-of tower) (h .book) (table-of table)))
 

@@ -4,19 +4,15 @@ use mathlib.Core.Path.{_≡_}
 use mathlib.Core.Bool.{Bool, _&&_}
 use mathlib.Core.List.{List, [], _∷_}
 use lib.ListN.{length}
-use lib.Dec.{leb, eqb}
+use lib.Dec.{leb}
 use Rattle.base.specs.Answers.{Answer, _then_}
 use Rattle.base.specs.declared.Verdict.{Verdict}
 use Rattle.logic.specs.Tower.{Tower, FitTower, tower-of}
 use Rattle.logic.specs.Book.{Book}
 use Rattle.reading.specs.BookReading.{read-book}
-use Rattle.reading.specs.TableReading.{laid-out, table-states, table-actions, read-table}
+use Rattle.reading.specs.TableReading.{read-table}
 use Rattle.outcome.specs.Check.{judge, verdict, check-outcome}
 use Rattle.progression.specs.NodeBytes.{IsHeld}
-
--- the table is laid out, and its S and A are the tower's
-unfoldable pub for-tower : Tower → List ℕ → Bool
-for-tower tower table = laid-out table && (eqb (table-states table) (tower .states) && eqb (table-actions table) (tower .actions))
 
 -- the answer for a table file, where tower and book are read
 unfoldable pub checked-table : Tower → Book → List ℕ → Answer (Unit {0})

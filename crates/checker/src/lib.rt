@@ -3,11 +3,12 @@
 // row, 11, 14 e. It stands on the definitions, and on nothing of the maker's.
 ghost use Prim.Native.Nat.{_≤_};
 ghost use mathlib.Core.Path.{_≡_};
-ghost use lib.ListN.{length, replicate};
+ghost use lib.ListN.{length};
 ghost use Rattle.logic.specs.Tower.{FitTower, tower-of};
+ghost use Rattle.table_reader.specs.Layout.{laid-out-for};
 ghost use Rattle.outcome.specs.Check.{turned-down, verdict, checked-file};
 ghost use Rattle.item_walk.specs.Items.{walk-answer};
-ghost use Rattle.checker.specs.Checking.{for-tower, checked-book, BookRead, TableChecked, lengths-right, Room, Checks};
+ghost use Rattle.checker.specs.Checking.{checked-book, BookRead, TableChecked, lengths-right, Room, Checks};
 use base::BookAnswer;
 use base::Reason;
 use base::Refusal;
@@ -47,15 +48,11 @@ fn by_walk(end: WalkEnd) -> Verdict
 // The table is laid out as a table file, and its S and A are the tower's.
 fn for_tower(tower: &[u8], table: &[u8]) -> bool
     requires { ⌜ FitTower (now tower) ⌝ }
-    ensures { λ b. ⌜ b ≡ for-tower (tower-of (now (tower .entry))) (now (table .entry)) ⌝ }
+    ensures { λ b. ⌜ b ≡ laid-out-for (now (table .entry)) (tower-of (now (tower .entry)) .states) (tower-of (now (tower .entry)) .actions) ⌝ }
 {
-    if !table_reader::laid_out(table) {
-        return false;
-    }
-    if table_reader::states(table) != tower_reader::states(tower) {
-        return false;
-    }
-    table_reader::actions(table) == tower_reader::actions(tower)
+    let s = tower_reader::states(tower);
+    let a = tower_reader::actions(tower);
+    table_reader::laid_out_for(table, s, a)
 }
 
 // The table, where tower and book are read: 13, 14 a to d, 11, 14 e.
@@ -154,8 +151,8 @@ pub fn check(
         return Verdict::Refused(Refusal::Area);
     }
     let answer = check_files(tower, text, table, nodes, items, index);
-    item_walk::clear(nodes);
-    item_walk::clear(items);
-    item_walk::clear(index);
+    lent_bytes::clear(nodes);
+    lent_bytes::clear(items);
+    lent_bytes::clear(index);
     answer
 }

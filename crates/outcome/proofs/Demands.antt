@@ -2,9 +2,9 @@
 -- of the entries are equations: `check-outcome` and `make-outcome`. The words are those of crate `logic`; nothing here speaks of how an
 -- answer is found. `FitFiles`, `FitTable` and `MadeCall` are in specs/Calls.antt, `MoreThan` and what is reached in specs/Reached.antt.
 use Prim.Native.Nat.{ℕ, _≤_}
-use mathlib.Core.Path.{_≡_, refl, sym, _∙_, ap, subst}
+use mathlib.Core.Path.{_≡_, sym, _∙_, ap, subst}
 use mathlib.Core.Logic.{_↔_, _⊎_, inl, inr, Iff·trans}
-use mathlib.Core.Bool.{Bool, true, false}
+use mathlib.Core.Bool.{true}
 use mathlib.Core.List.{List}
 use native.Mathlib.Omega.{arith}
 use lib.ListN.{length}
@@ -16,17 +16,18 @@ use Rattle.base.specs.declared.Verdict.the-variants as Check
 use Rattle.logic.specs.Tower.{Tower}
 use Rattle.logic.specs.Book.{Book}
 use Rattle.logic.specs.Tables.{Table, IsTable, Allows, Good, GoodAllow, Made}
-use Rattle.logic.specs.TableFile.{table-file, most-rows}
+use Rattle.logic.specs.TableFile.{table-file}
 use Rattle.logic.proofs.Canonical.{good-follows, made-fewest}
 use Rattle.logic.proofs.TableFile.{Fits, made-fits}
 use Rattle.reading.specs.TableReading.{rows-of, table-of}
-use Rattle.reading.proofs.FitInput.{tower-fits, book-fit, table-read, laid-out-read}
+use Rattle.reading.proofs.FitInput.{tower-fits, table-read, laid-out-read}
+use Rattle.reading.proofs.BookLines.{book-fit}
 use Rattle.reading.proofs.HeldTable.{FileHolds, file-holds}
 use Rattle.reading.proofs.TableReading.{laid-out-fits, file-laid-out, file-table, made-same-file}
 use Rattle.pending.specs.Pairs.{most-pairs}
 use Rattle.outcome.specs.Areas.{make-areas, check-areas}
 use Rattle.outcome.specs.Check.{judge, verdict, turned-down, check-outcome}
-use Rattle.outcome.specs.Make.{table-for, make-outcome}
+use Rattle.outcome.specs.Make.{make-outcome}
 use Rattle.outcome.specs.Reached.{ReachedPair, ReachedItem, MoreThan}
 use Rattle.outcome.specs.Calls.{FitFiles, FitTable, MadeCall}
 use Rattle.outcome.specs.Judged.{FirstReason}

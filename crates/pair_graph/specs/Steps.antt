@@ -1,9 +1,11 @@
 -- The graph as bytes in a lent area: two bytes for each pair and each of 16 actions.
 use Prim.Native.Nat.{ℕ, zero, suc, _+_, _*_, _≤_, _<_}
 use mathlib.Core.Path.{_≡_}
+use mathlib.Core.Bool.{Bool}
 use mathlib.Core.List.{List}
 use lib.ListN.{length}
-use Rattle.base.specs.Bytes.{number-at}
+use lib.Dec.{eqb}
+use Rattle.base.specs.Bytes.{byte-at, number-at}
 use Rattle.logic.specs.Tower.{Tower}
 use Rattle.pair_graph.specs.Graph.{Move, not-enabled, broken, to, Graph}
 
@@ -33,3 +35,17 @@ graph-of tower n state steps =
 pub record HoldsGraph (tower : Tower) (n : ℕ) (steps : List ℕ) : Type 0 where
   pub room : cell n 0 ≤ length steps
   pub targets : (i a j : ℕ) → i < n → a < tower .actions → move-at steps i a ≡ to j → j < n
+
+-- ---- what is known of each pair
+
+-- the tower state of pair i: the number at the beginning of its entry of 62 bytes
+abbrev pub state-in : List ℕ → ℕ → ℕ
+state-in entries i = number-at 2 entries (62 * i)
+
+-- pair i is kept: its flag is 1
+unfoldable pub kept-in : List ℕ → ℕ → Bool
+kept-in flags i = eqb (byte-at flags i) 1
+
+-- the class of pair i
+abbrev pub class-in : List ℕ → ℕ → ℕ
+class-in classes i = number-at 2 classes (2 * i)

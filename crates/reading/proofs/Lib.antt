@@ -3,3 +3,4 @@ pub mod TableHeader
 pub mod HeldTable
 pub mod LaidOut
 pub mod FitInput
+pub mod BookLines

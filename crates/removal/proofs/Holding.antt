@@ -14,8 +14,8 @@ use Rattle.base.specs.Bytes.{byte-at}
 use Rattle.base.proofs.Lists.{never-both, and-left, and-right}
 use Rattle.logic.specs.Tower.{Tower}
 use Rattle.pair_graph.specs.Graph.{Largest}
-use Rattle.pair_graph.specs.Steps.{graph-of, HoldsGraph}
-use Rattle.removal.specs.Removal.{kept-in, fine-at, has-to-go, HoldsAll, AllKept}
+use Rattle.pair_graph.specs.Steps.{graph-of, HoldsGraph, kept-in}
+use Rattle.removal.specs.Removal.{fine-at, has-to-go, HoldsAll, AllKept}
 use Rattle.removal.proofs.FinePairs.{fine-out, fine-in, fine-more}
 
 -- ---- Flags

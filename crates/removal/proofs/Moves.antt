@@ -12,8 +12,8 @@ use Rattle.base.specs.Bytes.{number-at}
 use Rattle.logic.specs.Tower.{Tower, FitTower, tower-of, controllable, goes-on}
 use Rattle.tower_reader.proofs.Laws.{fit-bounds}
 use Rattle.pair_graph.specs.Graph.{to}
-use Rattle.pair_graph.specs.Steps.{action-room, cell, move-of, move-at}
-use Rattle.removal.specs.Removal.{kept-in, leads-inside, stays-inside, not-forced-at, goes-at, Judged}
+use Rattle.pair_graph.specs.Steps.{action-room, cell, move-of, move-at, kept-in}
+use Rattle.removal.specs.Removal.{leads-inside, stays-inside, not-forced-at, goes-at, Judged}
 
 -- ---- Kinds
 

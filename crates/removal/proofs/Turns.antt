@@ -12,8 +12,8 @@ use Rattle.base.specs.Choice.{pick}
 use Rattle.base.specs.Lists.{total}
 use Rattle.base.specs.Bytes.{byte-at}
 use Rattle.logic.specs.Tower.{Tower, FitTower, tower-of}
-use Rattle.pair_graph.specs.Steps.{HoldsGraph}
-use Rattle.removal.specs.Removal.{kept-in, fine-at, has-to-go, Ready, Judged, Visited, HoldsAll, SameBeyond, Passed, AllKept, Removed}
+use Rattle.pair_graph.specs.Steps.{HoldsGraph, kept-in}
+use Rattle.removal.specs.Removal.{fine-at, has-to-go, Ready, Judged, Visited, HoldsAll, SameBeyond, Passed, AllKept, Removed}
 use Rattle.removal.proofs.Holding.{kept-other, kept-one, one-kept, total-clear, goer-kept, stayer-fine, goer-holds, largest}
 
 -- ---- The flags behind the pairs

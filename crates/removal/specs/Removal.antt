@@ -10,11 +10,7 @@ use Rattle.base.specs.Lists.{every, some-of, below, total}
 use Rattle.base.specs.Bytes.{byte-at}
 use Rattle.logic.specs.Tower.{Tower, FitTower, tower-of, controllable, goes-on}
 use Rattle.pair_graph.specs.Graph.{Move, not-enabled, broken, to, Largest}
-use Rattle.pair_graph.specs.Steps.{move-at, graph-of, HoldsGraph}
-
--- pair i is kept: its flag is 1
-unfoldable pub kept-in : List ℕ → ℕ → Bool
-kept-in flags i = eqb (byte-at flags i) 1
+use Rattle.pair_graph.specs.Steps.{move-at, graph-of, HoldsGraph, kept-in}
 
 -- ---- Pairs that are fine among the kept
 

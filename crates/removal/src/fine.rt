@@ -4,8 +4,8 @@ ghost use mathlib.Core.Path.{_≡_};
 ghost use lib.ListN.{length};
 ghost use Rattle.base.specs.Bytes.{number-at};
 ghost use Rattle.logic.specs.Tower.{tower-of};
-ghost use Rattle.pair_graph.specs.Steps.{cell, move-of};
-ghost use Rattle.removal.specs.Removal.{kept-in, leads-inside, not-forced-at, goes-at, none-forced, some-goes, fine-at, Judged};
+ghost use Rattle.pair_graph.specs.Steps.{cell, move-of, kept-in};
+ghost use Rattle.removal.specs.Removal.{leads-inside, not-forced-at, goes-at, none-forced, some-goes, fine-at, Judged};
 use crate::kinds;
 
 // The flag of a kept pair.

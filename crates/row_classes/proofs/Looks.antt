@@ -11,8 +11,8 @@ use Rattle.base.specs.Choice.{pick}
 use Rattle.base.specs.Bytes.{number-at}
 use Rattle.base.proofs.Lists.{never-both}
 use Rattle.pair_graph.specs.Graph.{Move, not-enabled, broken, to, allowed-to}
-use Rattle.pair_graph.specs.Steps.{action-room, move-of, cell, move-at}
-use Rattle.row_classes.specs.View.{kept-in, state-in, class-in, View, shown, shows-in, view-of, Alike, bucket-upto, bucket-of}
+use Rattle.pair_graph.specs.Steps.{action-room, move-of, cell, move-at, class-in, kept-in, state-in}
+use Rattle.row_classes.specs.View.{View, shown, shows-in, view-of, Alike, bucket-upto, bucket-of}
 use Rattle.row_classes.specs.Passes.{Small, Shows, Stepping, SameSteps, Readable, Tells}
 use Rattle.row_classes.proofs.Turns.{one-more}
 

@@ -12,8 +12,8 @@ use Rattle.base.specs.Choice.{pick}
 use Rattle.base.specs.Lists.{same-option}
 use Rattle.base.proofs.Lists.{never-both, whether}
 use Rattle.pair_graph.specs.Graph.{Move, not-enabled, broken, to, Graph, allowed-to, AlikeNow, Kept, Classes}
-use Rattle.pair_graph.specs.Steps.{move-at}
-use Rattle.row_classes.specs.View.{kept-in, state-in, class-in, pairs-graph, shown, shows-in, view-of, Alike}
+use Rattle.pair_graph.specs.Steps.{move-at, class-in, kept-in, state-in}
+use Rattle.row_classes.specs.View.{pairs-graph, shown, shows-in, view-of, Alike}
 use Rattle.row_classes.specs.Passes.{Numbered}
 
 -- What an allowed step leads to is kept.

@@ -10,8 +10,8 @@ use Rattle.base.specs.Choice.{pick}
 use Rattle.base.specs.Bytes.{number-at}
 use Rattle.base.proofs.Lists.{never-both}
 use Rattle.pair_graph.specs.Graph.{Classes}
-use Rattle.pair_graph.specs.Steps.{action-room, cell}
-use Rattle.row_classes.specs.View.{kept-in, class-in, old-part, new-in, pairs-graph, view-of}
+use Rattle.pair_graph.specs.Steps.{action-room, cell, class-in, kept-in}
+use Rattle.row_classes.specs.View.{old-part, new-in, pairs-graph, view-of}
 use Rattle.row_classes.specs.Passes.{Ready, Classified, Cleared, Given, Passed, Adopted}
 use Rattle.row_classes.proofs.Stores.{class-front}
 use Rattle.row_classes.proofs.Refinement.{Coarse, Closed, coarse-start, coarse-along, coarse-pass, right-classes, sum, sum-lt}

@@ -8,7 +8,8 @@ use lib.Seq.{getD-set-same, getD-set-other, take-set-le, getD-take}
 use mir.Syntax.{w8, w64}
 use mir.Val.{Fits}
 use Rattle.base.specs.Bytes.{byte-at, number-at}
-use Rattle.row_classes.specs.View.{class-in, old-part}
+use Rattle.pair_graph.specs.Steps.{class-in}
+use Rattle.row_classes.specs.View.{old-part}
 use Rattle.row_classes.specs.Passes.{Small, Put, Cleared}
 use Rattle.row_classes.proofs.Turns.{one-more}
 

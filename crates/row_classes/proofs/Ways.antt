@@ -10,7 +10,8 @@ use lib.ListN.{length, take}
 use lib.Seq.{take-take}
 use Rattle.base.specs.Bytes.{number-at}
 use Rattle.base.proofs.Lists.{never-both}
-use Rattle.row_classes.specs.View.{kept-in, class-in, old-part, new-in, link-in, head-in, View, view-of, Alike, buckets, bucket-of}
+use Rattle.pair_graph.specs.Steps.{class-in, kept-in}
+use Rattle.row_classes.specs.View.{old-part, new-in, link-in, head-in, View, view-of, Alike, buckets, bucket-of}
 use Rattle.row_classes.specs.Passes.{Small, Put, Cleared, Readable, Given, Tells, Numbered, Chained, Found, Passed, Entered}
 use Rattle.row_classes.specs.Passes.{AdoptedOne, Adopted}
 use Rattle.row_classes.proofs.Turns.{one-more, Walking, walk-start, walk-on, walk-falls, walk-found, walk-end, found-most}

@@ -6,8 +6,8 @@ use mathlib.Core.List.{List}
 use lib.ListN.{length, take}
 use Rattle.base.specs.Bytes.{number-at}
 use Rattle.pair_graph.specs.Graph.{to, Classes}
-use Rattle.pair_graph.specs.Steps.{cell, move-at}
-use Rattle.row_classes.specs.View.{kept-in, class-in, old-part, new-in, link-in, head-in, pairs-graph}
+use Rattle.pair_graph.specs.Steps.{cell, move-at, class-in, kept-in}
+use Rattle.row_classes.specs.View.{old-part, new-in, link-in, head-in, pairs-graph}
 use Rattle.row_classes.specs.View.{View, shows-in, view-of, Alike, buckets, bucket-of}
 
 -- ---- the whole

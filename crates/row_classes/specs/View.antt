@@ -8,19 +8,7 @@ use lib.ListN.{take}
 use lib.Dec.{eqb}
 use Rattle.base.specs.Bytes.{byte-at, number-at}
 use Rattle.pair_graph.specs.Graph.{Graph, allowed-to}
-use Rattle.pair_graph.specs.Steps.{move-at}
-
--- pair i is kept
-unfoldable pub kept-in : List ℕ → ℕ → Bool
-kept-in flags i = eqb (byte-at flags i) 1
-
--- the tower state of pair i
-abbrev pub state-in : List ℕ → ℕ → ℕ
-state-in entries i = number-at 2 entries (62 * i)
-
--- the class of pair i
-abbrev pub class-in : List ℕ → ℕ → ℕ
-class-in area i = number-at 2 area (2 * i)
+use Rattle.pair_graph.specs.Steps.{move-at, class-in, kept-in, state-in}
 
 -- ---- the parts of the area in which a pass works
 

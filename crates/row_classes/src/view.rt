@@ -2,7 +2,8 @@
 ghost use Prim.Native.Nat.{_+_, _*_, _<_, _≤_};
 ghost use mathlib.Core.Path.{_≡_};
 ghost use lib.ListN.{length};
-ghost use Rattle.row_classes.specs.View.{kept-in, state-in, class-in, shows-in, view-of, bucket-of, old-part};
+ghost use Rattle.pair_graph.specs.Steps.{class-in, kept-in, state-in};
+ghost use Rattle.row_classes.specs.View.{shows-in, view-of, bucket-of, old-part};
 ghost use Rattle.row_classes.specs.Passes.{Small, Shows, Stepping, SameSteps, Readable, Tells};
 use crate::numbers;
 

@@ -16,7 +16,8 @@ use Rattle.base.specs.Bytes.{number-at}
 use Rattle.base.specs.Search.{new-ones, search-on, search-from}
 use Rattle.base.proofs.Lists.{IsSame, never-both, false-by, true-by, or-fails-left, or-fails-right, or-neither, some-append, mem-getD, below-mem, length-below, place-of-append-left, place-of-append-right}
 use Rattle.base.proofs.Search.{Apart, apart-few}
-use Rattle.row_order.specs.Orders.{class-in, classes-part, same-in, order-at, order-of, of-class, mark-in, grown, Numbered}
+use Rattle.pair_graph.specs.Steps.{class-in}
+use Rattle.row_order.specs.Orders.{classes-part, same-in, order-at, order-of, of-class, mark-in, grown, Numbered}
 use Rattle.row_order.proofs.Areas.{number-in-part}
 
 -- ---- pairs of one class
@@ -35,7 +36,6 @@ same-is part =
 
 -- The class of a pair is read from the area.
 pub class-read : (area : List ℕ) (j : ℕ) → j < 1000 → class-in (classes-part area) j ≡ number-at 2 area (2 * j)
-unfolding class-in
 class-read area j h = number-in-part order-at area (2 * j) (omega arith)
 
 -- One more that is of no class seen keeps them apart.

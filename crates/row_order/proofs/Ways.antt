@@ -19,8 +19,8 @@ use Rattle.base.specs.Bytes.{number-at}
 use Rattle.base.specs.Search.{search-on, search-from}
 use Rattle.base.proofs.Search.{Apart}
 use Rattle.pair_graph.specs.Graph.{Move, not-enabled, broken, to, allowed-to}
-use Rattle.pair_graph.specs.Steps.{action-room, cell, move-of, move-at}
-use Rattle.row_order.specs.Orders.{kept-in, led-to, led-of, followers, Moves, order-at, marks-at, classes-part, class-in, same-in, order-of, of-class, mark-in, grown, Numbered, Grows, Classed, Cleared, InOrder}
+use Rattle.pair_graph.specs.Steps.{action-room, cell, move-of, move-at, class-in, kept-in}
+use Rattle.row_order.specs.Orders.{led-to, led-of, followers, Moves, order-at, marks-at, classes-part, same-in, order-of, of-class, mark-in, grown, Numbered, Grows, Classed, Cleared, InOrder}
 use Rattle.row_order.specs.declared.Led.{Led}
 use Rattle.row_order.specs.declared.Led.the-variants.{To, Nowhere}
 use Rattle.row_order.proofs.Areas.{stored, stored-read, stored-beside, take-stored, length-stored}

@@ -13,15 +13,11 @@ use Rattle.base.specs.Bytes.{byte-at, number-at}
 use Rattle.base.specs.Search.{new-ones, search-from}
 use Rattle.base.proofs.Search.{Apart}
 use Rattle.pair_graph.specs.Graph.{to, allowed-to}
-use Rattle.pair_graph.specs.Steps.{cell, move-at}
+use Rattle.pair_graph.specs.Steps.{cell, move-at, class-in, kept-in}
 use Rattle.row_order.specs.declared.Led.{Led}
 use Rattle.row_order.specs.declared.Led.the-variants.{To, Nowhere}
 
 -- ---- the graph
-
--- pair i is kept: its flag is 1
-unfoldable pub kept-in : List ℕ → ℕ → Bool
-kept-in flags i = eqb (byte-at flags i) 1
 
 -- the pair that action a leads to from pair i, if it is allowed
 unfoldable pub led-to : List ℕ → List ℕ → ℕ → ℕ → Option ℕ
@@ -56,10 +52,6 @@ marks-at n = order-at + 2 * n
 -- the part of the area that holds the classes
 abbrev pub classes-part : List ℕ → List ℕ
 classes-part area = take order-at area
-
--- the class of pair i
-unfoldable pub class-in : List ℕ → ℕ → ℕ
-class-in part i = number-at 2 part (2 * i)
 
 -- pairs of one class
 unfoldable pub same-in : List ℕ → ℕ → ℕ → Bool

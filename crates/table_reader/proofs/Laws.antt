@@ -21,7 +21,6 @@ use Rattle.logic.specs.Tables.{Step, row-at, step-to, move}
 use Rattle.reading.specs.TableReading.{rows-of, steps-of, table-states, table-actions, row-state, row-count, row-first, step-place, step-action, step-target, header-right, steps-right, rows-right, laid-out, step-of, row-of-table, table-of, read-table}
 use Rattle.reading.proofs.TableHeader.{HeaderFits, header-out}
 use Rattle.reading.proofs.LaidOut.{steps-right-out, rows-right-out, laid-out-rows, length-table-of, row-of-table-at}
-use Rattle.reading.proofs.FitInput.{laid-out-read}
 use Rattle.table_reader.specs.Layout.{laid-out-for}
 use Rattle.table_reader.specs.Moves.{target-read}
 use Rattle.table_reader.specs.declared.Target.{Target}
@@ -212,16 +211,16 @@ target-nothing (some s) answer e f = cc
 
 -- ---- a table for a tower
 
--- Bytes that are laid out for a tower are read as their table.
-pub laid-for-read : (tower : Tower) (bytes : List ℕ) → laid-out-for bytes (tower .states) (tower .actions) ≡ true
-    → read-table tower bytes ≡ give (table-of bytes)
+-- Bytes that are laid out for so many states and actions are laid out, with these numbers in the header.
+pub laid-for-parts : (bytes : List ℕ) (s a : ℕ) → laid-out-for bytes s a ≡ true
+    → (laid-out bytes ≡ true) × (table-states bytes ≡ s) × (table-actions bytes ≡ a)
 unfolding laid-out-for
-laid-for-read tower bytes e =
-    let same = and-right (laid-out bytes) (eqb (table-states bytes) (tower .states) && eqb (table-actions bytes) (tower .actions)) e in
-    laid-out-read tower bytes
-    (and-left (laid-out bytes) (eqb (table-states bytes) (tower .states) && eqb (table-actions bytes) (tower .actions)) e)
-    (eqb-true (table-states bytes) (tower .states) (and-left (eqb (table-states bytes) (tower .states)) (eqb (table-actions bytes) (tower .actions)) same))
-    (eqb-true (table-actions bytes) (tower .actions) (and-right (eqb (table-states bytes) (tower .states)) (eqb (table-actions bytes) (tower .actions)) same))
+laid-for-parts bytes s a e =
+    let same = and-right (laid-out bytes) (eqb (table-states bytes) s && eqb (table-actions bytes) a) e in (
+      and-left (laid-out bytes) (eqb (table-states bytes) s && eqb (table-actions bytes) a) e,
+      eqb-true (table-states bytes) s (and-left (eqb (table-states bytes) s) (eqb (table-actions bytes) a) same),
+      eqb-true (table-actions bytes) a (and-right (eqb (table-states bytes) s) (eqb (table-actions bytes) a) same),
+    )
 
 -- Others are refused with 13.
 pub not-laid-for-read : (tower : Tower) (bytes : List ℕ) → laid-out-for bytes (tower .states) (tower .actions) ≡ false

@@ -8,10 +8,9 @@ use Rattle.base.specs.Lists.{below, present}
 use Rattle.logic.specs.Tower.{Tower}
 use Rattle.logic.specs.Tables.{Step, Row}
 use Rattle.pair_graph.specs.Graph.{Graph, Move}
-use Rattle.pair_graph.specs.Steps.{move-at, graph-of}
+use Rattle.pair_graph.specs.Steps.{move-at, graph-of, class-in, kept-in, state-in}
 use Rattle.pair_graph.specs.GraphTable.{allowed, allowed-all, same-class, row-order, graph-step, graph-row, graph-table}
-use Rattle.row_order.specs.Orders.{kept-in, class-in}
-use Rattle.table_writer.specs.Writing.{state-in, graph-in, table-in}
+use Rattle.table_writer.specs.Writing.{graph-in, table-in}
 
 module _ (n actions : ℕ) (state : ℕ → ℕ) (move : ℕ → ℕ → Move) (kept : ℕ → Bool) (class : ℕ → ℕ) (kind other : ℕ → ℕ) where
   abbrev graph : (ℕ → ℕ) → Graph

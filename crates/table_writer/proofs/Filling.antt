@@ -15,10 +15,11 @@ use Rattle.logic.specs.Tables.{Step, Row}
 use Rattle.logic.specs.TableFile.{rows-at, row-size, header-bytes, row-bytes, table-file}
 use Rattle.logic.specs.Tower.{state-width}
 use Rattle.logic.proofs.TableFile.{length-header, length-row-bytes}
-use Rattle.row_order.specs.Orders.{followers, class-in, classes-part, order-of, Moves, Classed, InOrder}
+use Rattle.pair_graph.specs.Steps.{class-in, state-in}
+use Rattle.row_order.specs.Orders.{followers, classes-part, order-of, Moves, Classed, InOrder}
 use Rattle.row_order.proofs.Rest.{rest, rest-all, rest-next, rest-none}
 use Rattle.row_order.proofs.Orders.{class-read, length-order, rows-few}
-use Rattle.table_writer.specs.Writing.{state-in, table-in, Writable, Writes, step-from, steps-in, row-in, packed, steps-total, bytes-of-steps, Laid, Wrote, WroteRows, WroteFile}
+use Rattle.table_writer.specs.Writing.{table-in, Writable, Writes, step-from, steps-in, row-in, packed, steps-total, bytes-of-steps, Laid, Wrote, WroteRows, WroteFile}
 use Rattle.table_writer.specs.declared.Written.the-variants.{Made, NoRoom}
 use Rattle.table_writer.proofs.Tables.{sets-append, length-steps, packed-cons, packed-nil, length-packed, no-steps, bytes-append, length-bytes, file-parts, file-long}
 use Rattle.table_writer.proofs.Same.{table-same}
@@ -166,7 +167,7 @@ row-four s c f = refl
 
 -- The low byte of a state.
 state-low : (entries : List ℕ) (i s : ℕ) → ((j : ℕ) → Fits w8 (getD entries j 0)) → s ≡ getD entries (62 * i) 0 → s ≡ state-in entries i % 256
-unfolding state-in number-at
+unfolding number-at
 state-low entries i s h e = omega (arith, h (62 * i))
 
 pub listing-more : (steps flags entries area : List ℕ) (n actions rows : ℕ) (first out : List ℕ) (count r i c : ℕ) (z : List ℕ)
@@ -264,7 +265,6 @@ module _ (steps flags entries classes : List ℕ) (n actions : ℕ) (given : Wri
       }
 
   classes-agree : (i : ℕ) → i < n → class-in classes i ≡ class-in (classes-part classes) i
-  unfolding class-in
   classes-agree i l = sym (class-read classes i (omega (arith, given .most)))
 
   pub classes-given : Classed n classes

@@ -13,9 +13,10 @@ use Rattle.base.specs.Search.{new-ones, search-on, search-from}
 use Rattle.base.proofs.Lists.{mem-below, present-map-out}
 use Rattle.logic.specs.Tables.{Step}
 use Rattle.pair_graph.specs.GraphTable.{allowed, allowed-all, same-class, row-order, graph-step, graph-row, graph-table}
-use Rattle.row_order.specs.Orders.{kept-in, led-to, followers, class-in, same-in, Moves}
+use Rattle.pair_graph.specs.Steps.{class-in, kept-in, state-in}
+use Rattle.row_order.specs.Orders.{led-to, followers, same-in, Moves}
 use Rattle.row_order.proofs.Ways.{allowed-below}
-use Rattle.table_writer.specs.Writing.{state-in, graph-in, table-in, step-in, step-from, steps-in, row-in}
+use Rattle.table_writer.specs.Writing.{graph-in, table-in, step-in, step-from, steps-in, row-in}
 
 -- Each of them is below n.
 abbrev Below : ℕ → List ℕ → Type 0

@@ -18,7 +18,8 @@ use Rattle.base.proofs.Search.{search-closed}
 use Rattle.logic.specs.Tables.{Step}
 use Rattle.logic.specs.TableFile.{rows-at, row-size, steps-at, header-bytes, step-bytes}
 use Rattle.logic.specs.Tower.{state-width}
-use Rattle.row_order.specs.Orders.{led-to, led-of, followers, class-in, classes-part, same-in, order-of, of-class}
+use Rattle.pair_graph.specs.Steps.{class-in}
+use Rattle.row_order.specs.Orders.{led-to, led-of, followers, classes-part, same-in, order-of, of-class}
 use Rattle.row_order.specs.declared.Led.{Led}
 use Rattle.row_order.specs.declared.Led.the-variants.{To, Nowhere}
 use Rattle.row_order.proofs.Orders.{same-is, class-read, length-order, rows-few, mark-some, of-same}

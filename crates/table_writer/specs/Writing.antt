@@ -13,17 +13,13 @@ use Rattle.base.specs.Search.{search-from}
 use Rattle.logic.specs.Tables.{Step, Row, Table}
 use Rattle.logic.specs.TableFile.{step-bytes, row-bytes, table-file}
 use Rattle.pair_graph.specs.Graph.{Graph, to}
-use Rattle.pair_graph.specs.Steps.{cell, move-at}
+use Rattle.pair_graph.specs.Steps.{cell, move-at, class-in, kept-in, state-in}
 use Rattle.pair_graph.specs.GraphTable.{graph-table}
-use Rattle.row_order.specs.Orders.{kept-in, led-to, followers, class-in, classes-part, same-in, order-of, Moves, Numbered}
+use Rattle.row_order.specs.Orders.{led-to, followers, classes-part, same-in, order-of, Moves, Numbered}
 use Rattle.table_writer.specs.declared.Written.{Written}
 use Rattle.table_writer.specs.declared.Written.the-variants.{Made, NoRoom}
 
 -- ---- the table
-
--- the tower state of pair i: the two-byte number at the beginning of its entry of 62 bytes
-unfoldable pub state-in : List ℕ → ℕ → ℕ
-state-in entries i = number-at 2 entries (62 * i)
 
 -- the graph of n pairs that the areas hold; the kinds of actions do not matter to its table
 unfoldable pub graph-in : (steps entries : List ℕ) → ℕ → ℕ → Graph

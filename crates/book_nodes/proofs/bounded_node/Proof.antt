@@ -26,7 +26,12 @@ same-length : tie.Need-same-length
 same-length c = search all
 
 returns : tie.Need-returns
-returns c = search all
+returns c =
+    bounded-stored _ _ _ _ _ _ _ _
+    (c .before .before .before .before .before .before .before .before .before .before .before .before .last-node .ensures)
+    (c .before .before .before .before .before .before .before .before .before .before .note-number .ensures)
+    (c .before .before .before .before .before .before .put .ensures)
+    (c .before .before .tell-timed .ensures)
 
 pub bounded-node-spec : {M : Type 1} → statement M
 bounded-node-spec =

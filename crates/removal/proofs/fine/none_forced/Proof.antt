@@ -3,7 +3,8 @@
 use Prim.Native.Nat.{_-_}
 use mathlib.Core.Bool.{true}
 use Rattle.logic.specs.Tower.{tower-of}
-use Rattle.removal.specs.Removal.{kept-in, not-forced-at}
+use Rattle.pair_graph.specs.Steps.{kept-in}
+use Rattle.removal.specs.Removal.{not-forced-at}
 use borrow.Author.Needs.{needs}
 use borrow.Author.Tests.{not-true, not-false}
 use Rattle.removal.proofs.Moves.{judged-fit}

@@ -3,7 +3,8 @@
 use Prim.Native.Nat.{_-_}
 use mathlib.Core.Bool.{false}
 use Rattle.logic.specs.Tower.{tower-of}
-use Rattle.removal.specs.Removal.{kept-in, goes-at}
+use Rattle.pair_graph.specs.Steps.{kept-in}
+use Rattle.removal.specs.Removal.{goes-at}
 use borrow.Author.Needs.{needs}
 use Rattle.removal.proofs.Moves.{judged-fit}
 use Rattle.removal.proofs.Scans.{SameBelow, same-start, same-more, one-goes, none-goes}

@@ -1,0 +1,97 @@
+-- Two-byte numbers in files and lent areas: read, written, and read back.
+use Prim.Native.Nat.{ℕ, suc, _+_, _*_, _/_, _%_, _≤_, _<_}
+use native.Mathlib.Omega.{arith}
+use native.Mathlib.Numerals.{add-one}
+use mathlib.Core.Path.{_≡_, _∙_}
+use mathlib.Core.Logic.{_⊎_, inl, inr}
+use mathlib.Core.List.{List}
+use lib.ListN.{length, getD, set, take, length-set}
+use lib.Seq.{sets, length-sets, getD-set-same, getD-set-other, take-set-le, getD-take}
+use mir.Syntax.{w8, w64}
+use mir.Val.{Fits}
+use Rattle.base.specs.Bytes.{number-at, number-bytes}
+
+-- ---- bytes
+
+-- A byte is a number.
+pub cast-byte : (l : List ℕ) (i : ℕ) → ((j : ℕ) → Fits w8 (getD l j 0)) → Fits w64 (getD l i 0)
+cast-byte l i h = omega (arith, h i)
+
+-- The upper byte of a two-byte number.
+pub upper-fits : (l : List ℕ) (i : ℕ) → ((j : ℕ) → Fits w8 (getD l j 0)) → Fits w64 (256 * getD l i 0)
+upper-fits l i h = omega (arith, h i)
+
+-- A two-byte number.
+pub two-fit : (l : List ℕ) (i k : ℕ) → ((j : ℕ) → Fits w8 (getD l j 0)) → Fits w64 (getD l i 0 + 256 * getD l k 0)
+two-fit l i k h = omega (arith, h i, h k)
+
+-- What two bytes spell.
+pub two-read : (l : List ℕ) (p : ℕ) → getD l p 0 + 256 * getD l (p + 1) 0 ≡ number-at 2 l p
+unfolding number-at
+two-read l p = omega arith
+
+-- A remainder by 256 is a byte.
+pub byte-fits : (n : ℕ) → Fits w8 (n % 256)
+byte-fits n = omega arith
+
+-- What two stores write.
+pub two-written : (l : List ℕ) (p n : ℕ) → set (set l p (n % 256)) (p + 1) (n / 256 % 256) ≡ sets l p (number-bytes 2 n)
+unfolding number-bytes
+two-written l p n = rw (add-one p)
+
+-- ---- numbers written
+
+-- l with n written at p
+abbrev pub stored : List ℕ → ℕ → ℕ → List ℕ
+stored l p n = sets l p (number-bytes 2 n)
+
+low-read : (l : List ℕ) (p n : ℕ) → p + 1 < length l → getD (stored l p n) p 0 ≡ n % 256
+unfolding number-bytes
+low-read l p n h =
+    getD-set-other (set l p (n % 256)) (suc p) p (n / 256 % 256) 0 (λ e. omega arith) ∙ getD-set-same l p (n % 256) 0 (omega arith)
+
+high-read : (l : List ℕ) (p n : ℕ) → p + 1 < length l → getD (stored l p n) (suc p) 0 ≡ n / 256 % 256
+unfolding number-bytes
+high-read l p n h = getD-set-same (set l p (n % 256)) (suc p) (n / 256 % 256) 0 (omega (arith, length-set l p (n % 256)))
+
+-- Another byte is as it was.
+pub byte-beside : (l : List ℕ) (p n q : ℕ) → (q ≡ p → ⊥) → (q ≡ suc p → ⊥) → getD (stored l p n) q 0 ≡ getD l q 0
+unfolding number-bytes
+byte-beside l p n q h k = getD-set-other (set l p (n % 256)) (suc p) q (n / 256 % 256) 0 k ∙ getD-set-other l p q (n % 256) 0 h
+
+-- A number written is read back.
+pub stored-read : (l : List ℕ) (p n : ℕ) → p + 1 < length l → n < 65536 → number-at 2 (stored l p n) p ≡ n
+unfolding number-at
+stored-read l p n h small =
+    let low = low-read l p n h in
+    let high : getD (stored l p n) (p + 1) 0 ≡ n / 256 % 256 = rw (add-one p) (high-read l p n h) in
+    omega arith
+
+-- A number beside it is as it was.
+pub stored-beside : (l : List ℕ) (p n q : ℕ) → (q + 1 < p) ⊎ (p + 1 < q) → number-at 2 (stored l p n) q ≡ number-at 2 l q
+unfolding number-at
+stored-beside l p n q (inl h) =
+    let a = byte-beside l p n q (λ e. omega arith) (λ e. omega arith) in
+    let b = byte-beside l p n (q + 1) (λ e. omega arith) (λ e. omega arith) in
+    omega arith
+stored-beside l p n q (inr h) =
+    let a = byte-beside l p n q (λ e. omega arith) (λ e. omega arith) in
+    let b = byte-beside l p n (q + 1) (λ e. omega arith) (λ e. omega arith) in
+    omega arith
+
+-- What lies before it is as it was.
+pub take-stored : (k : ℕ) (l : List ℕ) (p n : ℕ) → k ≤ p → take k (stored l p n) ≡ take k l
+unfolding number-bytes
+take-stored k l p n h = take-set-le k (set l p (n % 256)) (suc p) (n / 256 % 256) (omega arith) ∙ take-set-le k l p (n % 256) h
+
+-- The area is as long as it was.
+pub length-stored : (l : List ℕ) (p n : ℕ) → length (stored l p n) ≡ length l
+length-stored l p n = length-sets l p (number-bytes 2 n)
+
+-- A number that ends in a part is read from that part.
+pub number-in-part : (k : ℕ) (l : List ℕ) (p : ℕ) → p + 1 < k → number-at 2 (take k l) p ≡ number-at 2 l p
+unfolding number-at
+number-in-part k l p h =
+    let a = getD-take k l p 0 (omega arith) in
+    let b = getD-take k l (p + 1) 0 (omega arith) in
+    omega arith

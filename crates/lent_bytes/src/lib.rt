@@ -1,0 +1,35 @@
+// Two-byte numbers in files and lent areas, the low byte first, and areas that are cleared.
+ghost use Prim.Native.Nat.{_+_, _<_};
+ghost use mathlib.Core.Path.{_≡_};
+ghost use lib.ListN.{length, replicate};
+ghost use lib.Seq.{sets};
+ghost use Rattle.base.specs.Bytes.{number-at, number-bytes};
+
+// The two-byte number at p.
+pub fn two_bytes(bytes: &[u8], p: usize) -> usize
+    requires { ⌜ p + 1 < length (now bytes) ⌝ }
+    ensures { λ r. ⌜ r ≡ number-at 2 (now (bytes .entry)) p ⌝ }
+{
+    bytes[p] as usize + 256 * (bytes[p + 1] as usize)
+}
+
+// Writes n as a two-byte number at p.
+pub fn put_two_bytes(bytes: &mut [u8], p: usize, n: usize)
+    requires { ⌜ p + 1 < length (now bytes) ⌝ }
+    ensures { λ _. ⌜ now (bytes .exit) ≡ sets (now (bytes .entry)) p (number-bytes 2 n) ⌝ }
+{
+    bytes[p] = (n % 256) as u8;
+    bytes[p + 1] = (n / 256 % 256) as u8;
+}
+
+// Every byte is zero.
+pub fn clear(area: &mut [u8])
+    ensures { λ _. ⌜ now (area .exit) ≡ replicate (length (now (area .entry))) 0 ⌝ }
+{
+    let n = area.len();
+    let mut i = 0;
+    while i < n {
+        area[i] = 0;
+        i += 1;
+    }
+}
