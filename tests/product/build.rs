@@ -1,16 +1,20 @@
-//! Links the proved functions: TESTING_LIBRARY is the path of the archive that `rt staticlib testing`
-//! writes.
+//! Links the proved functions: PROVED_LIBRARIES is the folder of the archives that `rt staticlib`
+//! writes for the crates `succoryvise`, the entries, and `testing`, inner functions.
 
 use std::env;
 use std::path::PathBuf;
 
+const LIBRARIES: [&str; 2] = ["succoryvise", "testing"];
+
 fn main() {
-    println!("cargo:rerun-if-env-changed=TESTING_LIBRARY");
-    let archive = env::var("TESTING_LIBRARY").expect("TESTING_LIBRARY is the path of libtesting.a");
-    let archive = PathBuf::from(archive);
-    assert!(archive.is_file(), "there is no {}", archive.display());
-    let folder = archive.parent().expect("the archive stands in a folder");
-    println!("cargo:rerun-if-changed={}", archive.display());
+    println!("cargo:rerun-if-env-changed=PROVED_LIBRARIES");
+    let folder = env::var("PROVED_LIBRARIES").expect("PROVED_LIBRARIES is a folder of archives");
+    let folder = PathBuf::from(folder);
     println!("cargo:rustc-link-search=native={}", folder.display());
-    println!("cargo:rustc-link-lib=static=testing");
+    for library in LIBRARIES {
+        let archive = folder.join(format!("lib{library}.a"));
+        assert!(archive.is_file(), "there is no {}", archive.display());
+        println!("cargo:rerun-if-changed={}", archive.display());
+        println!("cargo:rustc-link-lib=static={library}");
+    }
 }

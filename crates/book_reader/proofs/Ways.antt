@@ -7,8 +7,8 @@ use mathlib.Core.Bool.{Bool, true, false, not}
 use mathlib.Core.List.{List, [], _∷_, _++_}
 use mir.Syntax.{w64}
 use mir.Val.{Fits}
-use lib.ListN.{length, getD, set, take, drop, replicate, length-set, drop-of-length-le, replicate-append-replicate}
-use lib.Seq.{sets, drop-cons, take-suc-set, take-all, getD-set-same, getD-set-other}
+use lib.ListN.{length, getD, set, take, drop, replicate, length-set, drop-of-length-le}
+use lib.Seq.{sets, drop-cons, getD-set-same, getD-set-other}
 use lib.Dec.{eqb, leb}
 use borrow.Author.Tests.{lt-ltb, le-ltb, le-leb, lt-leb, leb-false, eqb-true, eq-eqb, ne-eqb}
 use Rattle.base.specs.Choice.{pick}
@@ -41,7 +41,7 @@ use Rattle.book_reader.specs.declared.Line.{Line}
 use Rattle.book_reader.specs.declared.Line.the-variants as L
 use Rattle.book_reader.specs.declared.Turn.{Turn}
 use Rattle.book_reader.specs.declared.Turn.the-variants as T
-use Rattle.book_reader.specs.Lines.{Comparing, LineRead, not-line, is-line, RestRead, judged, put-line, PutsLine, Held, Turned, turned-down, gone-on, Turns, lines-from, Coming, Answers, Outcome, Clearing}
+use Rattle.book_reader.specs.Lines.{Comparing, LineRead, not-line, is-line, RestRead, judged, put-line, PutsLine, Held, Turned, turned-down, gone-on, Turns, lines-from, Coming, Answers, Outcome}
 use Rattle.book_reader.proofs.Kept.{holds-none, holds-whole}
 use Rattle.book_reader.proofs.Judging.{Verdict, down, fine, line-judged, held-more}
 
@@ -475,22 +475,3 @@ judge-none a line end n m le o p =
       ne-eqb (getD a 361 0) 9 o,
       ne-eqb (getD a 361 0) 10 p,
     )
-
-pub clearing-start : (a : List ℕ) → Clearing a a 0
-clearing-start a = record { few = omega arith; long = refl; done = refl }
-
-one-zero : (i : ℕ) → _++_ {A = ℕ} (replicate i 0) (0 ∷ []) ≡ replicate (i + 1) 0
-one-zero i = replicate-append-replicate {A = ℕ} i 1 0
-
-pub clearing-more : (a z : List ℕ) (i : ℕ) → Clearing a z i → i < length z → Clearing a (set z i 0) (i + 1)
-clearing-more a z i h lt =
-    record {
-      few = omega (arith, length-set z i 0);
-      long = length-set z i 0 ∙ h .long;
-      done = ap (λ (n : ℕ). take n (set z i 0)) (add-one i) ∙ take-suc-set z i 0 lt ∙ ap (λ (l : List ℕ). l ++ (0 ∷ [])) (h .done) ∙ one-zero i;
-    }
-
-pub clearing-end : (a z : List ℕ) (i : ℕ) → Clearing a z i → length z ≤ i → z ≡ replicate (length a) 0
-clearing-end a z i h le =
-    let e : i ≡ length a = omega (arith, h .few, h .long) in
-    sym (take-all i z le) ∙ h .done ∙ ap (λ (n : ℕ). replicate n 0) e

@@ -2,7 +2,7 @@
 use Prim.Native.Nat.{ℕ, _+_, _-_, _*_, _≤_, _<_}
 use mathlib.Core.Path.{_≡_}
 use mathlib.Core.List.{List, [], _∷_}
-use lib.ListN.{length, take, drop, replicate}
+use lib.ListN.{length, drop}
 use lib.Seq.{sets}
 use lib.Dec.{eqb, ltb}
 use Rattle.base.specs.Choice.{pick}
@@ -110,9 +110,3 @@ pub record Answers (r : BookAnswer) (marks : ℕ) (s : List ℕ) (z : List ℕ) 
 pub record Outcome (r : BookAnswer) (marks : ℕ) (s a z : List ℕ) : Type 0 where
   pub answer : r ≡ read-outcome marks s (a ∷ []) .answer
   pub areas : z ∷ [] ≡ read-outcome marks s (a ∷ []) .areas
-
--- An area as far as it was cleared.
-pub record Clearing (a z : List ℕ) (i : ℕ) : Type 0 where
-  pub few : i ≤ length z
-  pub long : length z ≡ length a
-  pub done : take i z ≡ replicate i 0

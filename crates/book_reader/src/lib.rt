@@ -1,7 +1,7 @@
 // The book reader (01, 'Rule book' and 'Why a call is turned down'): lines, limits, and the book of a text or why there is none.
 ghost use mathlib.Core.Path.{_≡_};
 ghost use Prim.Native.Nat.{_+_, _≤_, _<_};
-ghost use lib.ListN.{length, drop, replicate};
+ghost use lib.ListN.{length, drop};
 ghost use Rattle.base.specs.Lists.{begins};
 ghost use mathlib.Core.List.{[]};
 ghost use Rattle.reading.specs.BookReading as Reading;
@@ -195,17 +195,6 @@ fn wide(n: u8) -> usize
     n as usize
 }
 
-// Every byte of the area is 0 afterwards.
-fn clear(area: &mut [u8])
-    ensures { λ _. ⌜ now (area .exit) ≡ replicate (length (now (area .entry))) 0 ⌝ }
-{
-    let mut i = 0;
-    while i < area.len() {
-        area[i] = 0;
-        i += 1;
-    }
-}
-
 // Reads a rule book under P marks: the numbers of its lines and nodes, or why it is turned down, in the order 15, 2, the book.
 // Refused with 15 it changes nothing; else the lent area is all zero afterwards.
 pub fn read_book(marks: usize, text: &[u8], area: &mut [u8]) -> BookAnswer
@@ -215,7 +204,7 @@ pub fn read_book(marks: usize, text: &[u8], area: &mut [u8]) -> BookAnswer
         return BookAnswer::Refused(Refusal::Area);
     }
     let answer = read_under(marks, text, area);
-    clear(area);
+    lent_bytes::clear(area);
     answer
 }
 

@@ -1,24 +1,15 @@
--- Parts of an area: one is lent and comes back, two are compared, one is cleared.
-use Prim.Native.Nat.{ℕ, _+_, _-_, _*_, _%_, _≤_, _<_}
+-- Parts of an area: one is lent and comes back, one is cleared.
+use Prim.Native.Nat.{ℕ, _+_, _-_, _≤_, _<_}
 use native.Mathlib.Omega.{arith}
 use native.Mathlib.Numerals.{add-one}
 use mathlib.Core.Path.{_≡_, refl, sym, _∙_, ap}
-use mathlib.Core.Bool.{true, false}
 use mathlib.Core.Logic.{_⊎_, inl, inr}
 use mathlib.Core.List.{List, [], _∷_, _++_}
-use lib.ListN.{length, getD, set, take, drop, replicate, length-set, replicate-append-replicate, drop-of-length-le}
-use lib.Seq.{length-take-le, take-all, take-suc, take-suc-set, getD-take, getD-drop, ext-getD, take-at, drop-at, drop-cons}
-use mir.Syntax.{w8, w64}
-use mir.Val.{Fits}
-use borrow.Author.Tests.{eq-eqb, eqb-true}
+use lib.ListN.{length, getD, set, take, drop, replicate, length-set, replicate-append-replicate}
+use lib.Seq.{length-take-le, take-all, take-suc-set, getD-take, getD-drop, ext-getD, take-at, drop-at}
 use borrow.Rule.Slice.PartMut.{putMid, postOf, same-len-mid, mid-len, take-put, drop-put}
-use Rattle.base.specs.Lists.{same-option}
-use Rattle.base.proofs.Lists.{false-by, same-option-eq, eq-same-option, same-list-eq, eq-same-list}
-use Rattle.logic.specs.Time.{ticks, same-ticks}
-use Rattle.pending.specs.Pending.{Pending, same-pending}
-use Rattle.progression.specs.PendingBytes.{pending-of, part, hash-on}
-use Rattle.progression.specs.Contracts.{Parts, Beside, SameParts, Hashed}
-use Rattle.progression.proofs.Cells.{pending-eq}
+use Rattle.progression.specs.PendingBytes.{part}
+use Rattle.progression.specs.Contracts.{Parts, Beside}
 
 -- ---- a part is lent and comes back
 
@@ -118,92 +109,3 @@ module _ (first : List ℕ) (n : ℕ) (cells : List ℕ) (i : ℕ) (going : Clea
   clear-end done =
       let whole : i ≡ length first = omega (arith, going .all, going .low) in
       sym (take-all i cells (omega (arith, going .size))) ∙ going .done ∙ ap (λ m. replicate m 0) whole
-
--- ---- two parts are compared
-
--- The first m bytes are the same.
-pub record Comparing (area : List ℕ) (i j n m : ℕ) : Type 0 where
-  pub low : m ≤ n
-  pub same : take m (part area i n) ≡ take m (part area j n)
-
-pub compare-first : (area : List ℕ) (i j n : ℕ) → Comparing area i j n 0
-compare-first area i j n = record { low = omega arith; same = refl }
-
--- equal parts, and equal obligations
-same-back : (p q : Pending) → same-pending p q ≡ true → p ≡ q
-unfolding same-pending same-ticks
-same-back p q e =
-    same-list-eq (same-option same-ticks) (λ x y. same-option-eq same-ticks (λ s t h. ap (λ n. ticks n) (eqb-true (s .0) (t .0) h)) x y) p q e
-
-same-forth : (p q : Pending) → p ≡ q → same-pending p q ≡ true
-unfolding same-pending same-ticks
-same-forth p q e = eq-same-list (same-option same-ticks) (λ x. eq-same-option same-ticks (λ t. eq-eqb (t .0) (t .0) refl) refl) e
-
-module _ (area : List ℕ) (i j n : ℕ) (fits-i : i + n ≤ length area) (fits-j : j + n ≤ length area) where
-  pub compare-differs : (m : ℕ) → m < n → (getD area (i + m) 0 ≡ getD area (j + m) 0 → ⊥) → SameParts false area i j n
-  compare-differs m low differ = record { parts = (λ e. absurd (never e), λ e. absurd (other e)); pending = sym (false-by (same-pending left right) apart) }
-    where
-      left : Pending
-      left = pending-of (part area i n)
-
-      right : Pending
-      right = pending-of (part area j n)
-
-      never : false ≡ true → ⊥
-      never e = let z : _≡_ {A = ℕ} 0 1 = cc in omega arith
-
-      other : part area i n ≡ part area j n → ⊥
-      other e = differ (sym (part-at area i n m low) ∙ ap (λ l. getD l m 0) e ∙ part-at area j n m low)
-
-      apart : same-pending left right ≡ true → ⊥
-      apart e = other (pending-eq (part area i n) (part area j n) (same-back left right e))
-
-  pub compare-next : (m : ℕ) → Comparing area i j n m → m < n → getD area (i + m) 0 ≡ getD area (j + m) 0 → Comparing area i j n (m + 1)
-  compare-next m going low same =
-      record {
-        low = omega arith;
-        same = rw add-one (take-suc (part area i n) m 0 (omega (arith, part-length area i n fits-i)) ∙ rw (going .same, part-at area i n m low, same)
-            (sym (take-suc (part area j n) m 0 (omega (arith, part-length area j n fits-j)) ∙ rw (part-at area j n m low))));
-      }
-
-  pub compare-end : (m : ℕ) → Comparing area i j n m → n ≤ m → SameParts true area i j n
-  compare-end m going over =
-      let both : part area i n ≡ part area j n =
-      sym (take-all m (part area i n) (omega (arith, part-length area i n fits-i))) ∙ going .same
-      ∙ take-all m (part area j n) (omega (arith, part-length area j n fits-j)) in
-      record {
-        parts = (λ _. both, λ _. refl);
-        pending = sym (same-forth (pending-of (part area i n)) (pending-of (part area j n)) (ap pending-of both));
-      }
-
--- ---- a part is hashed
-
--- The bytes from m on are left to do.
-pub record Hashing (area : List ℕ) (at n h m : ℕ) : Type 0 where
-  pub low : m ≤ n
-  pub small : h < 4096
-  pub left : hash-on 0 (part area at n) ≡ hash-on h (drop m (part area at n))
-
-pub hash-first : (area : List ℕ) (at n : ℕ) → Hashing area at n 0 0
-hash-first area at n = record { low = omega arith; small = omega arith; left = refl }
-
-pub hash-fits : (area : List ℕ) (at n h m : ℕ) → Hashing area at n h m → ((j : ℕ) → Fits w8 (getD area j 0))
-    → Fits w64 (31 * h + getD area (at + m) 0)
-hash-fits area at n h m going byte = omega (arith, going .small, byte (at + m))
-
-module _ (area : List ℕ) (at n h m : ℕ) (going : Hashing area at n h m) (fits : at + n ≤ length area) where
-  pub hash-next : m < n → Hashing area at n ((31 * h + getD area (at + m) 0) % 4096) (m + 1)
-  unfolding hash-on
-  hash-next low =
-      record {
-        low = omega arith;
-        small = omega arith;
-        left = going .left
-            ∙ rw (add-one, drop-cons (part area at n) m 0 (omega (arith, part-length area at n fits)), part-at area at n m low);
-      }
-
-  pub hash-end : n ≤ m → Hashed h area at n
-  unfolding hash-on
-  hash-end over =
-      let done : length (part area at n) ≤ m = omega (arith, part-length area at n fits) in
-      record { is = sym (going .left ∙ rw (drop-of-length-le (part area at n) done)); low = going .small }

@@ -1,8 +1,8 @@
 -- What the functions of this crate promise. Each promise is for every formula that the bytes hold, and for every state with the given marks.
 use Prim.Native.Nat.{ℕ, _+_, _*_, _≤_, _<_}
 use mathlib.Core.Path.{_≡_}
-use mathlib.Core.Bool.{Bool, true, false}
-use mathlib.Core.Logic.{_⊎_, _↔_}
+use mathlib.Core.Bool.{Bool, false}
+use mathlib.Core.Logic.{_⊎_}
 use mathlib.Core.Option.{Option, none, some}
 use mathlib.Core.List.{List}
 use lib.ListN.{length, getD, take, drop}
@@ -12,9 +12,9 @@ use Rattle.logic.specs.Time.{at-most, minus}
 use Rattle.logic.specs.Tower.{Tower}
 use Rattle.logic.specs.Book.{Formula, constant, Comparison, compares, root, Rule, Book}
 use Rattle.logic.specs.declared.Tick.{Tick}
-use Rattle.pending.specs.Pending.{Pending, same-pending, holds, coming, put, progress, progress-nodes, progress-rule, progress-rules, progressed, begin-rule, begin-rules, first-pending}
+use Rattle.pending.specs.Pending.{Pending, holds, coming, put, progress, progress-nodes, progress-rule, progress-rules, progressed, begin-rule, begin-rules, first-pending}
 use Rattle.reading.specs.BookArea.{comparison-code, form-code}
-use Rattle.progression.specs.PendingBytes.{cell-of, pending-of, part, outcome, hash-on}
+use Rattle.progression.specs.PendingBytes.{cell-of, pending-of, part, outcome}
 use Rattle.progression.specs.NodeBytes.{code-of, Stored, IsNode, Held, Marked}
 
 -- The answer says whether node k holds at a state with these marks.
@@ -151,13 +151,3 @@ pub record Progressed (answer : Bool) (bytes : List ℕ) (lines count mask : ℕ
 pub record Begun (bytes : List ℕ) (lines count : ℕ) (area : List ℕ) (to : ℕ) (after : List ℕ) : Type 0 where
   pub beside : Beside area to count after
   pub says : (book : Book) → Held bytes lines count book → pending-of (part after to count) ≡ first-pending book
-
--- The answer says whether two parts of n bytes are one and the same, and so whether the same is pending in them.
-pub record SameParts (answer : Bool) (area : List ℕ) (i j n : ℕ) : Type 0 where
-  pub parts : (answer ≡ true) ↔ (part area i n ≡ part area j n)
-  pub pending : answer ≡ same-pending (pending-of (part area i n)) (pending-of (part area j n))
-
--- The hash of a part of n bytes.
-pub record Hashed (answer : ℕ) (area : List ℕ) (at n : ℕ) : Type 0 where
-  pub is : answer ≡ hash-on 0 (part area at n)
-  pub low : answer < 4096

@@ -1,8 +1,8 @@
 -- What is pending as bytes: a byte for each node, 0 for nothing and r + 1 for r ticks left.
-use Prim.Native.Nat.{ℕ, zero, suc, _+_, _*_, _%_}
+use Prim.Native.Nat.{ℕ, zero, suc, _+_}
 use mathlib.Core.Bool.{Bool, true, false}
 use mathlib.Core.Option.{Option, none, some}
-use mathlib.Core.List.{List, [], _∷_, map}
+use mathlib.Core.List.{List, map}
 use lib.ListN.{take, drop}
 use Rattle.logic.specs.Time.{ticks}
 use Rattle.logic.specs.declared.Tick.{Tick}
@@ -30,8 +30,3 @@ part area at n = take n (drop at area)
 unfoldable pub outcome : Bool → List ℕ → Option Pending
 outcome true cells = some (pending-of cells)
 outcome false cells = none
-
--- the hash of bytes: from h on, a byte at a time
-unfoldable pub hash-on : ℕ → List ℕ → ℕ
-hash-on h [] = h
-hash-on h (b ∷ bytes) = hash-on ((31 * h + b) % 4096) bytes

@@ -4,10 +4,10 @@ mod node;
 use logic::Tick;
 ghost use Prim.Native.Nat.{_+_, _<_, _≤_};
 ghost use mathlib.Core.Path.{_≡_};
-ghost use lib.ListN.{length, replicate};
+ghost use lib.ListN.{length};
 ghost use Rattle.logic.specs.Tower.{bit};
 ghost use Rattle.progression.specs.NodeBytes.{IsNode, IsHeld};
-ghost use Rattle.progression.specs.Contracts.{Holds, Merged, Ready, Puts, Compares, NextReady, Nexts, Stays, Progresses, CellSteps, HasNodes, Parts, NodesProgress, IsLine, LineSteps, LinesProgress, LineBegins, LinesBegin, Progressed, Begun, SameParts, Hashed};
+ghost use Rattle.progression.specs.Contracts.{Holds, Merged, Ready, Puts, Compares, NextReady, Nexts, Stays, Progresses, CellSteps, HasNodes, Parts, NodesProgress, IsLine, LineSteps, LinesProgress, LineBegins, LinesBegin, Progressed, Begun};
 
 // Where the lines of a book begin, the bytes of a line, and what an `always` line begins with.
 const LINES_AT: usize = 240;
@@ -15,11 +15,6 @@ const LINES_AT: usize = 240;
 const LINE_SIZE: usize = 2;
 
 const ALWAYS_LINE: u8 = 1;
-
-// How many hashes there are, and by what each byte moves one on.
-const HASHES: usize = 4096;
-
-const HASH_FACTOR: usize = 31;
 
 // A state with this mask has the mark: its bit is set.
 fn marked(mark: u8, mask: usize) -> bool
@@ -191,18 +186,6 @@ pub fn progress(book: &[u8], k: usize, r: Tick, mask: usize, d: Tick, cells: &mu
     progress(book, second, node::fresh(book, second), mask, d, cells)
 }
 
-// Nothing is pending.
-fn clear(cells: &mut [u8])
-    ensures { λ _. ⌜ now (cells .exit) ≡ replicate (length (now (cells .entry))) 0 ⌝ }
-{
-    let n = cells.len();
-    let mut i = 0;
-    while i < n {
-        cells[i] = 0;
-        i += 1;
-    }
-}
-
 // Node k progresses if its cell says that it is pending.
 fn progress_cell(book: &[u8], k: usize, cell: u8, mask: usize, d: Tick, cells: &mut [u8]) -> bool
     requires { ⌜ IsNode (now book) k ⌝ }
@@ -285,7 +268,7 @@ pub fn progressed(
     requires { ⌜ Parts (length (now area)) count from to ⌝ }
     ensures { λ b. ⌜ Progressed b (now (book .entry)) lines count mask d (now (area .entry)) from to (now (area .exit)) ⌝ }
 {
-    clear(&mut area[to..to + count]);
+    lent_bytes::clear(&mut area[to..to + count]);
     if !progress_nodes(book, count, mask, d, area, from, to) {
         return false;
     }
@@ -323,35 +306,6 @@ pub fn begin(book: &[u8], lines: usize, count: usize, area: &mut [u8], to: usize
     requires { ⌜ to + count ≤ length (now area) ⌝ }
     ensures { λ _. ⌜ Begun (now (book .entry)) lines count (now (area .entry)) to (now (area .exit)) ⌝ }
 {
-    clear(&mut area[to..to + count]);
+    lent_bytes::clear(&mut area[to..to + count]);
     begin_lines(book, lines, &mut area[to..to + count]);
-}
-
-// The n bytes from i on are those from j on: the same is pending in both parts.
-pub fn same_pending(area: &[u8], i: usize, j: usize, n: usize) -> bool
-    requires { ⌜ (i + n ≤ length (now area)) × (j + n ≤ length (now area)) ⌝ }
-    ensures { λ b. ⌜ SameParts b (now (area .entry)) i j n ⌝ }
-{
-    let mut m = 0;
-    while m < n {
-        if area[i + m] != area[j + m] {
-            return false;
-        }
-        m += 1;
-    }
-    true
-}
-
-// The hash of the n bytes from `at` on, below 4,096: equal parts have equal hashes.
-pub fn hash(area: &[u8], at: usize, n: usize) -> usize
-    requires { ⌜ at + n ≤ length (now area) ⌝ }
-    ensures { λ h. ⌜ Hashed h (now (area .entry)) at n ⌝ }
-{
-    let mut h = 0;
-    let mut m = 0;
-    while m < n {
-        h = (HASH_FACTOR * h + area[at + m] as usize) % HASHES;
-        m += 1;
-    }
-    h
 }

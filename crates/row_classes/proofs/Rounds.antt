@@ -8,7 +8,7 @@ use mathlib.Core.List.{List}
 use lib.ListN.{length}
 use Rattle.base.specs.Choice.{pick}
 use Rattle.base.specs.Bytes.{number-at}
-use Rattle.base.proofs.Lists.{never-both}
+use Rattle.base.proofs.Lists.{whether, never-both}
 use Rattle.pair_graph.specs.Graph.{Classes}
 use Rattle.pair_graph.specs.Steps.{action-room, cell, class-in, kept-in}
 use Rattle.row_classes.specs.View.{old-part, new-in, pairs-graph, view-of}
@@ -46,7 +46,7 @@ given-all steps flags entries actions n area h =
 -- The classes so far part no two pairs that are never told apart, and none is above its pair.
 pub record Refining (steps flags entries : List ℕ) (actions n : ℕ) (area : List ℕ) : Type 0 where
   pub coarse : (kind : ℕ → ℕ) → Coarse (pairs-graph steps entries actions n kind) (kept-in flags) (class-in area)
-  pub most : (k : ℕ) → k < n → kept-in flags k ≡ true → class-in area k ≤ k
+  pub most : (k : ℕ) → k < n → class-in area k ≤ k
 
 -- how far the class of pair k can still rise
 unfoldable pub room : List ℕ → List ℕ → ℕ → ℕ
@@ -62,7 +62,7 @@ pub refining-start : (steps flags entries : List ℕ) (actions n : ℕ) (area af
 refining-start steps flags entries actions n area after c =
     record {
       coarse = λ kind. coarse-start steps flags entries actions n kind (class-in after) zeros;
-      most = λ k l e. omega (arith, zeros k l);
+      most = λ k l. omega (arith, zeros k l);
     }
   where
     zeros : (k : ℕ) → k < n → class-in after k ≡ 0
@@ -93,7 +93,10 @@ module _ (steps flags entries : List ℕ) (actions n : ℕ) (first area x z : Li
             λ kind.
             coarse-pass steps flags entries actions n kind closed (old-part area) (new-in x) (class-in z) (passed .numbered)
             (adopted .here) (old-coarse kind);
-        most = λ k l e. omega (arith, adopted .here k l e, passed .numbered .most k l e);
+        most =
+            λ k l.
+            whether (kept-in flags k) (λ e. omega (arith, adopted .here k l e, passed .numbered .most k l e))
+            (λ e. omega (arith, adopted .gone k l e, same-class k l, old-class k l, so-far .most k l));
       }
 
   -- No class falls.
@@ -103,7 +106,7 @@ module _ (steps flags entries : List ℕ) (actions n : ℕ) (first area x z : Li
       let most = passed .numbered .most k l e in
       let less : new-in x k < n = omega arith in
       let alike = passed .numbered .alike k l e .class in
-      omega (arith, old-class k l, old-class (new-in x k) less, so-far .most (new-in x k) less (passed .numbered .is-kept k l e))
+      omega (arith, old-class k l, old-class (new-in x k) less, so-far .most (new-in x k) less)
 
   room-less : (k : ℕ) → k < n → (b : Bool) → kept-in flags k ≡ b
       → pick b (λ _. k - class-in z k) (λ _. 0) ≤ pick b (λ _. k - class-in area k) (λ _. 0)
@@ -136,4 +139,5 @@ module _ (steps flags entries : List ℕ) (actions n : ℕ) (first area x z : Li
             λ kind.
             right-classes steps flags entries actions n kind closed (old-part area) (new-in x) (class-in z) (passed .numbered)
             (adopted .here) (old-coarse kind) (λ i l e. adopted .same none i l e ∙ same-class i l);
+        most = refining-more .most;
       }

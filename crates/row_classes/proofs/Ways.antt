@@ -211,6 +211,7 @@ module _ (flags : List ℕ) (i : ℕ) (area : List ℕ) (r : Bool) (is : r ≡ k
   adopt-skip f =
       record {
         here = λ e. never-both (is ∙ e) f;
+        gone = λ e. refl;
         else = λ k e. refl;
         news = λ k. refl;
         most = omega arith;
@@ -232,6 +233,7 @@ module _ (flags : List ℕ) (i : ℕ) (area : List ℕ) (r : Bool) (is : r ≡ k
     adopt-same e =
         record {
           here = λ k. put .here ∙ hn .is;
+          gone = λ e. never-both yes-kept (is ∙ e);
           else = elsewhere;
           news = λ k. put .above (2000 + 2 * k) (omega arith);
           most = omega arith;
@@ -244,6 +246,7 @@ module _ (flags : List ℕ) (i : ℕ) (area : List ℕ) (r : Bool) (is : r ≡ k
     adopt-other e =
         record {
           here = λ k. put .here ∙ hn .is;
+          gone = λ e. never-both yes-kept (is ∙ e);
           else = elsewhere;
           news = λ k. put .above (2000 + 2 * k) (omega arith);
           most = omega arith;
@@ -256,6 +259,7 @@ pub adopted-start : (flags : List ℕ) (area : List ℕ) → Adopted flags 0 are
 adopted-start flags area =
     record {
       here = λ k l e. absurd (omega arith);
+      gone = λ k l e. refl;
       else = λ k l. refl;
       news = λ k. refl;
       most = omega arith;
@@ -271,6 +275,9 @@ adopted-more flags i area x z r s a o =
       here =
           one-more (λ k. kept-in flags k ≡ true → class-in z k ≡ new-in area k) i
           (λ k l e. o .else k (λ f. omega arith) ∙ a .here k l e) (λ e. o .here e ∙ a .news i);
+      gone =
+          one-more (λ k. kept-in flags k ≡ false → class-in z k ≡ class-in area k) i
+          (λ k l e. o .else k (λ f. omega arith) ∙ a .gone k l e) (λ e. o .gone e ∙ a .else i (omega arith));
       else = λ k l. o .else k (λ f. omega arith) ∙ a .else k (omega arith);
       news = λ k. o .news k ∙ a .news k;
       most = omega arith;

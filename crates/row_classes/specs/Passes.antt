@@ -22,9 +22,10 @@ pub record Ready (steps flags entries : List ℕ) (actions n : ℕ) (area : List
   pub area-room : 8042 ≤ length area
   pub targets : (i a j : ℕ) → i < n → kept-in flags i ≡ true → a < actions → move-at steps i a ≡ to j → j < n
 
--- The area holds the classes, whatever the kinds of the actions.
+-- The area holds the classes, whatever the kinds of the actions; no class is above its pair.
 pub record Classified (steps flags entries : List ℕ) (actions n : ℕ) (area : List ℕ) : Type 0 where
   pub for-kinds : (kind : ℕ → ℕ) → Classes (pairs-graph steps entries actions n kind) (kept-in flags) (class-in area)
+  pub most : (i : ℕ) → i < n → class-in area i ≤ i
 
 -- ---- numbers
 
@@ -128,6 +129,7 @@ pub record Entered (area : List ℕ) (i h c : ℕ) (after : List ℕ) : Type 0 w
 -- The class of pair i is its new class, if it is kept; r is 1 if that is another than before, and else 0.
 pub record AdoptedOne (flags : List ℕ) (i : ℕ) (area : List ℕ) (r : ℕ) (after : List ℕ) : Type 0 where
   pub here : kept-in flags i ≡ true → class-in after i ≡ new-in area i
+  pub gone : kept-in flags i ≡ false → class-in after i ≡ class-in area i
   pub else : (k : ℕ) → (k ≡ i → ⊥) → class-in after k ≡ class-in area k
   pub news : (k : ℕ) → new-in after k ≡ new-in area k
   pub most : r ≤ 1
@@ -137,6 +139,7 @@ pub record AdoptedOne (flags : List ℕ) (i : ℕ) (area : List ℕ) (r : ℕ) (
 -- The same of every pair below i; r says how many are other than before.
 pub record Adopted (flags : List ℕ) (i : ℕ) (area : List ℕ) (r : ℕ) (after : List ℕ) : Type 0 where
   pub here : (k : ℕ) → k < i → kept-in flags k ≡ true → class-in after k ≡ new-in area k
+  pub gone : (k : ℕ) → k < i → kept-in flags k ≡ false → class-in after k ≡ class-in area k
   pub else : (k : ℕ) → i ≤ k → class-in after k ≡ class-in area k
   pub news : (k : ℕ) → new-in after k ≡ new-in area k
   pub most : r ≤ i

@@ -1,5 +1,5 @@
--- Bytes of a slice as numbers: they fit, and one or two of them are the number that the definitions read.
-use Prim.Native.Nat.{ℕ, _+_, _*_}
+-- Bytes of a slice as numbers: they fit, and one of them is the number that the definitions read.
+use Prim.Native.Nat.{ℕ}
 use mathlib.Core.Path.{_≡_}
 use mathlib.Core.List.{List}
 use native.Mathlib.Omega.{arith}
@@ -12,19 +12,6 @@ use Rattle.logic.specs.Tower.{state-width}
 -- A byte is a number.
 pub byte-fits : (bytes : List ℕ) (p : ℕ) → ((q : ℕ) → Fits w8 (getD bytes q 0)) → Fits w64 (getD bytes p 0)
 byte-fits bytes p h = omega (arith, h p)
-
--- So is a high byte at its weight.
-pub high-fits : (bytes : List ℕ) (p : ℕ) → ((q : ℕ) → Fits w8 (getD bytes q 0)) → Fits w64 (256 * getD bytes p 0)
-high-fits bytes p h = omega (arith, h p)
-
--- So are a low and a high byte together.
-pub both-fit : (bytes : List ℕ) (p q : ℕ) → ((q : ℕ) → Fits w8 (getD bytes q 0)) → Fits w64 (getD bytes p 0 + 256 * getD bytes q 0)
-both-fit bytes p q h = omega (arith, h p, h q)
-
--- A low and a high byte are a two-byte number.
-pub two-bytes-read : (bytes : List ℕ) (p : ℕ) → getD bytes p 0 + 256 * getD bytes (p + 1) 0 ≡ number-at 2 bytes p
-unfolding number-at
-two-bytes-read bytes p = omega arith
 
 -- A state's number is one byte.
 pub state-read : (bytes : List ℕ) (p : ℕ) → getD bytes p 0 ≡ number-at state-width bytes p

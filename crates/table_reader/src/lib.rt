@@ -44,14 +44,6 @@ const MOST_ACTIONS: usize = 16;
 
 // ---- numbers
 
-// The two-byte number at place p, the low byte first.
-fn two_bytes(bytes: &[u8], p: usize) -> usize
-    requires { ⌜ p + 2 ≤ length (now bytes) ⌝ }
-    ensures { λ r. ⌜ r ≡ number-at 2 (now (bytes .entry)) p ⌝ }
-{
-    bytes[p] as usize + 256 * (bytes[p + 1] as usize)
-}
-
 // The state's number at place p.
 fn state_number(bytes: &[u8], p: usize) -> usize
     requires { ⌜ p + state-width ≤ length (now bytes) ⌝ }
@@ -77,7 +69,7 @@ pub fn rows(bytes: &[u8]) -> usize
     requires { ⌜ header-right (now bytes) ≡ true ⌝ }
     ensures { λ r. ⌜ r ≡ rows-of (now (bytes .entry)) ⌝ }
 {
-    two_bytes(bytes, ROWS)
+    lent_bytes::two_bytes(bytes, ROWS)
 }
 
 // How many steps there are, over all rows.
@@ -85,7 +77,7 @@ pub fn steps(bytes: &[u8]) -> usize
     requires { ⌜ header-right (now bytes) ≡ true ⌝ }
     ensures { λ r. ⌜ r ≡ steps-of (now (bytes .entry)) ⌝ }
 {
-    two_bytes(bytes, STEPS)
+    lent_bytes::two_bytes(bytes, STEPS)
 }
 
 // S of the tower that the table is for.
@@ -93,7 +85,7 @@ pub fn states(bytes: &[u8]) -> usize
     requires { ⌜ header-right (now bytes) ≡ true ⌝ }
     ensures { λ r. ⌜ r ≡ table-states (now (bytes .entry)) ⌝ }
 {
-    two_bytes(bytes, STATES)
+    lent_bytes::two_bytes(bytes, STATES)
 }
 
 // A of the tower that the table is for.
@@ -101,7 +93,7 @@ pub fn actions(bytes: &[u8]) -> usize
     requires { ⌜ header-right (now bytes) ≡ true ⌝ }
     ensures { λ r. ⌜ r ≡ table-actions (now (bytes .entry)) ⌝ }
 {
-    two_bytes(bytes, ACTIONS)
+    lent_bytes::two_bytes(bytes, ACTIONS)
 }
 
 // ---- a row
@@ -130,7 +122,7 @@ pub fn row_first(bytes: &[u8], r: usize) -> usize
     requires { ⌜ r < rows-of (now bytes) ⌝ }
     ensures { λ i. ⌜ i ≡ row-first (now (bytes .entry)) r ⌝ }
 {
-    two_bytes(bytes, ROWS_AT + ROW_SIZE * r + STATE_WIDTH + 1)
+    lent_bytes::two_bytes(bytes, ROWS_AT + ROW_SIZE * r + STATE_WIDTH + 1)
 }
 
 // ---- a step
@@ -160,7 +152,7 @@ pub fn step_target(bytes: &[u8], i: usize) -> usize
     requires { ⌜ i < steps-of (now bytes) ⌝ }
     ensures { λ r. ⌜ r ≡ step-target (now (bytes .entry)) i ⌝ }
 {
-    two_bytes(bytes, step_place(bytes, i) + 1)
+    lent_bytes::two_bytes(bytes, step_place(bytes, i) + 1)
 }
 
 // ---- the layout
@@ -170,13 +162,13 @@ fn counts_right(bytes: &[u8]) -> bool
     requires { ⌜ rows-at ≤ length (now bytes) ⌝ }
     ensures { λ r. ⌜ r ≡ counts-right (now (bytes .entry)) ⌝ }
 {
-    if !in_range(MOST_ROWS, two_bytes(bytes, ROWS)) {
+    if !in_range(MOST_ROWS, lent_bytes::two_bytes(bytes, ROWS)) {
         return false;
     }
-    if !in_range(MOST_STATES, two_bytes(bytes, STATES)) {
+    if !in_range(MOST_STATES, lent_bytes::two_bytes(bytes, STATES)) {
         return false;
     }
-    in_range(MOST_ACTIONS, two_bytes(bytes, ACTIONS))
+    in_range(MOST_ACTIONS, lent_bytes::two_bytes(bytes, ACTIONS))
 }
 
 // The offsets of the header are right, and nothing follows the last step.
@@ -184,14 +176,14 @@ fn places_right(bytes: &[u8]) -> bool
     requires { ⌜ rows-at ≤ length (now bytes) ⌝ }
     ensures { λ r. ⌜ r ≡ places-right (now (bytes .entry)) ⌝ }
 {
-    if two_bytes(bytes, ROWS_OFFSET) != ROWS_AT {
+    if lent_bytes::two_bytes(bytes, ROWS_OFFSET) != ROWS_AT {
         return false;
     }
-    let steps_at = ROWS_AT + ROW_SIZE * two_bytes(bytes, ROWS);
-    if two_bytes(bytes, STEPS_OFFSET) != steps_at {
+    let steps_at = ROWS_AT + ROW_SIZE * lent_bytes::two_bytes(bytes, ROWS);
+    if lent_bytes::two_bytes(bytes, STEPS_OFFSET) != steps_at {
         return false;
     }
-    bytes.len() == steps_at + STEP_SIZE * two_bytes(bytes, STEPS)
+    bytes.len() == steps_at + STEP_SIZE * lent_bytes::two_bytes(bytes, STEPS)
 }
 
 // The header is whole, and its counts and places are right.

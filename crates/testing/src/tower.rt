@@ -3,10 +3,11 @@ ghost use mathlib.Core.Path.{_≡_};
 ghost use Rattle.logic.specs.Tower.{FitTower};
 ghost use Rattle.reading.specs.TowerReading.{read-tower};
 ghost use Rattle.tower_reader.specs.TowerRead.{tower-read};
-ghost use Rattle.testing.specs.Shown.{shown, tower-said};
+ghost use Rattle.succoryvise.specs.Shown.{shown};
+ghost use Rattle.testing.specs.Said.{tower-said};
 use crate::NOTHING;
-use crate::answer;
-use crate::answer::Answer;
+use succoryvise::answer;
+use succoryvise::answer::Answer;
 use tower_reader::Reached;
 use tower_reader::TowerRead;
 

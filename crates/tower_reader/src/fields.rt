@@ -38,14 +38,6 @@ pub fn byte(bytes: &[u8], p: usize) -> usize
     bytes[p] as usize
 }
 
-// The two-byte number at p, the low byte first.
-pub fn two_bytes(bytes: &[u8], p: usize) -> usize
-    requires { ⌜ p + 1 < length (now bytes) ⌝ }
-    ensures { λ r. ⌜ r ≡ number-at 2 (now (bytes .entry)) p ⌝ }
-{
-    bytes[p] as usize + 256 * (bytes[p + 1] as usize)
-}
-
 // The state's number at p.
 fn state_number(bytes: &[u8], p: usize) -> usize
     requires { ⌜ p + state-width ≤ length (now bytes) ⌝ }
@@ -103,7 +95,7 @@ pub fn mask_of(bytes: &[u8], x: usize) -> usize
     requires { ⌜ x < states-of (now bytes) ⌝ }
     ensures { λ r. ⌜ r ≡ mask-of (now (bytes .entry)) x ⌝ }
 {
-    two_bytes(bytes, state_at(bytes, x))
+    lent_bytes::two_bytes(bytes, state_at(bytes, x))
 }
 
 // The target of action a in state x, as it is written.

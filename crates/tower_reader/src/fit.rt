@@ -54,10 +54,10 @@ fn bad_offsets(bytes: &[u8]) -> bool
     requires { ⌜ Counted (now bytes) ⌝ }
     ensures { λ r. ⌜ r ≡ bad-offsets (now (bytes .entry)) ⌝ }
 {
-    if fields::two_bytes(bytes, fields::ACTIONS_OFFSET) != fields::HEADER_SIZE {
+    if lent_bytes::two_bytes(bytes, fields::ACTIONS_OFFSET) != fields::HEADER_SIZE {
         return true;
     }
-    fields::two_bytes(bytes, fields::STATES_OFFSET) != fields::states_at(bytes)
+    lent_bytes::two_bytes(bytes, fields::STATES_OFFSET) != fields::states_at(bytes)
 }
 
 // 1: a header offset or the length is wrong.

@@ -46,7 +46,7 @@ impl fmt::Display for Answer {
     }
 }
 
-/// An answer as the proved code hands it over: `Answer` of the crate `testing`.
+/// An answer as the proved code hands it over: `Answer` of the crate `succoryvise`.
 #[repr(C)]
 pub struct Handed {
     number: u32,

@@ -1,16 +1,17 @@
 //! The book reader.
 
 use crate::answer::{Answer, Handed};
+use crate::areas::{self, Areas};
 use crate::common::{random_book, Random};
 use crate::entry::{bytes, hexadecimal, Entry};
-use reference::book;
+use reference::{book, Refusal};
 use std::fmt;
 
 /// The length of the area that the book reader borrows.
-pub const AREA: usize = 512;
+pub const AREA: usize = areas::LEAST[0];
 
 extern "C" {
-    fn test_read_book(
+    fn succoryvise_read_book(
         marks: usize,
         text: *const u8,
         length: usize,
@@ -21,7 +22,7 @@ extern "C" {
 
 pub fn read(marks: usize, text: &[u8], area: &mut [u8]) -> Answer {
     let answer = unsafe {
-        test_read_book(
+        succoryvise_read_book(
             marks,
             text.as_ptr(),
             text.len(),
@@ -37,6 +38,7 @@ pub struct Book;
 pub struct Call {
     marks: usize,
     text: Vec<u8>,
+    areas: Areas<1>,
 }
 
 impl fmt::Display for Call {
@@ -50,20 +52,19 @@ impl Entry for Book {
 
     const NAME: &'static str = "book reader";
     const GENERATED: usize = 100_000;
-    const REFUSALS: &'static [u8] = &[2, 6, 7, 8, 9, 10];
+    const REFUSALS: &'static [u8] = &[2, 6, 7, 8, 9, 10, 15];
     const FILES: &'static [&'static str] = &["book.txt"];
 
-    /// The area is longer than it has to be and holds something; it is all zero afterwards.
     fn proved(call: &Call) -> Answer {
-        let mut area = [0xa5; AREA + 7];
-        let answer = read(call.marks, &call.text, &mut area);
-        assert!(area.iter().all(|byte| *byte == 0), "{call}");
+        let mut areas = call.areas.lend();
+        let answer = read(call.marks, &call.text, &mut areas[0]);
+        assert!(call.areas.are_right(&areas), "{call}");
         answer
     }
 
     fn reference(call: &Call) -> Answer {
-        if call.marks > 16 {
-            return reference::Refusal::new(2).into();
+        if call.areas.too_short() {
+            return Refusal::new(15).into();
         }
         match book::read(call.marks, &call.text) {
             Ok(book) => Answer::of_values([book.lines.len(), book.nodes.len()]),
@@ -77,20 +78,11 @@ impl Entry for Book {
         } else {
             random.below(17)
         };
-        let (mut text, _) = random_book(random, marks.clamp(1, 16));
-        match random.below(12) {
-            0 => text.extend(deep(random)),
-            1 => text.extend(wide(random)),
-            2 => text.extend(late(random)),
-            3 => text.extend(timed_wrongly(random)),
-            4 => text.extend(format!("start p{}\n", random.below(20)).into_bytes()),
-            5 | 6 => damage(random, &mut text),
-            _ => {}
+        Call {
+            marks,
+            text: any(random, marks),
+            areas: Areas::any(random, 100),
         }
-        if random.once_in(8) {
-            damage(random, &mut text);
-        }
-        Call { marks, text }
     }
 
     fn of_line(_: &str, inputs: &[&str]) -> Option<Call> {
@@ -100,12 +92,31 @@ impl Entry for Book {
         Some(Call {
             marks: marks.parse().ok()?,
             text: bytes(text)?,
+            areas: Areas::least(),
         })
     }
 
     fn fits_line(_: &str, answer: &Answer, stated: &str) -> bool {
         stated.strip_prefix("ok ").unwrap_or(stated) == answer.to_string()
     }
+}
+
+/// A book under P marks: read in about half of the cases.
+pub fn any(random: &mut Random, marks: usize) -> Vec<u8> {
+    let (mut text, _) = random_book(random, marks.clamp(1, 16));
+    match random.below(12) {
+        0 => text.extend(deep(random)),
+        1 => text.extend(wide(random)),
+        2 => text.extend(late(random)),
+        3 => text.extend(timed_wrongly(random)),
+        4 => text.extend(format!("start p{}\n", random.below(20)).into_bytes()),
+        5 | 6 => damage(random, &mut text),
+        _ => {}
+    }
+    if random.once_in(8) {
+        damage(random, &mut text);
+    }
+    text
 }
 
 /// Brackets, about as many as may stand open.

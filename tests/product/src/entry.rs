@@ -17,7 +17,7 @@ pub trait Entry {
     /// How many cases are generated in a run.
     const GENERATED: usize;
 
-    /// The numbers of the refusals that the entry can answer, 15 apart.
+    /// The numbers of the refusals that have to come.
     const REFUSALS: &'static [u8];
 
     /// What else has to come, and of how many cases at least one.

@@ -8,11 +8,11 @@ use reference::{follow, table};
 use std::fmt;
 
 extern "C" {
-    fn test_follow(table: *const u8, length: usize, row: usize, action: usize) -> Handed;
+    fn succoryvise_follow(table: *const u8, length: usize, row: usize, action: usize) -> Handed;
 }
 
 pub fn follow(table: &[u8], row: usize, action: usize) -> Answer {
-    let answer = unsafe { test_follow(table.as_ptr(), table.len(), row, action) };
+    let answer = unsafe { succoryvise_follow(table.as_ptr(), table.len(), row, action) };
     answer.with_values(1)
 }
 

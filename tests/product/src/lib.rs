@@ -4,12 +4,15 @@
 //! that `for_each_entry` names.
 
 pub mod answer;
+pub mod areas;
 pub mod book;
+pub mod check;
 #[path = "../../reference/tests/common/mod.rs"]
 pub mod common;
 pub mod edits;
 pub mod entry;
 pub mod follow;
+pub mod ruled;
 pub mod runs;
 pub mod table;
 pub mod tables;
@@ -25,6 +28,7 @@ pub fn for_each_entry(test: impl Test) -> bool {
         test.on::<table::Table>(),
         test.on::<book::Book>(),
         test.on::<follow::Follow>(),
+        test.on::<check::Check>(),
         test.on::<runs::Runs>(),
     ];
     passed.iter().all(|passed| *passed)

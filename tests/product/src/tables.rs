@@ -2,8 +2,10 @@
 
 use crate::common::{self, Random};
 use crate::edits;
+use crate::ruled::{self, Ruled};
 use reference::make;
 use reference::table::{Row, Step, Table};
+use reference::tower::Tower;
 
 const HEADER: usize = 12;
 
@@ -79,4 +81,176 @@ fn steps(random: &mut Random, rows: usize, actions: usize) -> Vec<Step> {
         }
     }
     steps
+}
+
+/// A tower with a book, and a table to be judged: about half are good.
+pub fn to_judge(random: &mut Random) -> (Ruled, Vec<u8>) {
+    match random.below(100) {
+        0 => on_a_ring(random),
+        1 | 2 => {
+            let ruled = ruled::slow(random);
+            let table = made(&ruled).or_else(|| made(&ruled.with_book(Vec::new())));
+            let table = table.unwrap_or_else(|| common::random_table(random, &ruled.tower));
+            (ruled, table.encode())
+        }
+        _ => {
+            let ruled = demanding(random);
+            let table = for_ruled(random, &ruled);
+            (ruled, table)
+        }
+    }
+}
+
+/// A table for a tower and a book: made from them, nearly so, or another one.
+fn for_ruled(random: &mut Random, ruled: &Ruled) -> Vec<u8> {
+    let tower = &ruled.tower;
+    let made = made(ruled);
+    let mut table = match (random.below(16), made) {
+        (0, _) => return any(random),
+        (1 | 2, _) | (_, None) => common::random_table(random, tower),
+        (3 | 4, Some(table)) => {
+            let (text, _) = common::random_book(random, tower.marks);
+            self::made(&ruled.with_book(text)).unwrap_or(table)
+        }
+        (5..=9, Some(mut table)) => {
+            change(random, tower, &mut table);
+            table
+        }
+        (_, Some(table)) => table,
+    };
+    if random.once_in(3) {
+        unroll(random, &mut table);
+    }
+    let mut file = table.encode();
+    if random.once_in(12) {
+        edits::edit(random, &mut file, HEADER);
+    }
+    file
+}
+
+/// A tower with a book; in nine of ten tried again, a few times, until it has a table that is not
+/// just the tower itself.
+pub fn demanding(random: &mut Random) -> Ruled {
+    let tries = if random.once_in(10) { 1 } else { 16 };
+    let mut with_table = None;
+    for _ in 1..tries {
+        let ruled = ruled::any(random);
+        if let Some(table) = made(&ruled) {
+            if withholds(&ruled.tower, &table) || repeats(&table) {
+                return ruled;
+            }
+            with_table = Some(ruled);
+        }
+    }
+    with_table.unwrap_or_else(|| ruled::any(random))
+}
+
+/// Whether an action that is enabled in some row is not allowed there.
+pub fn withholds(tower: &Tower, table: &Table) -> bool {
+    table.rows.iter().any(|row| {
+        let targets = &tower.states[row.state].targets;
+        let enabled = targets.iter().filter(|target| target.is_some());
+        row.steps.len() < enabled.count()
+    })
+}
+
+/// Whether two rows have the same state.
+pub fn repeats(table: &Table) -> bool {
+    let mut states: Vec<usize> = table.rows.iter().map(|row| row.state).collect();
+    states.sort();
+    states.windows(2).any(|two| two[0] == two[1])
+}
+
+fn made(ruled: &Ruled) -> Option<Table> {
+    make::make_table(&ruled.tower, &ruled.book).ok()
+}
+
+/// Changes one field, so that the table is still laid out.
+fn change(random: &mut Random, tower: &Tower, table: &mut Table) {
+    let rows = table.rows.len();
+    let states: Vec<usize> = table.rows.iter().map(|row| row.state).collect();
+    let at = random.below(rows);
+    let row = &mut table.rows[at];
+    let count = row.steps.len();
+    match random.below(8) {
+        0 => row.state = random.below(table.states),
+        1 => table.rows[0].state = random.below(table.states),
+        2 if count > 0 => row.steps[random.below(count)].target = random.below(rows),
+        // Another row of the same state.
+        3 if count > 0 => {
+            let step = &mut row.steps[random.below(count)];
+            let same = |other: &usize| states[*other] == states[step.target];
+            let same: Vec<usize> = (0..rows).filter(same).collect();
+            step.target = same[random.below(same.len())];
+        }
+        4 if count > 0 => {
+            row.steps.remove(random.below(count));
+        }
+        5 if count > 0 => {
+            let step = &mut row.steps[random.below(count)];
+            step.action = random.below(table.actions);
+            row.steps.sort_by_key(|step| step.action);
+            row.steps.dedup_by_key(|step| step.action);
+        }
+        // An action that is enabled, mostly with a row of the state reached.
+        6 => {
+            let action = random.below(table.actions);
+            let reached = tower.states[row.state].targets[action];
+            let place = states.iter().position(|state| Some(*state) == reached);
+            let target = place.unwrap_or(random.below(rows));
+            row.steps.retain(|step| step.action != action);
+            row.steps.push(Step { action, target });
+            row.steps.sort_by_key(|step| step.action);
+        }
+        // A row that nothing leads to.
+        _ => {
+            let state = random.below(table.states);
+            table.rows.push(Row {
+                state,
+                steps: Vec::new(),
+            });
+        }
+    }
+}
+
+/// Adds a copy of a row, and leads a step there that led to the row. The same runs are allowed.
+fn unroll(random: &mut Random, table: &mut Table) {
+    let rows = table.rows.len();
+    if rows == 1_000 {
+        return;
+    }
+    let copied = random.below(rows);
+    table.rows.push(table.rows[copied].clone());
+    let steps = table.rows.iter_mut().flat_map(|row| &mut row.steps);
+    let mut leading: Vec<&mut Step> = steps.filter(|step| step.target == copied).collect();
+    if !leading.is_empty() {
+        let at = random.below(leading.len());
+        leading[at].target = rows;
+    }
+}
+
+/// A ring, and rows that go round it a few times: about 1,000 rows with what is pending.
+fn on_a_ring(random: &mut Random) -> (Ruled, Vec<u8>) {
+    let states = 1 + random.below(200);
+    let rows = states * (1 + random.below(1_000 / states));
+    let ruled = ruled::ring(random, states, rows);
+    (ruled, ring_table(states, rows, 0).encode())
+}
+
+/// A table for a ring, of rows that go round it and then on from the row `back`, which has to have
+/// the state that is reached.
+pub fn ring_table(states: usize, rows: usize, back: usize) -> Table {
+    let step = |row: usize| Step {
+        action: 0,
+        target: if row + 1 == rows { back } else { row + 1 },
+    };
+    let row = |row: usize| Row {
+        state: row % states,
+        steps: vec![step(row)],
+    };
+    Table {
+        states,
+        actions: 1,
+        rows: (0..rows).map(row).collect(),
+    }
 }

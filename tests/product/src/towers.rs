@@ -12,11 +12,16 @@ pub fn any(random: &mut Random) -> Vec<u8> {
         1 => past_limits(random),
         2..=10 => {
             let mut file = fit(random);
-            edits::edit(random, &mut file, HEADER);
+            edit(random, &mut file);
             file
         }
         _ => fit(random),
     }
+}
+
+/// Changes a few bytes.
+pub fn edit(random: &mut Random, file: &mut Vec<u8>) {
+    edits::edit(random, file, HEADER);
 }
 
 /// A fit tower, mostly a small one.

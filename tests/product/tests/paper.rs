@@ -4,8 +4,8 @@ use product::answer::Answer;
 use product::common::{lines, SMALL_TOWER};
 use product::entry::{Entry, NOTHING};
 use product::runs::{Case, Runs};
-use product::{follow, table, tower};
-use reference::{book, make, Refusal};
+use product::{book, check, follow, table, tower};
+use reference::{make, Refusal};
 
 /// The small tower with one byte changed.
 fn small_tower_with(at: usize, byte: u8) -> Vec<u8> {
@@ -14,10 +14,14 @@ fn small_tower_with(at: usize, byte: u8) -> Vec<u8> {
     file
 }
 
+/// Book 1 of the paper's table.
+fn small_book() -> Vec<u8> {
+    lines(&["always !p0 | E 3 p1", "always !p0 | E 3 p2"])
+}
+
 /// Outcome 1 of the paper's table, 50 bytes.
 fn small_table() -> Vec<u8> {
-    let book = lines(&["always !p0 | E 3 p1", "always !p0 | E 3 p2"]);
-    make::make(&SMALL_TOWER, &book, 50).expect("the paper's table")
+    make::make(&SMALL_TOWER, &small_book(), 50).expect("the paper's table")
 }
 
 fn refused(number: u8) -> Answer {
@@ -108,11 +112,57 @@ fn the_small_table_is_followed_as_listed() {
     }
 }
 
+/// What the checker says of a table for the small tower.
+fn checked(book: &[u8], table: &[u8]) -> String {
+    check::check(&SMALL_TOWER, book, table).to_string()
+}
+
+#[test]
+fn the_small_table_is_good() {
+    assert_eq!(checked(&small_book(), &small_table()), "");
+}
+
+#[test]
+fn target_row_5_of_5_is_13_for_the_checker_too() {
+    let mut file = small_table();
+    file[33] = 5;
+    assert_eq!(checked(&small_book(), &file), "refused 13 0");
+}
+
+#[test]
+fn a_row_of_state_0_with_no_step_is_14_d() {
+    let file = [1, 0, 0, 0, 12, 0, 16, 0, 3, 0, 4, 0, 0, 0, 0, 0];
+    assert_eq!(checked(b"", &file), "refused 14 0 d");
+}
+
+/// Outcome 11 of the paper's table.
+#[test]
+fn the_table_for_no_lines_is_14_e_under_book_1() {
+    let file = make::make(&SMALL_TOWER, b"", 36).expect("outcome 5");
+    assert_eq!(checked(b"", &file), "");
+    assert_eq!(checked(&small_book(), &file), "refused 14 0 e");
+}
+
+/// Whichever area it is; and nothing changes.
+#[test]
+fn an_area_of_length_0_is_15() {
+    for short in 0..3 {
+        let lengths = [512, 62_062, 8_192];
+        let mut areas = lengths.map(|length| vec![0xa5; length]);
+        areas[short].clear();
+        let lent = areas.clone();
+        let answer = check::check_with(&SMALL_TOWER, b"", &small_table(), &mut areas);
+        assert_eq!(answer, refused(15));
+        assert_eq!(areas, lent);
+    }
+    assert_eq!(book::read(3, &small_book(), &mut []), refused(15));
+}
+
 /// How many actions the first broken beginning of a run has, by the proved progression.
 fn first_broken(line: &str, run: &[usize]) -> usize {
     let case = Case {
         tower: reference::tower::parse(&SMALL_TOWER).expect("the small tower"),
-        book: book::read(3, &lines(&[line])).expect("a book"),
+        book: reference::book::read(3, &lines(&[line])).expect("a book"),
         run: run.to_vec(),
     };
     Runs::proved(&case).values[0]

@@ -11,6 +11,7 @@ pub mod follow;
 pub mod listing;
 pub mod make;
 pub mod pending;
+pub mod program;
 pub mod runs;
 pub mod table;
 pub mod tower;

@@ -2,13 +2,13 @@
 
 mod common;
 
-use common::{lines, promise, random_book, random_tower, tower_file, Random};
+use common::{lines, promise, random_book, random_table, random_tower, tower_file, Random};
 use reference::book::{self, Book};
 use reference::check::{check, check_table, Answer, Reason};
 use reference::make::{make, make_table, pair_count};
 use reference::pending;
 use reference::runs::Run;
-use reference::table::{self, Row, Step, Table};
+use reference::table::{self, Table};
 use reference::tower::{self, Tower};
 use std::collections::{HashSet, VecDeque};
 
@@ -268,30 +268,6 @@ fn made_tables_are_equal_exactly_when_they_allow_the_same_runs() {
         }
     }
     assert!(same > 500 && different > 100);
-}
-
-/// A table whose steps lead to rows of the right state, mostly.
-fn random_table(random: &mut Random, tower: &Tower) -> Table {
-    let mut states = vec![tower.start];
-    states.extend((0..random.below(5)).map(|_| random.below(tower.states.len())));
-    let row = |&state: &usize| {
-        let mut steps = Vec::new();
-        for (action, reached) in tower.states[state].targets.iter().enumerate() {
-            let fits = |row: &usize| Some(states[*row]) == *reached || random.once_in(60);
-            let targets: Vec<usize> = (0..states.len()).filter(fits).collect();
-            let withheld = random.once_in(if tower.actions[action].player { 30 } else { 3 });
-            if !targets.is_empty() && !withheld {
-                let target = targets[random.below(targets.len())];
-                steps.push(Step { action, target });
-            }
-        }
-        Row { state, steps }
-    };
-    Table {
-        states: tower.states.len(),
-        actions: tower.actions.len(),
-        rows: states.iter().map(row).collect(),
-    }
 }
 
 /// The shortest allowed run whose last step breaks a rule, where there is one.

@@ -1,7 +1,8 @@
-//! What the tests share: the small tower, the ring, and random towers and books.
+//! What the tests share: the small tower, the ring, and random towers, books and tables.
 #![allow(dead_code)]
 
 use reference::book::{self, Book};
+use reference::table::{Row, Step, Table};
 use reference::tower::{self, Tower};
 
 pub const SMALL_TOWER: [u8; 34] = [
@@ -189,4 +190,28 @@ fn number(random: &mut Random) -> String {
 /// A token with or without a space after it.
 fn token(random: &mut Random, token: &str) -> String {
     token.to_string() + random.pick(&["", " "])
+}
+
+/// A table whose steps lead to rows of the right state, mostly.
+pub fn random_table(random: &mut Random, tower: &Tower) -> Table {
+    let mut states = vec![tower.start];
+    states.extend((0..random.below(5)).map(|_| random.below(tower.states.len())));
+    let row = |&state: &usize| {
+        let mut steps = Vec::new();
+        for (action, reached) in tower.states[state].targets.iter().enumerate() {
+            let fits = |row: &usize| Some(states[*row]) == *reached || random.once_in(60);
+            let targets: Vec<usize> = (0..states.len()).filter(fits).collect();
+            let withheld = random.once_in(if tower.actions[action].player { 30 } else { 3 });
+            if !targets.is_empty() && !withheld {
+                let target = targets[random.below(targets.len())];
+                steps.push(Step { action, target });
+            }
+        }
+        Row { state, steps }
+    };
+    Table {
+        states: tower.states.len(),
+        actions: tower.actions.len(),
+        rows: states.iter().map(row).collect(),
+    }
 }

@@ -1,6 +1,6 @@
 -- `testing::tower::test_read_tower` meets its contract.
 use borrow.Author.Needs.{needs}
-use Rattle.testing.specs.Shown.{tower-said}
+use Rattle.testing.specs.Said.{tower-said}
 use Rattle.testing.proofs.Laws.{tower-by}
 use Rattle.testing.proofs.tower.test_read_tower.Statement.{statement}
 use Rattle.testing.proofs.tower.test_read_tower.Tie as tie

@@ -1,0 +1,4 @@
+mod PairEntries
+mod Following
+mod Growing
+mod Exploring

@@ -1,0 +1,75 @@
+-- From an answer that is known to how it is shown.
+use Prim.Native.Nat.{ℕ}
+use mathlib.Core.Path.{_≡_, refl, sym, _∙_, ap}
+use mathlib.Core.List.{List, [], _∷_}
+use Rattle.base.specs.Answers.{Said, refusal-said, book-said, verdict-said, follow-said}
+use Rattle.base.specs.declared.BookAnswer.{BookAnswer}
+use Rattle.base.specs.declared.Verdict.{Verdict}
+use Rattle.outcome.specs.ReadBook.{read-outcome}
+use Rattle.outcome.specs.Check.{check-outcome}
+use Rattle.book_reader.specs.Lines.{Outcome}
+use Rattle.checker.specs.Checking.{Checks}
+use Rattle.base.specs.declared.Refusal.{Refusal}
+use Rattle.base.specs.declared.Refusal.the-variants.{TowerSize, Range, Action, Target, Mask, Grammar, Number, Mark, Limit, Timed}
+use Rattle.base.specs.declared.Refusal.the-variants.{Pairs, NoTable, Layout, NotGood, Area, Output, Outside, NotAllowed}
+use Rattle.refusal_numbers.specs.Parts.{said-number, said-place, said-letter}
+use Rattle.succoryvise.specs.Shown.{said-values, shown}
+use Rattle.succoryvise.specs.declared.answer.Answer.{Answer}
+use Rattle.succoryvise.specs.Entries.{ReadsBook, ChecksTable}
+
+-- a refusal has no values
+no-values : (r : Refusal) → said-values (refusal-said r) ≡ []
+unfolding said-values refusal-said
+no-values TowerSize = refl
+no-values Range = refl
+no-values Action = refl
+no-values Target = refl
+no-values Mask = refl
+no-values (Grammar line) = refl
+no-values (Number line) = refl
+no-values (Mark line) = refl
+no-values (Limit line) = refl
+no-values (Timed line) = refl
+no-values Pairs = refl
+no-values NoTable = refl
+no-values Layout = refl
+no-values (NotGood reason) = refl
+no-values Area = refl
+no-values Output = refl
+no-values Outside = refl
+no-values NotAllowed = refl
+
+-- an answer without values
+abbrev without-values : ℕ → ℕ → ℕ → Answer
+without-values n l p = record { number = n; letter = l; place = p; first = 0; second = 0 }
+
+-- The three numbers of a refusal show it.
+pub refusal-shown : (r : Refusal) (n l p : ℕ) → n ≡ said-number (refusal-said r) → l ≡ said-letter (refusal-said r)
+    → p ≡ said-place (refusal-said r) → without-values n l p ≡ shown (refusal-said r)
+unfolding shown
+refusal-shown r n l p e f g = rw (e, f, g, no-values r)
+
+-- An outcome is shown as what is said of the answer that it is.
+abbrev pub ShownBy : {X : Type 0} → (X → Said) → Type 0
+ShownBy {X} said = (o x outcome : X) (z : Answer) → o ≡ outcome → o ≡ x → z ≡ shown (said x) → z ≡ shown (said outcome)
+
+pub shown-by : {X : Type 0} (said : X → Said) → ShownBy said
+shown-by said o x outcome z e f g = g ∙ ap (λ y. shown (said y)) (sym f ∙ e)
+
+pub follow-by : ShownBy follow-said
+follow-by = shown-by follow-said
+
+-- The promises of the book reader and the checker have the areas beside the answer.
+pub book-by : (o x : BookAnswer) (marks : ℕ) (text nodes nodes-after : List ℕ) (z : Answer) → Outcome o marks text nodes nodes-after
+    → o ≡ x → z ≡ shown (book-said x) → ReadsBook z marks text nodes nodes-after
+book-by o x marks text nodes nodes-after z e f g =
+    record { answer = shown-by book-said o x (read-outcome marks text (nodes ∷ []) .answer) z (e .answer) f g; areas = e .areas }
+
+pub check-by : (o x : Verdict) (tower text table nodes pairs index nodes-after pairs-after index-after : List ℕ) (z : Answer)
+    → Checks o tower text table nodes pairs index nodes-after pairs-after index-after → o ≡ x → z ≡ shown (verdict-said x)
+    → ChecksTable z tower text table nodes pairs index nodes-after pairs-after index-after
+check-by o x tower text table nodes pairs index nodes-after pairs-after index-after z e f g =
+    record {
+      answer = shown-by verdict-said o x (check-outcome tower text table (nodes ∷ pairs ∷ index ∷ []) .answer) z (e .answer) f g;
+      areas = e .areas;
+    }

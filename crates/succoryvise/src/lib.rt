@@ -1,0 +1,61 @@
+// The interface for C and Rust: the entries, with answers as numbers. None of them requires
+// anything of its caller but slices that are memory: `&[u8]` is a pointer and a length. What each
+// answers and leaves in its areas is an equation with the definitions of `outcome`.
+pub mod answer;
+
+ghost use mathlib.Core.Path.{_≡_};
+ghost use Rattle.base.specs.Answers.{follow-said};
+ghost use Rattle.outcome.specs.Follow.{follow-outcome};
+ghost use Rattle.succoryvise.specs.Shown.{shown};
+ghost use Rattle.succoryvise.specs.Entries.{ReadsBook, ChecksTable};
+use answer::Answer;
+use base::BookAnswer;
+use base::FollowAnswer;
+use base::Refusal;
+use base::Verdict;
+
+// Reads a rule book under P marks: the numbers of its lines and nodes, or why it is turned down.
+// Refused with 15 it changes nothing; else the lent area is all zero afterwards.
+#[no_mangle]
+pub extern "C" fn succoryvise_read_book(marks: usize, text: &[u8], nodes: &mut [u8]) -> Answer
+    ensures { λ a. ⌜ ReadsBook a marks (now (text .entry)) (now (nodes .entry)) (now (nodes .exit)) ⌝ }
+{
+    match book_reader::read_book(marks, text, nodes) {
+        BookAnswer::Read {
+            lines,
+            nodes: count,
+        } => answer::two_values(lines, count),
+        BookAnswer::Refused(refusal) => answer::refused(refusal),
+    }
+}
+
+// Whether the table is good for the tower and the book, or the first reason why not. Refused with
+// 15 it changes nothing; else the lent areas are all zero afterwards.
+#[no_mangle]
+pub extern "C" fn succoryvise_check(
+    tower: &[u8],
+    text: &[u8],
+    table: &[u8],
+    nodes: &mut [u8],
+    pairs: &mut [u8],
+    index: &mut [u8],
+) -> Answer
+    ensures { λ a. ⌜ ChecksTable a (now (tower .entry)) (now (text .entry)) (now (table .entry)) (now (nodes .entry)) (now (pairs .entry)) (now (index .entry)) (now (nodes .exit)) (now (pairs .exit)) (now (index .exit)) ⌝ }
+{
+    match checker::check(tower, text, table, nodes, pairs, index) {
+        Verdict::Good => answer::yes(),
+        Verdict::NotGood(reason) => answer::refused(Refusal::NotGood(reason)),
+        Verdict::Refused(refusal) => answer::refused(refusal),
+    }
+}
+
+// The row that an action leads to from a row of the table, or why there is none.
+#[no_mangle]
+pub extern "C" fn succoryvise_follow(table: &[u8], row: usize, action: usize) -> Answer
+    ensures { λ a. ⌜ a ≡ shown (follow-said (follow-outcome (now (table .entry)) row action)) ⌝ }
+{
+    match follower::follow(table, row, action) {
+        FollowAnswer::Row(next) => answer::value(next),
+        FollowAnswer::Refused(refusal) => answer::refused(refusal),
+    }
+}

@@ -1,0 +1,166 @@
+//! The checker.
+
+use crate::answer::{Answer, Handed};
+use crate::areas::Areas;
+use crate::common::Random;
+use crate::entry::{bytes, hexadecimal, Entry};
+use crate::{book, tables, towers};
+use reference::{check, Refusal};
+use std::fmt;
+
+extern "C" {
+    fn succoryvise_check(
+        tower: *const u8,
+        tower_length: usize,
+        text: *const u8,
+        text_length: usize,
+        table: *const u8,
+        table_length: usize,
+        nodes: *mut u8,
+        nodes_length: usize,
+        pairs: *mut u8,
+        pairs_length: usize,
+        index: *mut u8,
+        index_length: usize,
+    ) -> Handed;
+}
+
+/// The checker, with these areas.
+pub fn check_with(tower: &[u8], text: &[u8], table: &[u8], areas: &mut [Vec<u8>; 3]) -> Answer {
+    let [nodes, pairs, index] = areas;
+    let answer = unsafe {
+        succoryvise_check(
+            tower.as_ptr(),
+            tower.len(),
+            text.as_ptr(),
+            text.len(),
+            table.as_ptr(),
+            table.len(),
+            nodes.as_mut_ptr(),
+            nodes.len(),
+            pairs.as_mut_ptr(),
+            pairs.len(),
+            index.as_mut_ptr(),
+            index.len(),
+        )
+    };
+    answer.with_values(0)
+}
+
+/// The checker, with areas that are just long enough.
+pub fn check(tower: &[u8], text: &[u8], table: &[u8]) -> Answer {
+    check_with(tower, text, table, &mut Areas::least().lend())
+}
+
+/// The reference's answer.
+pub fn expected(tower: &[u8], text: &[u8], table: &[u8]) -> Answer {
+    match check::check(tower, text, table) {
+        check::Answer::Good => Answer::default(),
+        check::Answer::NotGood(reason, place) => Answer {
+            letter: letter(reason),
+            ..Refusal::at(14, place).into()
+        },
+        check::Answer::Refused(refusal) => refusal.into(),
+    }
+}
+
+fn letter(reason: check::Reason) -> u8 {
+    match reason {
+        check::Reason::Start => b'a',
+        check::Reason::Withheld => b'b',
+        check::Reason::Misled => b'c',
+        check::Reason::Stopped => b'd',
+        check::Reason::Broken => b'e',
+    }
+}
+
+pub struct Check;
+
+pub struct Call {
+    tower: Vec<u8>,
+    text: Vec<u8>,
+    table: Vec<u8>,
+    areas: Areas<3>,
+}
+
+impl fmt::Display for Call {
+    fn fmt(&self, f: &mut fmt::Formatter) -> fmt::Result {
+        let [tower, text, table] = [&self.tower, &self.text, &self.table].map(|b| hexadecimal(b));
+        write!(f, "{tower} {text} {table}")
+    }
+}
+
+impl Entry for Check {
+    type Case = Call;
+
+    const NAME: &'static str = "checker";
+    const GENERATED: usize = 60_000;
+    const REFUSALS: &'static [u8] = &[1, 2, 3, 4, 5, 6, 7, 8, 9, 10, 11, 13, 14, 15];
+    const KINDS: &'static [(&'static str, usize)] = &[
+        ("14 a", 500),
+        ("14 b", 500),
+        ("14 c", 500),
+        ("14 d", 500),
+        ("14 e", 500),
+    ];
+    const FILES: &'static [&'static str] = &["check.txt"];
+
+    fn proved(call: &Call) -> Answer {
+        let mut areas = call.areas.lend();
+        let answer = check_with(&call.tower, &call.text, &call.table, &mut areas);
+        assert!(call.areas.are_right(&areas), "{call}");
+        answer
+    }
+
+    fn reference(call: &Call) -> Answer {
+        if call.areas.too_short() {
+            return Refusal::new(15).into();
+        }
+        expected(&call.tower, &call.text, &call.table)
+    }
+
+    /// Tower, book and table; one in ten has another tower or book, mostly not fit to use.
+    fn generate(random: &mut Random) -> Call {
+        let (ruled, table) = tables::to_judge(random);
+        let (mut tower, mut text) = (ruled.tower_file, ruled.text);
+        match random.below(40) {
+            0 => tower = towers::any(random),
+            1 | 2 => towers::edit(random, &mut tower),
+            3..=5 => text = book::any(random, usize::from(tower[2])),
+            _ => {}
+        }
+        Call {
+            tower,
+            text,
+            table,
+            areas: Areas::any(random, 50),
+        }
+    }
+
+    fn kinds(_: &Call, answer: &Answer) -> Vec<&'static str> {
+        match (answer.number, answer.letter) {
+            (14, b'a') => vec!["14 a"],
+            (14, b'b') => vec!["14 b"],
+            (14, b'c') => vec!["14 c"],
+            (14, b'd') => vec!["14 d"],
+            (14, b'e') => vec!["14 e"],
+            _ => vec![],
+        }
+    }
+
+    fn of_line(_: &str, inputs: &[&str]) -> Option<Call> {
+        let [tower, text, table] = inputs else {
+            return None;
+        };
+        Some(Call {
+            tower: bytes(tower)?,
+            text: bytes(text)?,
+            table: bytes(table)?,
+            areas: Areas::least(),
+        })
+    }
+
+    fn fits_line(_: &str, answer: &Answer, stated: &str) -> bool {
+        stated.strip_prefix("good").unwrap_or(stated) == answer.to_string()
+    }
+}
