@@ -2,20 +2,23 @@
 use Prim.Native.Nat.{ℕ}
 use mathlib.Core.Path.{_≡_, refl, sym, _∙_, ap}
 use mathlib.Core.List.{List, [], _∷_}
-use Rattle.base.specs.Answers.{Said, refusal-said, book-said, verdict-said, follow-said}
+use Rattle.base.specs.Answers.{Said, refusal-said, book-said, make-said, verdict-said, follow-said}
 use Rattle.base.specs.declared.BookAnswer.{BookAnswer}
+use Rattle.base.specs.declared.MakeAnswer.{MakeAnswer}
 use Rattle.base.specs.declared.Verdict.{Verdict}
 use Rattle.outcome.specs.ReadBook.{read-outcome}
+use Rattle.outcome.specs.Make.{make-outcome}
 use Rattle.outcome.specs.Check.{check-outcome}
 use Rattle.book_reader.specs.Lines.{Outcome}
 use Rattle.checker.specs.Checking.{Checks}
+use Rattle.maker.specs.Making.{Makes}
 use Rattle.base.specs.declared.Refusal.{Refusal}
 use Rattle.base.specs.declared.Refusal.the-variants.{TowerSize, Range, Action, Target, Mask, Grammar, Number, Mark, Limit, Timed}
 use Rattle.base.specs.declared.Refusal.the-variants.{Pairs, NoTable, Layout, NotGood, Area, Output, Outside, NotAllowed}
 use Rattle.refusal_numbers.specs.Parts.{said-number, said-place, said-letter}
 use Rattle.succoryvise.specs.Shown.{said-values, shown}
 use Rattle.succoryvise.specs.declared.answer.Answer.{Answer}
-use Rattle.succoryvise.specs.Entries.{ReadsBook, ChecksTable}
+use Rattle.succoryvise.specs.Entries.{ReadsBook, MakesTable, ChecksTable}
 
 -- a refusal has no values
 no-values : (r : Refusal) → said-values (refusal-said r) ≡ []
@@ -59,11 +62,25 @@ shown-by said o x outcome z e f g = g ∙ ap (λ y. shown (said y)) (sym f ∙ e
 pub follow-by : ShownBy follow-said
 follow-by = shown-by follow-said
 
--- The promises of the book reader and the checker have the areas beside the answer.
+-- The promises of the others have the areas beside the answer, and the maker's the output too.
 pub book-by : (o x : BookAnswer) (marks : ℕ) (text nodes nodes-after : List ℕ) (z : Answer) → Outcome o marks text nodes nodes-after
     → o ≡ x → z ≡ shown (book-said x) → ReadsBook z marks text nodes nodes-after
 book-by o x marks text nodes nodes-after z e f g =
     record { answer = shown-by book-said o x (read-outcome marks text (nodes ∷ []) .answer) z (e .answer) f g; areas = e .areas }
+
+pub make-by : (o x : MakeAnswer)
+    (tower text out nodes pairs index steps flags classes out-after nodes-after pairs-after index-after steps-after flags-after classes-after : List ℕ)
+    (z : Answer)
+    → Makes o tower text out nodes pairs index steps flags classes out-after nodes-after pairs-after index-after steps-after flags-after classes-after
+    → o ≡ x → z ≡ shown (make-said x)
+    → MakesTable z tower text out nodes pairs index steps flags classes out-after nodes-after pairs-after index-after steps-after flags-after classes-after
+make-by o x tower text out nodes pairs index steps flags classes out-after nodes-after pairs-after index-after steps-after flags-after classes-after z e f g =
+    record {
+      answer = shown-by make-said o x
+          (make-outcome tower text out (nodes ∷ pairs ∷ index ∷ steps ∷ flags ∷ classes ∷ []) .answer) z (e .answer) f g;
+      output = e .output;
+      areas = e .areas;
+    }
 
 pub check-by : (o x : Verdict) (tower text table nodes pairs index nodes-after pairs-after index-after : List ℕ) (z : Answer)
     → Checks o tower text table nodes pairs index nodes-after pairs-after index-after → o ≡ x → z ≡ shown (verdict-said x)

@@ -1,9 +1,11 @@
--- The whole outcome of an entry, as a caller in another language sees it: the answer as numbers, and what the lent areas hold at the end.
+-- The whole outcome of an entry, as a caller in another language sees it: the answer as numbers, and what the output and the lent areas hold at
+-- the end.
 use Prim.Native.Nat.{ℕ}
 use mathlib.Core.Path.{_≡_}
 use mathlib.Core.List.{List, [], _∷_}
-use Rattle.base.specs.Answers.{book-said, verdict-said}
+use Rattle.base.specs.Answers.{book-said, make-said, verdict-said}
 use Rattle.outcome.specs.ReadBook.{read-outcome}
+use Rattle.outcome.specs.Make.{make-outcome}
 use Rattle.outcome.specs.Check.{check-outcome}
 use Rattle.succoryvise.specs.Shown.{shown}
 use Rattle.succoryvise.specs.declared.answer.Answer.{Answer}
@@ -12,6 +14,13 @@ use Rattle.succoryvise.specs.declared.answer.Answer.{Answer}
 pub record ReadsBook (a : Answer) (marks : ℕ) (text nodes nodes-after : List ℕ) : Type 0 where
   pub answer : a ≡ shown (book-said (read-outcome marks text (nodes ∷ []) .answer))
   pub areas : nodes-after ∷ [] ≡ read-outcome marks text (nodes ∷ []) .areas
+
+-- The maker.
+pub record MakesTable (a : Answer) (tower text out nodes pairs index steps flags classes out-after nodes-after pairs-after index-after steps-after flags-after classes-after : List ℕ) : Type 0 where
+  pub answer : a ≡ shown (make-said (make-outcome tower text out (nodes ∷ pairs ∷ index ∷ steps ∷ flags ∷ classes ∷ []) .answer))
+  pub output : out-after ≡ make-outcome tower text out (nodes ∷ pairs ∷ index ∷ steps ∷ flags ∷ classes ∷ []) .output
+  pub areas : nodes-after ∷ pairs-after ∷ index-after ∷ steps-after ∷ flags-after ∷ classes-after ∷ []
+      ≡ make-outcome tower text out (nodes ∷ pairs ∷ index ∷ steps ∷ flags ∷ classes ∷ []) .areas
 
 -- The checker.
 pub record ChecksTable (a : Answer) (tower text table nodes pairs index nodes-after pairs-after index-after : List ℕ) : Type 0 where

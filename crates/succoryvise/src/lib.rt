@@ -7,10 +7,11 @@ ghost use mathlib.Core.Path.{_≡_};
 ghost use Rattle.base.specs.Answers.{follow-said};
 ghost use Rattle.outcome.specs.Follow.{follow-outcome};
 ghost use Rattle.succoryvise.specs.Shown.{shown};
-ghost use Rattle.succoryvise.specs.Entries.{ReadsBook, ChecksTable};
+ghost use Rattle.succoryvise.specs.Entries.{ReadsBook, MakesTable, ChecksTable};
 use answer::Answer;
 use base::BookAnswer;
 use base::FollowAnswer;
+use base::MakeAnswer;
 use base::Refusal;
 use base::Verdict;
 
@@ -26,6 +27,29 @@ pub extern "C" fn succoryvise_read_book(marks: usize, text: &[u8], nodes: &mut [
             nodes: count,
         } => answer::two_values(lines, count),
         BookAnswer::Refused(refusal) => answer::refused(refusal),
+    }
+}
+
+// Makes the table for the tower and the book, and writes it to the front of `out`: its length in
+// bytes, or why there is none. A refusal changes no byte of `out`, and bytes behind the table stay.
+// Refused with 15 it changes nothing; else the lent areas are all zero afterwards.
+#[no_mangle]
+pub extern "C" fn succoryvise_make(
+    tower: &[u8],
+    text: &[u8],
+    out: &mut [u8],
+    nodes: &mut [u8],
+    pairs: &mut [u8],
+    index: &mut [u8],
+    steps: &mut [u8],
+    flags: &mut [u8],
+    classes: &mut [u8],
+) -> Answer
+    ensures { λ a. ⌜ MakesTable a (now (tower .entry)) (now (text .entry)) (now (out .entry)) (now (nodes .entry)) (now (pairs .entry)) (now (index .entry)) (now (steps .entry)) (now (flags .entry)) (now (classes .entry)) (now (out .exit)) (now (nodes .exit)) (now (pairs .exit)) (now (index .exit)) (now (steps .exit)) (now (flags .exit)) (now (classes .exit)) ⌝ }
+{
+    match maker::make(tower, text, out, nodes, pairs, index, steps, flags, classes) {
+        MakeAnswer::Made(length) => answer::value(length),
+        MakeAnswer::Refused(refusal) => answer::refused(refusal),
     }
 }
 

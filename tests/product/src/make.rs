@@ -1,0 +1,230 @@
+//! The maker.
+
+use crate::answer::{Answer, Handed};
+use crate::areas::{self, Areas};
+use crate::common::Random;
+use crate::entry::{bytes, hexadecimal, Entry};
+use crate::ruled::{self, Ruled};
+use crate::{book, check, tables, towers};
+use reference::{make, table, tower, Refusal};
+use std::fmt;
+
+extern "C" {
+    fn succoryvise_make(
+        tower: *const u8,
+        tower_length: usize,
+        text: *const u8,
+        text_length: usize,
+        out: *mut u8,
+        out_length: usize,
+        nodes: *mut u8,
+        nodes_length: usize,
+        pairs: *mut u8,
+        pairs_length: usize,
+        index: *mut u8,
+        index_length: usize,
+        steps: *mut u8,
+        steps_length: usize,
+        flags: *mut u8,
+        flags_length: usize,
+        classes: *mut u8,
+        classes_length: usize,
+    ) -> Handed;
+}
+
+/// The maker, with this output and these areas. The value is the length of the table.
+pub fn make_with(tower: &[u8], text: &[u8], out: &mut [u8], areas: &mut [Vec<u8>; 6]) -> Answer {
+    let [nodes, pairs, index, steps, flags, classes] = areas;
+    let answer = unsafe {
+        succoryvise_make(
+            tower.as_ptr(),
+            tower.len(),
+            text.as_ptr(),
+            text.len(),
+            out.as_mut_ptr(),
+            out.len(),
+            nodes.as_mut_ptr(),
+            nodes.len(),
+            pairs.as_mut_ptr(),
+            pairs.len(),
+            index.as_mut_ptr(),
+            index.len(),
+            steps.as_mut_ptr(),
+            steps.len(),
+            flags.as_mut_ptr(),
+            flags.len(),
+            classes.as_mut_ptr(),
+            classes.len(),
+        )
+    };
+    answer.with_values(1)
+}
+
+/// The table that the maker makes in an output of this length, or its refusal. Areas and output are
+/// afterwards as they have to be.
+fn made(call: &Call) -> Result<Vec<u8>, Answer> {
+    let mut areas = call.areas.lend();
+    let before = areas::noise(call.room);
+    let mut out = before.to_vec();
+    let answer = make_with(&call.tower, &call.text, &mut out, &mut areas);
+    assert!(call.areas.are_right(&areas), "{call}");
+    let length = answer.values.first().copied().unwrap_or(0);
+    assert!(out[length..] == before[length..], "{call}");
+    if answer.number != 0 {
+        return Err(answer);
+    }
+    out.truncate(length);
+    Ok(out)
+}
+
+/// The table, in an output that is long enough for every table.
+pub fn make(tower: &[u8], text: &[u8]) -> Result<Vec<u8>, Answer> {
+    made(&Call {
+        tower: tower.to_vec(),
+        text: text.to_vec(),
+        room: ENOUGH,
+        areas: Areas::least(),
+    })
+}
+
+/// The length of the longest table: 1,000 rows of 16 steps.
+const ENOUGH: usize = 12 + 1_000 * (4 + 16 * 3);
+
+pub struct Make;
+
+pub struct Call {
+    tower: Vec<u8>,
+    text: Vec<u8>,
+    /// The length of the output.
+    room: usize,
+    areas: Areas<6>,
+}
+
+impl fmt::Display for Call {
+    fn fmt(&self, f: &mut fmt::Formatter) -> fmt::Result {
+        let [tower, text] = [&self.tower, &self.text].map(|bytes| hexadecimal(bytes));
+        write!(f, "{tower} {text} {}", self.room)
+    }
+}
+
+/// The length and the bytes of a table.
+fn answer(made: Result<Vec<u8>, Answer>) -> Answer {
+    match made {
+        Ok(file) => {
+            let bytes = file.iter().map(|byte| usize::from(*byte));
+            let values: Vec<usize> = [file.len()].into_iter().chain(bytes).collect();
+            Answer::of_values(values)
+        }
+        Err(refused) => refused,
+    }
+}
+
+/// The bytes of a table, out of such an answer.
+fn file(answer: &Answer) -> Vec<u8> {
+    let bytes = answer.values.iter().skip(1);
+    bytes.map(|byte| *byte as u8).collect()
+}
+
+impl Entry for Make {
+    type Case = Call;
+
+    const NAME: &'static str = "maker";
+    const GENERATED: usize = 60_000;
+    const REFUSALS: &'static [u8] = &[1, 2, 3, 4, 5, 6, 7, 8, 9, 10, 11, 12, 15, 16];
+    const KINDS: &'static [(&'static str, usize)] = &[(WITHHOLDS, 10), (REPEATS, 30)];
+    const FILES: &'static [&'static str] = &["make.txt"];
+
+    /// A table that is made is accepted by the checker, under its own book.
+    fn proved(call: &Call) -> Answer {
+        let made = made(call);
+        if let Ok(table) = &made {
+            let verdict = check::check(&call.tower, &call.text, table);
+            assert_eq!(verdict, Answer::default(), "{call}");
+        }
+        answer(made)
+    }
+
+    fn reference(call: &Call) -> Answer {
+        if call.areas.too_short() {
+            return Refusal::new(15).into();
+        }
+        answer(make::make(&call.tower, &call.text, call.room).map_err(Answer::from))
+    }
+
+    /// Tower and book; one in ten has another tower or book, mostly not fit to use. One in ten
+    /// outputs is too short, and some are longer than the table.
+    fn generate(random: &mut Random) -> Call {
+        let ruled = to_make(random);
+        let made = make::make_table(&ruled.tower, &ruled.book);
+        let length = made.map_or(0, |table| table.encode().len());
+        let room = match random.below(20) {
+            0 => length.saturating_sub(1),
+            1 => random.below(length + 1),
+            2..=9 => length,
+            _ => length + random.below(300),
+        };
+        let (mut tower, mut text) = (ruled.tower_file, ruled.text);
+        match random.below(40) {
+            0 => tower = towers::any(random),
+            1 | 2 => towers::edit(random, &mut tower),
+            3..=5 => text = book::any(random, usize::from(tower[2])),
+            _ => {}
+        }
+        Call {
+            tower,
+            text,
+            room,
+            areas: Areas::any(random, 50),
+        }
+    }
+
+    fn kinds(call: &Call, answer: &Answer) -> Vec<&'static str> {
+        let mut kinds = Vec::new();
+        if answer.number == 0 {
+            let tower = tower::parse(&call.tower).expect("the tower of a made table");
+            let table = table::decode(&file(answer)).expect("a made table");
+            if tables::withholds(&tower, &table) {
+                kinds.push(WITHHOLDS);
+            }
+            if tables::repeats(&table) {
+                kinds.push(REPEATS);
+            }
+        }
+        kinds
+    }
+
+    fn of_line(_: &str, inputs: &[&str]) -> Option<Call> {
+        let [tower, text, room] = inputs else {
+            return None;
+        };
+        Some(Call {
+            tower: bytes(tower)?,
+            text: bytes(text)?,
+            room: room.parse().ok()?,
+            areas: Areas::least(),
+        })
+    }
+
+    fn fits_line(_: &str, answer: &Answer, stated: &str) -> bool {
+        match stated.strip_prefix("made ") {
+            Some(table) => answer.number == 0 && hexadecimal(&file(answer)) == table,
+            None => answer.to_string() == stated,
+        }
+    }
+}
+
+/// A tower and a book; one in a hundred has about 1,000 pairs on a ring.
+fn to_make(random: &mut Random) -> Ruled {
+    match random.below(100) {
+        0 => {
+            let states = 1 + random.below(200);
+            ruled::ring(random, states, states)
+        }
+        1 | 2 => ruled::slow(random),
+        3..=50 => ruled::any(random),
+        _ => tables::demanding(random),
+    }
+}
+
+const WITHHOLDS: &str = "an enabled action is withheld";
+const REPEATS: &str = "two rows have one state";
