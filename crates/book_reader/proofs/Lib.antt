@@ -1,3 +1,4 @@
 pub mod Kept
 pub mod Judging
 pub mod Ways
+pub mod BookHeld

@@ -34,7 +34,6 @@ use Rattle.item_walk.proofs.Laws.{walk-answers}
 use Rattle.base.specs.Bytes.{long-enough, cleared}
 use Rattle.base.specs.declared.BookAnswer.{BookAnswer}
 use Rattle.base.specs.declared.BookAnswer.the-variants as Reads
-use Rattle.logic.specs.Tower.{most-marks}
 use Rattle.logic.specs.Book.{Book}
 use Rattle.logic.specs.Book as Rules
 use Rattle.reading.specs.TowerReading.{read-tower}
@@ -45,10 +44,9 @@ use Rattle.outcome.specs.Check.{checked-file, check-outcome}
 use Rattle.tower_reader.specs.TowerRead.{tower-read}
 use Rattle.tower_reader.specs.declared.TowerRead.{TowerRead}
 use Rattle.tower_reader.specs.declared.TowerRead.the-variants as Fits
-use Rattle.tower_reader.proofs.Laws.{fit-bounds, fit-of, fit-gives, refused-of}
-use Rattle.progression.proofs.Callers.{held-read, is-held}
+use Rattle.tower_reader.proofs.Laws.{marks-few, fit-of, fit-gives, refused-of}
 use Rattle.book_reader.specs.Lines.{Answers}
-use Rattle.reading.proofs.BookLines.{book-few}
+use Rattle.book_reader.proofs.BookHeld.{BookHeld, book-held}
 use Rattle.table_reader.specs.Layout.{laid-out-for}
 use Rattle.table_reader.proofs.Laws.{laid-for-parts, not-laid-for-read}
 use Rattle.checker.specs.Checking.{checked-table, checked-book, BookRead, TableChecked, lengths-right, Room, Checks}
@@ -179,57 +177,28 @@ book-refused tower text table nodes marks a why r at-marks answers e f = go (rea
     go (refuse q) p = let same : why ≡ q = cc (told, ap book-answer p) in f ∙ ap turned-down same
     go (give book) p = cc (told, ap book-answer p)
 
--- A tower has at most 16 marks.
-pub marks-few : (tower : List ℕ) (marks : ℕ) → FitTower tower → marks ≡ tower-of tower .marks → marks ≤ 16
-marks-few tower marks fit e = omega (arith, fit-bounds fit .marks-most)
-
 -- Where the book is read, the table decides.
 book-table : (tower : Tower) (text table : List ℕ) (book : Book) → read-book (tower .marks) text ≡ give book
     → checked-book tower text table ≡ checked-table tower book table
 unfolding checked-book _then_
 book-table tower text table book e = rw e
 
--- A book that was read has at most 60 nodes, and lies in the area.
+-- Where a book is read into the area.
 module _ (tower text nodes : List ℕ) (marks : ℕ) (a : BookAnswer) (lines count : ℕ) (fit : FitTower tower)
     (at-marks : marks ≡ tower-of tower .marks) (answers : Answers a marks text nodes) (is : a ≡ Reads.Read lines count) where
-  read-one : (book : Book) × (read-book marks text ≡ give book) × (lines ≡ length book) × (count ≡ length (Rules.nodes book))
-  unfolding book-answer
-  read-one = go (read-book marks text) refl (sym is ∙ answers .answer)
-    where
-      go : (o : Answer Book) → read-book marks text ≡ o → Reads.Read lines count ≡ book-answer o
-          → (book : Book) × (read-book marks text ≡ give book) × (lines ≡ length book) × (count ≡ length (Rules.nodes book))
-      go (refuse q) p e = absurd (let z : _≡_ {A = ℕ} 0 1 = cc in omega arith)
-      go (give book) p e = (book, p, (cc), (cc))
+  here : BookHeld marks text nodes lines count
+  here = book-held marks text nodes a lines count (marks-few tower marks fit at-marks) answers is
 
-  marks-low : marks ≤ most-marks
-  unfolding most-marks
-  marks-low = marks-few tower marks fit at-marks
-
-  -- The book lies in the area.
   pub book-known : BookRead tower nodes lines count
-  book-known = known (read-one .0) (read-one .1) (read-one .2) (read-one .3)
-    where
-      known : (book : Book) → read-book marks text ≡ give book → lines ≡ length book → count ≡ length (Rules.nodes book)
-          → BookRead tower nodes lines count
-      known book e f g =
-          record {
-            fit = fit;
-            held = rw (f, g) (is-held nodes (length book) (length (Rules.nodes book)) book (held-read marks text nodes book marks-low e (answers .area book e)));
-            few = omega (arith, book-few marks text book e);
-          }
+  book-known = record { fit = fit; held = here .held; few = here .few }
 
   -- The table decides.
   pub book-good : (table : List ℕ) (r : Verdict) → TableChecked r tower table nodes lines count
       → r ≡ verdict (checked-book (tower-of tower) text table)
-  book-good table r checked = decides (read-one .0) (read-one .1) (read-one .2) (read-one .3)
-    where
-      decides : (book : Book) → read-book marks text ≡ give book → lines ≡ length book → count ≡ length (Rules.nodes book)
-          → r ≡ verdict (checked-book (tower-of tower) text table)
-      decides book e f g =
-          let held = held-read marks text nodes book marks-low e (answers .area book e) in
-          let here : IsHeld nodes lines count = record { book = book; held = rw (f, g) held } in
-          let read : read-book (tower-of tower .marks) text ≡ give book = ap (λ z. read-book z text) (sym at-marks) ∙ e in
-          checked .says here ∙ ap verdict (sym (book-table (tower-of tower) text table book read))
+  book-good table r checked =
+      let book = here .held .book in
+      let read : read-book (tower-of tower .marks) text ≡ give book = ap (λ z. read-book z text) (sym at-marks) ∙ here .read in
+      checked .says (here .held) ∙ ap verdict (sym (book-table (tower-of tower) text table book read))
 
 -- ---- check_files
 

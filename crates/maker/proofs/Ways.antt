@@ -18,24 +18,22 @@ use Rattle.base.specs.declared.BookAnswer.the-variants as Reads
 use Rattle.base.specs.declared.MakeAnswer.{MakeAnswer}
 use Rattle.base.specs.declared.MakeAnswer.the-variants as Make
 use Rattle.base.proofs.Lists.{and-left, and-right}
-use Rattle.logic.specs.Tower.{Tower, FitTower, tower-of, most-marks}
+use Rattle.logic.specs.Tower.{Tower, FitTower, tower-of}
 use Rattle.logic.specs.Book.{Book}
 use Rattle.logic.specs.Book as Rules
 use Rattle.logic.specs.TableFile.{table-file}
 use Rattle.reading.specs.TowerReading.{read-tower}
 use Rattle.reading.specs.BookReading.{read-book}
 use Rattle.pending.specs.Pairs.{pairs, over-pairs}
-use Rattle.outcome.specs.Areas.{make-areas, book-area, pairs-area, index-area, steps-area, removal-area, rows-area}
+use Rattle.outcome.specs.Areas.{make-areas, book-area, pairs-area, index-area, steps-area, flags-area, classes-area}
 use Rattle.outcome.specs.ReadBook.{book-answer}
 use Rattle.outcome.specs.Make.{table-for, made-file, fitting, written, make-outcome}
 use Rattle.tower_reader.specs.TowerRead.{tower-read}
 use Rattle.tower_reader.specs.declared.TowerRead.{TowerRead}
 use Rattle.tower_reader.specs.declared.TowerRead.the-variants as Fits
-use Rattle.tower_reader.proofs.Laws.{fit-bounds, fit-of, fit-gives, refused-of}
+use Rattle.tower_reader.proofs.Laws.{fit-bounds, marks-few, fit-of, fit-gives, refused-of}
 use Rattle.book_reader.specs.Lines.{Answers}
-use Rattle.reading.proofs.BookLines.{book-few}
-use Rattle.progression.specs.NodeBytes.{IsHeld}
-use Rattle.progression.proofs.Callers.{held-read, is-held}
+use Rattle.book_reader.proofs.BookHeld.{BookHeld, book-held}
 use Rattle.pair_graph.specs.Graph.{Classes}
 use Rattle.pair_graph.specs.Steps.{graph-of, kept-in, class-in, cell, action-room}
 use Rattle.pair_graph.specs.GraphTable.{graph-table}
@@ -262,58 +260,29 @@ book-refused tower text nodes out marks a why at-marks answers e = refused-ends 
     refused : made-book tower text ≡ refuse why
     refused = unfold made-book in (go (read-book (tower .marks) text) told)
 
--- A tower has at most 16 marks.
-pub marks-few : (tower : List ℕ) (marks : ℕ) → FitTower tower → marks ≡ tower-of tower .marks → marks ≤ 16
-marks-few tower marks fit e = omega (arith, fit-bounds fit .marks-most)
-
 -- Where the book is read, the table decides.
 book-table : (tower : Tower) (text : List ℕ) (book : Book) → read-book (tower .marks) text ≡ give book
     → made-book tower text ≡ made-table-file tower book
 unfolding made-book _then_
 book-table tower text book e = rw e
 
--- A book that was read has at most 60 nodes, and lies in the area.
+-- Where a book is read into the area.
 module _ (tower text nodes : List ℕ) (marks : ℕ) (a : BookAnswer) (lines count : ℕ) (fit : FitTower tower)
     (at-marks : marks ≡ tower-of tower .marks) (answers : Answers a marks text nodes) (is : a ≡ Reads.Read lines count) where
-  read-one : (book : Book) × (read-book marks text ≡ give book) × (lines ≡ length book) × (count ≡ length (Rules.nodes book))
-  unfolding book-answer
-  read-one = go (read-book marks text) refl (sym is ∙ answers .answer)
-    where
-      go : (o : Answer Book) → read-book marks text ≡ o → Reads.Read lines count ≡ book-answer o
-          → (book : Book) × (read-book marks text ≡ give book) × (lines ≡ length book) × (count ≡ length (Rules.nodes book))
-      go (refuse q) p e = absurd (let z : _≡_ {A = ℕ} 0 1 = cc in omega arith)
-      go (give book) p e = (book, p, (cc), (cc))
+  here : BookHeld marks text nodes lines count
+  here = book-held marks text nodes a lines count (marks-few tower marks fit at-marks) answers is
 
-  marks-low : marks ≤ most-marks
-  unfolding most-marks
-  marks-low = marks-few tower marks fit at-marks
-
-  -- The book lies in the area.
   pub book-known : Explorable tower nodes lines count
-  book-known = known (read-one .0) (read-one .1) (read-one .2) (read-one .3)
-    where
-      known : (book : Book) → read-book marks text ≡ give book → lines ≡ length book → count ≡ length (Rules.nodes book)
-          → Explorable tower nodes lines count
-      known book e f g =
-          record {
-            fit = fit;
-            held = rw (f, g) (is-held nodes (length book) (length (Rules.nodes book)) book (held-read marks text nodes book marks-low e (answers .area book e)));
-            few = omega (arith, book-few marks text book e);
-          }
+  book-known = record { fit = fit; held = here .held; few = here .few }
 
   -- The table decides.
   pub book-good : (out after : List ℕ) (r : MakeAnswer) → TableMade r tower nodes lines count out after
       → Ends (made-book (tower-of tower) text) out r after
-  book-good out after r made = decides (read-one .0) (read-one .1) (read-one .2) (read-one .3)
-    where
-      decides : (book : Book) → read-book marks text ≡ give book → lines ≡ length book → count ≡ length (Rules.nodes book)
-          → Ends (made-book (tower-of tower) text) out r after
-      decides book e f g =
-          let held = held-read marks text nodes book marks-low e (answers .area book e) in
-          let here : IsHeld nodes lines count = record { book = book; held = rw (f, g) held } in
-          let read : read-book (tower-of tower .marks) text ≡ give book = ap (λ z. read-book z text) (sym at-marks) ∙ e in
-          ends-along (made-table-file (tower-of tower) book) (made-book (tower-of tower) text) out r after
-          (book-table (tower-of tower) text book read) (made .says here)
+  book-good out after r made =
+      let book = here .held .book in
+      let read : read-book (tower-of tower .marks) text ≡ give book = ap (λ z. read-book z text) (sym at-marks) ∙ here .read in
+      ends-along (made-table-file (tower-of tower) book) (made-book (tower-of tower) text) out r after
+      (book-table (tower-of tower) text book read) (made .says (here .held))
 
 -- ---- make_files
 
@@ -357,13 +326,13 @@ module _ (n p i s f c : ℕ) where
         short-steps l = rw (le-leb 512 n ln, le-leb 62062 p lp, le-leb 8192 i li, lt-leb 32000 s l)
 
         module _ (ls : 32000 ≤ s) where
-          pub short-flags : f < 40000 → false ≡ lengths-right n p i s f c
+          pub short-flags : f < 1000 → false ≡ lengths-right n p i s f c
           unfolding lengths-right
-          short-flags l = rw (le-leb 512 n ln, le-leb 62062 p lp, le-leb 8192 i li, le-leb 32000 s ls, lt-leb 40000 f l)
+          short-flags l = rw (le-leb 512 n ln, le-leb 62062 p lp, le-leb 8192 i li, le-leb 32000 s ls, lt-leb 1000 f l)
 
-          pub classes-decide : 40000 ≤ f → leb 32000 c ≡ lengths-right n p i s f c
+          pub classes-decide : 1000 ≤ f → leb 8192 c ≡ lengths-right n p i s f c
           unfolding lengths-right
-          classes-decide l = rw (le-leb 512 n ln, le-leb 62062 p lp, le-leb 8192 i li, le-leb 32000 s ls, le-leb 40000 f l)
+          classes-decide l = rw (le-leb 512 n ln, le-leb 62062 p lp, le-leb 8192 i li, le-leb 32000 s ls, le-leb 1000 f l)
 
 -- ---- make
 
@@ -390,7 +359,7 @@ module _ (nodes pairs index steps flags classes : List ℕ) (b : Bool)
   unfolding lengths-right
   room e =
       let all = sym is-b ∙ e in
-      let f = leb 40000 (length flags) && leb 32000 (length classes) in
+      let f = leb 1000 (length flags) && leb 8192 (length classes) in
       let s = leb 32000 (length steps) && f in
       let i = leb 8192 (length index) && s in
       let p = leb 62062 (length pairs) && i in
@@ -403,18 +372,18 @@ module _ (nodes pairs index steps flags classes : List ℕ) (b : Bool)
         pairs-room = leb-true 62062 (length pairs) (and-left (leb 62062 (length pairs)) i from-p);
         index-room = leb-true 8192 (length index) (and-left (leb 8192 (length index)) s from-i);
         steps-room = leb-true 32000 (length steps) (and-left (leb 32000 (length steps)) f from-s);
-        flags-room = leb-true 40000 (length flags) (and-left (leb 40000 (length flags)) (leb 32000 (length classes)) from-f);
-        classes-room = leb-true 32000 (length classes) (and-right (leb 40000 (length flags)) (leb 32000 (length classes)) from-f);
+        flags-room = leb-true 1000 (length flags) (and-left (leb 1000 (length flags)) (leb 8192 (length classes)) from-f);
+        classes-room = leb-true 8192 (length classes) (and-right (leb 1000 (length flags)) (leb 8192 (length classes)) from-f);
       }
 
   abbrev areas : List (List ℕ)
   areas = nodes ∷ pairs ∷ index ∷ steps ∷ flags ∷ classes ∷ []
 
   long : long-enough make-areas areas ≡ b
-  unfolding long-enough make-areas book-area pairs-area index-area steps-area removal-area rows-area lengths-right
+  unfolding long-enough make-areas book-area pairs-area index-area steps-area flags-area classes-area lengths-right
   long =
-      ap (λ z. leb 512 (length nodes) && (leb 62062 (length pairs) && (leb 8192 (length index) && (leb 32000 (length steps) && (leb 40000 (length flags) && z)))))
-      (and-true (leb 32000 (length classes)))
+      ap (λ z. leb 512 (length nodes) && (leb 62062 (length pairs) && (leb 8192 (length index) && (leb 32000 (length steps) && (leb 1000 (length flags) && z)))))
+      (and-true (leb 8192 (length classes)))
       ∙ sym is-b
 
   module _ (tower text out : List ℕ) where

@@ -51,8 +51,8 @@ pub record PairsMet (tower entries steps flags classes : List ℕ) (n : ℕ) : T
   pub most : n ≤ 1000
   pub holds : HoldsGraph (tower-of tower) n steps
   pub entries-room : 62062 ≤ length entries
-  pub flags-room : 40000 ≤ length flags
-  pub classes-room : 32000 ≤ length classes
+  pub flags-room : 1000 ≤ length flags
+  pub classes-room : 8192 ≤ length classes
 
 -- The table of the kept pairs is the file, whatever numbers their classes have.
 pub record KeptWritten (r : MakeAnswer) (tower entries steps flags : List ℕ) (n : ℕ) (out after : List ℕ) : Type 0 where
@@ -76,7 +76,7 @@ pub record TableMade (r : MakeAnswer) (tower nodes : List ℕ) (lines count : �
 -- areas of these lengths are long enough
 unfoldable pub lengths-right : ℕ → ℕ → ℕ → ℕ → ℕ → ℕ → Bool
 lengths-right nodes pairs index steps flags classes =
-    leb 512 nodes && (leb 62062 pairs && (leb 8192 index && (leb 32000 steps && (leb 40000 flags && leb 32000 classes))))
+    leb 512 nodes && (leb 62062 pairs && (leb 8192 index && (leb 32000 steps && (leb 1000 flags && leb 8192 classes))))
 
 -- The areas are long enough.
 pub record Room (nodes pairs index steps flags classes : List ℕ) : Type 0 where
@@ -84,8 +84,8 @@ pub record Room (nodes pairs index steps flags classes : List ℕ) : Type 0 wher
   pub pairs-room : 62062 ≤ length pairs
   pub index-room : 8192 ≤ length index
   pub steps-room : 32000 ≤ length steps
-  pub flags-room : 40000 ≤ length flags
-  pub classes-room : 32000 ≤ length classes
+  pub flags-room : 1000 ≤ length flags
+  pub classes-room : 8192 ≤ length classes
 
 -- Every area is zero over its whole length.
 pub record AllCleared (nodes pairs index steps flags classes nodes-after pairs-after index-after steps-after flags-after classes-after : List ℕ) : Type 0 where

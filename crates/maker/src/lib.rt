@@ -25,9 +25,9 @@ const INDEX_AREA: usize = 8192;
 
 const STEPS_AREA: usize = 32000;
 
-const FLAGS_AREA: usize = 40000;
+const FLAGS_AREA: usize = 1000;
 
-const CLASSES_AREA: usize = 32000;
+const CLASSES_AREA: usize = 8192;
 
 // The flag of a pair that removal keeps.
 const KEPT: u8 = 1;

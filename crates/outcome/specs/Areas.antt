@@ -19,13 +19,13 @@ index-area = 8192
 unfoldable pub steps-area : ℕ
 steps-area = 32000
 
--- who leads to a pair, and what is still to be removed
-unfoldable pub removal-area : ℕ
-removal-area = 40000
+-- whether each pair is kept
+unfoldable pub flags-area : ℕ
+flags-area = 1000
 
--- the rows that pairs make
-unfoldable pub rows-area : ℕ
-rows-area = 32000
+-- the classes of pairs, and the order of rows
+unfoldable pub classes-area : ℕ
+classes-area = 8192
 
 -- what the book reader, the checker and the maker borrow; the follower borrows nothing
 unfoldable pub book-areas : List ℕ
@@ -35,4 +35,4 @@ unfoldable pub check-areas : List ℕ
 check-areas = book-area ∷ pairs-area ∷ index-area ∷ []
 
 unfoldable pub make-areas : List ℕ
-make-areas = book-area ∷ pairs-area ∷ index-area ∷ steps-area ∷ removal-area ∷ rows-area ∷ []
+make-areas = book-area ∷ pairs-area ∷ index-area ∷ steps-area ∷ flags-area ∷ classes-area ∷ []

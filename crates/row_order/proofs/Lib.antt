@@ -1,4 +1,3 @@
-pub mod Areas
 pub mod Rest
 pub mod Orders
 pub mod Ways

@@ -18,7 +18,7 @@ use Rattle.base.proofs.Lists.{IsSame, never-both, false-by, true-by, or-fails-l
 use Rattle.base.proofs.Search.{Apart, apart-few}
 use Rattle.pair_graph.specs.Steps.{class-in}
 use Rattle.row_order.specs.Orders.{classes-part, same-in, order-at, order-of, of-class, mark-in, grown, Numbered}
-use Rattle.row_order.proofs.Areas.{number-in-part}
+use Rattle.lent_bytes.proofs.Numbers.{number-in-part}
 
 -- ---- pairs of one class
 

@@ -23,7 +23,7 @@ use Rattle.pair_graph.specs.Steps.{action-room, cell, move-of, move-at, class-i
 use Rattle.row_order.specs.Orders.{led-to, led-of, followers, Moves, order-at, marks-at, classes-part, same-in, order-of, of-class, mark-in, grown, Numbered, Grows, Classed, Cleared, InOrder}
 use Rattle.row_order.specs.declared.Led.{Led}
 use Rattle.row_order.specs.declared.Led.the-variants.{To, Nowhere}
-use Rattle.row_order.proofs.Areas.{stored, stored-read, stored-beside, take-stored, length-stored}
+use Rattle.lent_bytes.proofs.Numbers.{stored, stored-read, stored-beside, take-stored, length-stored}
 use Rattle.row_order.proofs.Rest.{rest, rest-all, rest-next, rest-none}
 use Rattle.row_order.proofs.Orders.{class-read, apart-snoc, apart-below, length-order, order-read, order-same, rows-few, row-below, none-marked, some-marked, of-same, mark-new, mark-other, grown-none, grown-known, grown-new, grown-present, grown-longer, search-turn, search-done, search-start}
 

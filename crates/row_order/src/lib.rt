@@ -5,9 +5,7 @@ ghost use Prim.Native.Nat.{_+_, _*_, _<_, _≤_};
 ghost use mathlib.Core.Path.{_≡_};
 ghost use mathlib.Core.List.{[], _∷_};
 ghost use lib.ListN.{length};
-ghost use lib.Seq.{sets};
 ghost use Rattle.base.specs.Lists.{present};
-ghost use Rattle.base.specs.Bytes.{number-at, number-bytes};
 ghost use Rattle.row_order.specs.Orders.{led-to, led-of, followers, Moves, order-of, marks-at, Numbered, Grows, Classed, Cleared, InOrder};
 
 // Room for so many actions from each pair, two bytes each.
@@ -30,23 +28,6 @@ pub enum Led {
     Nowhere,
 }
 
-// The two-byte number at p, the low byte first.
-pub fn two_bytes(bytes: &[u8], p: usize) -> usize
-    requires { ⌜ p + 1 < length (now bytes) ⌝ }
-    ensures { λ r. ⌜ r ≡ number-at 2 (now (bytes .entry)) p ⌝ }
-{
-    bytes[p] as usize + 256 * (bytes[p + 1] as usize)
-}
-
-// Writes n as a two-byte number at p, the low byte first.
-pub fn put_two_bytes(bytes: &mut [u8], p: usize, n: usize)
-    requires { ⌜ p + 1 < length (now bytes) ⌝ }
-    ensures { λ _. ⌜ now (bytes .exit) ≡ sets (now (bytes .entry)) p (number-bytes 2 n) ⌝ }
-{
-    bytes[p] = (n % 256) as u8;
-    bytes[p + 1] = (n / 256 % 256) as u8;
-}
-
 // Where action a leads from pair i.
 pub fn allowed(steps: &[u8], flags: &[u8], pairs: usize, actions: usize, i: usize, a: usize) -> Led
     requires { ⌜ Moves (now steps) (now flags) pairs actions ⌝ }
@@ -54,7 +35,7 @@ pub fn allowed(steps: &[u8], flags: &[u8], pairs: usize, actions: usize, i: usiz
     requires { ⌜ a < actions ⌝ }
     ensures { λ r. ⌜ r ≡ led-of (led-to (now (steps .entry)) (now (flags .entry)) i a) ⌝ }
 {
-    let m = two_bytes(steps, 2 * (ACTION_ROOM * i + a));
+    let m = lent_bytes::two_bytes(steps, 2 * (ACTION_ROOM * i + a));
     if m < FIRST_PAIR {
         return Led::Nowhere;
     }
@@ -71,13 +52,13 @@ fn meet(area: &mut [u8], pairs: usize, rows: usize, j: usize) -> usize
     requires { ⌜ j < pairs ⌝ }
     ensures { λ r. ⌜ Grows pairs (now (area .entry)) rows (j ∷ []) (now (area .exit)) r ⌝ }
 {
-    let class = two_bytes(area, 2 * j);
+    let class = lent_bytes::two_bytes(area, 2 * j);
     let mark = ORDER_AT + 2 * pairs + 2 * class;
-    if two_bytes(area, mark) != 0 {
+    if lent_bytes::two_bytes(area, mark) != 0 {
         return rows;
     }
-    put_two_bytes(area, ORDER_AT + 2 * rows, j);
-    put_two_bytes(area, mark, rows + 1);
+    lent_bytes::put_two_bytes(area, ORDER_AT + 2 * rows, j);
+    lent_bytes::put_two_bytes(area, mark, rows + 1);
     rows + 1
 }
 
@@ -158,7 +139,7 @@ fn expand_all(
     let mut rows = first;
     let mut r = 0;
     while r < rows {
-        let i = two_bytes(area, ORDER_AT + 2 * r);
+        let i = lent_bytes::two_bytes(area, ORDER_AT + 2 * r);
         rows = expand(steps, flags, area, pairs, actions, rows, i);
         r += 1;
     }

@@ -37,7 +37,7 @@ fn pair_of(area: &[u8], r: usize) -> usize
     requires { ⌜ 2000 + 2 * r + 1 < length (now area) ⌝ }
     ensures { λ i. ⌜ i ≡ number-at 2 (now (area .entry)) (2000 + 2 * r) ⌝ }
 {
-    row_order::two_bytes(area, ORDER_AT + 2 * r)
+    lent_bytes::two_bytes(area, ORDER_AT + 2 * r)
 }
 
 // The row of pair j's class.
@@ -45,8 +45,8 @@ fn row_of(area: &[u8], pairs: usize, j: usize) -> usize
     requires { ⌜ Marked (now area) pairs j ⌝ }
     ensures { λ r. ⌜ r + 1 ≡ number-at 2 (now (area .entry)) (2000 + 2 * pairs + 2 * number-at 2 (now (area .entry)) (2 * j)) ⌝ }
 {
-    let class = row_order::two_bytes(area, 2 * j);
-    row_order::two_bytes(area, ORDER_AT + 2 * pairs + 2 * class) - 1
+    let class = lent_bytes::two_bytes(area, 2 * j);
+    lent_bytes::two_bytes(area, ORDER_AT + 2 * pairs + 2 * class) - 1
 }
 
 // 1 if action a is allowed from pair i, and else 0.
@@ -104,12 +104,12 @@ fn write_header(out: &mut [u8], rows: usize, steps: usize, states: usize, action
     requires { ⌜ rows ≤ 1000 ⌝ }
     ensures { λ _. ⌜ now (out .exit) ≡ sets (now (out .entry)) 0 (header-bytes rows steps states actions) ⌝ }
 {
-    row_order::put_two_bytes(out, 0, rows);
-    row_order::put_two_bytes(out, 2, steps);
-    row_order::put_two_bytes(out, 4, ROWS_AT);
-    row_order::put_two_bytes(out, 6, ROWS_AT + ROW_SIZE * rows);
-    row_order::put_two_bytes(out, 8, states);
-    row_order::put_two_bytes(out, 10, actions);
+    lent_bytes::put_two_bytes(out, 0, rows);
+    lent_bytes::put_two_bytes(out, 2, steps);
+    lent_bytes::put_two_bytes(out, 4, ROWS_AT);
+    lent_bytes::put_two_bytes(out, 6, ROWS_AT + ROW_SIZE * rows);
+    lent_bytes::put_two_bytes(out, 8, states);
+    lent_bytes::put_two_bytes(out, 10, actions);
 }
 
 // Writes a row at p: state, step count, first step.
@@ -119,7 +119,7 @@ fn write_row(out: &mut [u8], p: usize, state: u8, count: usize, first: usize)
 {
     out[p] = state;
     out[p + 1] = (count % 256) as u8;
-    row_order::put_two_bytes(out, p + 2, first);
+    lent_bytes::put_two_bytes(out, p + 2, first);
 }
 
 // Writes the rows, each with the number of steps before it as its first step.
@@ -161,7 +161,7 @@ fn write_step(out: &mut [u8], p: usize, a: usize, target: usize)
     ensures { λ _. ⌜ now (out .exit) ≡ sets (now (out .entry)) p (number-bytes 1 a ++ number-bytes 2 target) ⌝ }
 {
     out[p] = (a % 256) as u8;
-    row_order::put_two_bytes(out, p + 1, target);
+    lent_bytes::put_two_bytes(out, p + 1, target);
 }
 
 // Writes the step of action a from pair i at p, if it is allowed. Returns where the next step goes.

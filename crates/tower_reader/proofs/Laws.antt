@@ -243,6 +243,10 @@ fit-bounds {bytes} fit =
       listed = tower-listed bytes;
     }
 
+-- A tower has at most 16 marks.
+pub marks-few : (tower : List ℕ) (marks : ℕ) → FitTower tower → marks ≡ tower-of tower .marks → marks ≤ 16
+marks-few tower marks fit e = omega (arith, fit-bounds fit .marks-most)
+
 -- In a file of bytes a step takes at most 255 ticks.
 pub step-most : (bytes : List ℕ) (x a : ℕ) (d : Tick) → ((i : ℕ) → Fits w8 (byte-at bytes i)) → d ≡ tower-of bytes .step-length x a
     → d .0 ≤ 255

@@ -5,7 +5,7 @@ use std::sync::OnceLock;
 
 /// The least lengths of the areas, in the order of docs/WORK-AREAS.md. An entry borrows the first
 /// ones: the book reader 1, the checker 3, the maker 6.
-pub const LEAST: [usize; 6] = [512, 62_062, 8_192, 32_000, 40_000, 32_000];
+pub const LEAST: [usize; 6] = [512, 62_062, 8_192, 32_000, 1_000, 8_192];
 
 /// The most that an area of a case is longer than it has to be.
 const MOST_MORE: usize = 300;

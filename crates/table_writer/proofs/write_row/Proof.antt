@@ -1,6 +1,6 @@
 -- `table_writer::write_row` meets its contract.
 use borrow.Author.Needs.{needs}
-use Rattle.row_order.proofs.Areas.{byte-fits}
+use Rattle.lent_bytes.proofs.Numbers.{byte-fits}
 use Rattle.table_writer.proofs.Ways.{row-written, row-count-there, row-rest-there, row-length}
 use Rattle.table_writer.proofs.write_row.Statement.{statement}
 use Rattle.table_writer.proofs.write_row.Tie as tie

@@ -1,6 +1,6 @@
 -- `table_writer::write_step` meets its contract.
 use borrow.Author.Needs.{needs}
-use Rattle.row_order.proofs.Areas.{byte-fits}
+use Rattle.lent_bytes.proofs.Numbers.{byte-fits}
 use Rattle.table_writer.proofs.Ways.{step-written, step-rest-there, step-length}
 use Rattle.table_writer.proofs.write_step.Statement.{statement}
 use Rattle.table_writer.proofs.write_step.Tie as tie

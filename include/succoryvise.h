@@ -1,0 +1,146 @@
+/* Play tables for bell towers: the four entries for C, C++ or any language that can call C.
+ *
+ * The paper 'Play tables for bell towers' says what a tower file, a rule book, a table and a refusal
+ * are; docs/FORMATS.md has every byte of the files, and docs/LINKING.md how to link. The answers are
+ * proved for every input: any bytes, any lengths, any row and any action.
+ *
+ * What the caller owes, since no function can test it:
+ *   - each pointer is not null and points to at least as many bytes as the length beside it says,
+ *     also where that is 0;
+ *   - 'out' and the work areas overlap neither each other nor an input (inputs may overlap);
+ *   - while a call runs, nobody else touches 'out' and the areas, and nobody writes the inputs;
+ *   - there is enough stack: SUCCORYVISE_STACK bytes where a rule book is read.
+ *
+ * What every call promises:
+ *   - it ends, and its answer does not depend on what the work areas held before;
+ *   - refused with 15 it changes nothing; else the work areas are all zero afterwards, over the
+ *     whole of the length given;
+ *   - a refusal changes no byte of 'out', and bytes behind a table that was made stay;
+ *   - it has no state, allocates nothing and opens no file. Calls may run at the same time, each
+ *     with its own output and areas.
+ */
+#ifndef SUCCORYVISE_H
+#define SUCCORYVISE_H
+
+#include <stddef.h>
+#include <stdint.h>
+
+#ifdef __cplusplus
+extern "C" {
+#endif
+
+/* The numbers of an answer. */
+enum succoryvise_number {
+    SUCCORYVISE_DONE = 0,         /* no refusal: the answer has its values */
+    SUCCORYVISE_TOWER_SIZE = 1,   /* tower: an offset of the header or the length is wrong */
+    SUCCORYVISE_RANGE = 2,        /* tower: a count or the start is out of range */
+    SUCCORYVISE_ACTION = 3,       /* tower: an action of length 0, or of a kind above 1 */
+    SUCCORYVISE_TARGET = 4,       /* tower: a target that is neither a state nor 255 */
+    SUCCORYVISE_MASK = 5,         /* tower: a mask with a bit at or above P */
+    SUCCORYVISE_GRAMMAR = 6,      /* book: a line is not of the grammar */
+    SUCCORYVISE_NUMBER = 7,       /* book: a number above 254 */
+    SUCCORYVISE_MARK = 8,         /* book: a mark at or above P */
+    SUCCORYVISE_LIMIT = 9,        /* book: over 4,096 bytes, 60 nodes or 16 open brackets */
+    SUCCORYVISE_TIMED = 10,       /* book: a timed formula where none may be */
+    SUCCORYVISE_PAIRS = 11,       /* over 1,000 pairs, or rows with what is pending */
+    SUCCORYVISE_NO_TABLE = 12,    /* there is no good table, of any length */
+    SUCCORYVISE_LAYOUT = 13,      /* table: not laid out so, or its S, A are not the tower's */
+    SUCCORYVISE_NOT_GOOD = 14,    /* table: not good; the letter says why */
+    SUCCORYVISE_AREA = 15,        /* a work area is too short */
+    SUCCORYVISE_OUTPUT = 16,      /* the output is too short */
+    SUCCORYVISE_OUTSIDE = 17,     /* the row or the action is outside the table */
+    SUCCORYVISE_NOT_ALLOWED = 18  /* the action is not allowed in this row */
+};
+
+/* The letters of a 14. */
+enum succoryvise_letter {
+    SUCCORYVISE_START = 'a',    /* row 0 has not the tower's start state */
+    SUCCORYVISE_WITHHELD = 'b', /* an enabled action of the player's is not allowed */
+    SUCCORYVISE_STEP = 'c',     /* an action that is not enabled, or leads to a row of another state */
+    SUCCORYVISE_STOPPED = 'd',  /* no action is allowed */
+    SUCCORYVISE_BROKEN = 'e'    /* an allowed run is broken */
+};
+
+/* The least lengths of the work areas, in bytes. They may be longer, and need neither alignment nor
+ * contents. One set of areas can serve all calls, one after the other. */
+#define SUCCORYVISE_NODES_LENGTH 512
+#define SUCCORYVISE_PAIRS_LENGTH 62062
+#define SUCCORYVISE_INDEX_LENGTH 8192
+#define SUCCORYVISE_STEPS_LENGTH 32000
+#define SUCCORYVISE_FLAGS_LENGTH 1000
+#define SUCCORYVISE_CLASSES_LENGTH 8192
+
+/* The largest files, in bytes. */
+#define SUCCORYVISE_TOWER_MOST 3640
+#define SUCCORYVISE_BOOK_MOST 4096
+#define SUCCORYVISE_TABLE_MOST 52012
+
+/* The sizes of the paper: of a tower, a book and a table. */
+#define SUCCORYVISE_STATES_MOST 200
+#define SUCCORYVISE_ACTIONS_MOST 16
+#define SUCCORYVISE_MARKS_MOST 16
+#define SUCCORYVISE_TICKS_MOST 254 /* a number of a book */
+#define SUCCORYVISE_NODES_MOST 60
+#define SUCCORYVISE_BRACKETS_MOST 16
+#define SUCCORYVISE_PAIRS_MOST 1000
+#define SUCCORYVISE_ROWS_MOST 1000
+
+/* A target of a tower that is no state: the action is not enabled. */
+#define SUCCORYVISE_NOT_ENABLED 255
+
+/* Stack for a call that reads a rule book, in bytes: the deepest text of 4,096 bytes takes up to
+ * 1.5 MiB (measured on x86-64), the books that are accepted a few KiB. succoryvise_follow needs less
+ * than 1 KiB. */
+#define SUCCORYVISE_STACK 2097152
+
+/* What every function answers. */
+struct succoryvise_answer {
+    uint32_t number; /* 0: done; else the number of the refusal, 1 to 18 */
+    uint8_t letter;  /* of a 14: 'a' to 'e'; else 0 */
+    size_t place;    /* of 6 to 10: the line, from 0; of a 14 b to d: the row; else 0 */
+    size_t first;    /* the values, where number is 0; else 0 */
+    size_t second;
+};
+
+/* Reads a rule book under so many marks (P of the tower): 15, 2 (over 16 marks), or 6 to 10.
+ * Done: first is the number of lines, second that of nodes. */
+struct succoryvise_answer succoryvise_read_book(
+    size_t marks,
+    const uint8_t *text, size_t text_length,
+    uint8_t *nodes, size_t nodes_length);
+
+/* Makes the table for a tower and a rule book, the smallest that allows every run that some good
+ * table allows, and writes it to the front of 'out': 15, 1 to 12, or 16.
+ * Done: first is the length of the table in bytes, at most SUCCORYVISE_TABLE_MOST. */
+struct succoryvise_answer succoryvise_make(
+    const uint8_t *tower, size_t tower_length,
+    const uint8_t *text, size_t text_length,
+    uint8_t *out, size_t out_length,
+    uint8_t *nodes, size_t nodes_length,
+    uint8_t *pairs, size_t pairs_length,
+    uint8_t *index, size_t index_length,
+    uint8_t *steps, size_t steps_length,
+    uint8_t *flags, size_t flags_length,
+    uint8_t *classes, size_t classes_length);
+
+/* Checks a table, whoever made it, against a tower and a rule book: 15, 1 to 11, 13 or 14.
+ * Done: the table is good. 11 says that it is too large to be judged, and not that it is bad. */
+struct succoryvise_answer succoryvise_check(
+    const uint8_t *tower, size_t tower_length,
+    const uint8_t *text, size_t text_length,
+    const uint8_t *table, size_t table_length,
+    uint8_t *nodes, size_t nodes_length,
+    uint8_t *pairs, size_t pairs_length,
+    uint8_t *index, size_t index_length);
+
+/* Follows a table by one action: 13, 17, or 18 (the action is not allowed in this row).
+ * Done: first is the next row. A performance begins in row 0. */
+struct succoryvise_answer succoryvise_follow(
+    const uint8_t *table, size_t table_length,
+    size_t row, size_t action);
+
+#ifdef __cplusplus
+}
+#endif
+
+#endif

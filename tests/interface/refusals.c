@@ -1,0 +1,412 @@
+/* Every refusal of the paper through the interface for C, by the examples of its table; and after every
+ * call the output, the areas and the inputs are as they have to be. Each block of memory has just the
+ * length that is told, so that a tool such as valgrind sees a byte read or written beside it. */
+#include "succoryvise.h"
+
+#include <stdio.h>
+#include <stdlib.h>
+#include <string.h>
+
+#define AREAS 6
+static const size_t least[AREAS] = {
+    SUCCORYVISE_NODES_LENGTH, SUCCORYVISE_PAIRS_LENGTH, SUCCORYVISE_INDEX_LENGTH,
+    SUCCORYVISE_STEPS_LENGTH, SUCCORYVISE_FLAGS_LENGTH, SUCCORYVISE_CLASSES_LENGTH,
+};
+
+/* The lengths of the areas that are lent, and whether something is written to them before; if not, a
+ * tool sees an answer that depends on what they held. */
+static size_t lent[AREAS];
+static int filled;
+
+#define BEFORE 0xA5
+
+/* A piece of memory with its length. */
+struct bytes {
+    uint8_t *at;
+    size_t length;
+};
+
+static int right, wrong;
+static int came[19];
+
+static void count(int holds, const char *what, const char *fact)
+{
+    if (holds) {
+        right++;
+    } else {
+        wrong++;
+        printf("wrong: %s: %s\n", what, fact);
+    }
+}
+
+/* A block of just this length, with nothing in it. */
+static struct bytes block(size_t length)
+{
+    struct bytes bytes;
+
+    /* malloc(0) may answer null. */
+    bytes.at = (uint8_t *)malloc(length == 0 ? 1 : length);
+    bytes.length = length;
+    if (bytes.at == NULL)
+        abort();
+    return bytes;
+}
+
+static struct bytes copy_of(const void *from, size_t length)
+{
+    struct bytes bytes = block(length);
+
+    memcpy(bytes.at, from, length);
+    return bytes;
+}
+
+/* A block full of one byte. */
+static struct bytes full_of(uint8_t byte, size_t length)
+{
+    struct bytes bytes = block(length);
+
+    memset(bytes.at, byte, length);
+    return bytes;
+}
+
+/* Whether the bytes from 'from' on are all this one. */
+static int all(struct bytes bytes, size_t from, uint8_t byte)
+{
+    size_t i;
+
+    for (i = from; i < bytes.length; i++)
+        if (bytes.at[i] != byte)
+            return 0;
+    return 1;
+}
+
+static int same(struct bytes bytes, struct bytes other)
+{
+    return bytes.length == other.length && memcmp(bytes.at, other.at, bytes.length) == 0;
+}
+
+/* The areas of a call. Where one is too short they are filled in any case, to see that they stay. */
+static void borrow(struct bytes *areas, int n)
+{
+    int i, fill = filled;
+
+    for (i = 0; i < n; i++)
+        if (lent[i] < least[i])
+            fill = 1;
+    for (i = 0; i < n; i++)
+        areas[i] = fill ? full_of(BEFORE, lent[i]) : block(lent[i]);
+}
+
+/* Ends a call: the areas are unchanged after a 15, and else zero. */
+static void give_back(struct bytes *areas, int n, struct succoryvise_answer answer, const char *what)
+{
+    uint8_t byte = answer.number == SUCCORYVISE_AREA ? BEFORE : 0;
+    int i;
+
+    for (i = 0; i < n; i++) {
+        count(all(areas[i], 0, byte), what, "an area is not as it has to be");
+        free(areas[i].at);
+    }
+}
+
+/* Compares number, place and letter; and a refusal has no values. */
+static void expect(const char *what, struct succoryvise_answer answer, uint32_t number, size_t place,
+                   int letter)
+{
+    int holds = answer.number == number && answer.place == place && answer.letter == letter;
+
+    if (number != SUCCORYVISE_DONE)
+        holds = holds && answer.first == 0 && answer.second == 0;
+    count(holds, what, "the answer");
+    if (!holds)
+        printf("    %u %zu %u, and not %u %zu %d\n", (unsigned)answer.number, answer.place,
+               (unsigned)answer.letter, (unsigned)number, place, letter);
+    if (answer.number <= 18)
+        came[answer.number] = 1;
+}
+
+static struct succoryvise_answer read_book(const char *what, size_t marks, struct bytes text)
+{
+    struct bytes before = copy_of(text.at, text.length), areas[1];
+    struct succoryvise_answer answer;
+
+    borrow(areas, 1);
+    answer = succoryvise_read_book(marks, text.at, text.length, areas[0].at, areas[0].length);
+    count(same(text, before), what, "the book has changed");
+    give_back(areas, 1, answer, what);
+    free(before.at);
+    return answer;
+}
+
+/* Makes a table in an output of this length, and keeps a copy of the output in 'made' if that is not
+ * null. */
+static struct succoryvise_answer make(const char *what, struct bytes tower, struct bytes text,
+                                      size_t room, struct bytes *made)
+{
+    struct bytes before = copy_of(tower.at, tower.length), book = copy_of(text.at, text.length);
+    struct bytes out = full_of(BEFORE, room), areas[AREAS];
+    struct succoryvise_answer answer;
+
+    borrow(areas, AREAS);
+    answer = succoryvise_make(tower.at, tower.length, text.at, text.length, out.at, out.length,
+                              areas[0].at, areas[0].length, areas[1].at, areas[1].length,
+                              areas[2].at, areas[2].length, areas[3].at, areas[3].length,
+                              areas[4].at, areas[4].length, areas[5].at, areas[5].length);
+    count(same(tower, before) && same(text, book), what, "an input has changed");
+    count(answer.first <= room && all(out, answer.first, BEFORE), what,
+          "the output has changed behind the table");
+    give_back(areas, AREAS, answer, what);
+    free(before.at);
+    free(book.at);
+    if (made != NULL)
+        *made = copy_of(out.at, answer.first);
+    free(out.at);
+    return answer;
+}
+
+static struct succoryvise_answer check(const char *what, struct bytes tower, struct bytes text,
+                                       struct bytes table)
+{
+    struct bytes before = copy_of(tower.at, tower.length), book = copy_of(text.at, text.length);
+    struct bytes file = copy_of(table.at, table.length), areas[3];
+    struct succoryvise_answer answer;
+
+    borrow(areas, 3);
+    answer = succoryvise_check(tower.at, tower.length, text.at, text.length, table.at, table.length,
+                               areas[0].at, areas[0].length, areas[1].at, areas[1].length,
+                               areas[2].at, areas[2].length);
+    count(same(tower, before) && same(text, book) && same(table, file), what, "an input has changed");
+    give_back(areas, 3, answer, what);
+    free(before.at);
+    free(book.at);
+    free(file.at);
+    return answer;
+}
+
+static struct succoryvise_answer follow(const char *what, struct bytes table, size_t row, size_t action)
+{
+    struct bytes before = copy_of(table.at, table.length);
+    struct succoryvise_answer answer;
+
+    answer = succoryvise_follow(table.at, table.length, row, action);
+    count(same(table, before), what, "the table has changed");
+    free(before.at);
+    return answer;
+}
+
+static const uint8_t small_tower[34] = {
+    0x03, 0x04, 0x03, 0x00, 0x08, 0x00, 0x10, 0x00, 0x01, 0x01, 0x01, 0x00,
+    0x01, 0x01, 0x01, 0x00, 0x01, 0x00, 0x01, 0xFF, 0x02, 0xFF, 0x02, 0x00,
+    0xFF, 0x00, 0xFF, 0xFF, 0x04, 0x00, 0xFF, 0xFF, 0xFF, 0x00,
+};
+
+static const char book_1[] = "always !p0 | E 3 p1\nalways !p0 | E 3 p2\n";
+
+static const uint8_t table_1[50] = {
+    5, 0, 6, 0, 12, 0, 32, 0, 3, 0, 4, 0,
+    0, 2, 0, 0, 1, 1, 2, 0, 2, 1, 3, 0, 0, 1, 4, 0, 0, 1, 5, 0,
+    0, 1, 0, 2, 2, 0, 1, 3, 0, 3, 4, 0, 2, 2, 0, 0, 1, 0,
+};
+
+static struct bytes text_of(const char *text)
+{
+    return copy_of(text, strlen(text));
+}
+
+/* A file with one byte changed. */
+static struct bytes with(const uint8_t *file, size_t length, size_t at, uint8_t byte)
+{
+    struct bytes bytes = copy_of(file, length);
+
+    bytes.at[at] = byte;
+    return bytes;
+}
+
+/* A tower that is refused, by maker and checker. */
+static void bad_tower(const char *what, struct bytes tower, uint32_t number)
+{
+    struct bytes text = text_of(book_1), table = copy_of(table_1, sizeof table_1);
+
+    expect(what, make(what, tower, text, SUCCORYVISE_TABLE_MOST, NULL), number, 0, 0);
+    expect(what, check(what, tower, text, table), number, 0, 0);
+    free(tower.at);
+    free(text.at);
+    free(table.at);
+}
+
+/* A book that is refused, by all three that read one. */
+static void bad_book(const char *what, struct bytes text, uint32_t number, size_t line)
+{
+    struct bytes tower = copy_of(small_tower, sizeof small_tower);
+    struct bytes table = copy_of(table_1, sizeof table_1);
+
+    expect(what, read_book(what, 3, text), number, line, 0);
+    expect(what, make(what, tower, text, SUCCORYVISE_TABLE_MOST, NULL), number, line, 0);
+    expect(what, check(what, tower, text, table), number, line, 0);
+    free(tower.at);
+    free(text.at);
+    free(table.at);
+}
+
+/* A table that is not good for the small tower. */
+static void bad_table(const char *what, struct bytes table, const char *book, size_t row, int letter)
+{
+    struct bytes tower = copy_of(small_tower, sizeof small_tower), text = text_of(book);
+
+    expect(what, check(what, tower, text, table), SUCCORYVISE_NOT_GOOD, row, letter);
+    free(tower.at);
+    free(text.at);
+    free(table.at);
+}
+
+static void towers(void)
+{
+    bad_tower("7 bytes", copy_of(small_tower, 7), SUCCORYVISE_TOWER_SIZE);
+    bad_tower("no bytes", copy_of(small_tower, 0), SUCCORYVISE_TOWER_SIZE);
+    bad_tower("S = 0", with(small_tower, 34, 0, 0), SUCCORYVISE_RANGE);
+    bad_tower("action 00 01", with(small_tower, 34, 8, 0), SUCCORYVISE_ACTION);
+    bad_tower("target 03 with S = 3", with(small_tower, 34, 18, 3), SUCCORYVISE_TARGET);
+    bad_tower("mask 08 00 with P = 3", with(small_tower, 34, 16, 8), SUCCORYVISE_MASK);
+}
+
+static void books(void)
+{
+    struct bytes text = text_of(book_1), many;
+    struct succoryvise_answer answer;
+    size_t i;
+
+    answer = read_book("book 1", 3, text);
+    expect("book 1", answer, SUCCORYVISE_DONE, 0, 0);
+    count(answer.first == 2 && answer.second == 10, "book 1", "2 lines, 10 nodes");
+    expect("17 marks", read_book("17 marks", 17, text), SUCCORYVISE_RANGE, 0, 0);
+    free(text.at);
+
+    bad_book("always &", text_of("always &\n"), SUCCORYVISE_GRAMMAR, 0);
+    bad_book("start A 255 T", text_of("start A 255 T\n"), SUCCORYVISE_NUMBER, 0);
+    bad_book("start p3", text_of("start p3\n"), SUCCORYVISE_MARK, 0);
+    many = block(61 * 8);
+    for (i = 0; i < 61; i++)
+        memcpy(many.at + 8 * i, "start T\n", 8);
+    bad_book("61 lines start T", many, SUCCORYVISE_LIMIT, 60);
+    bad_book("4,097 bytes", full_of(' ', SUCCORYVISE_BOOK_MOST + 1), SUCCORYVISE_LIMIT, 0);
+    many = full_of('(', SUCCORYVISE_BOOK_MOST);
+    memcpy(many.at, "start ", 6);
+    many.at[many.length - 1] = '\n';
+    bad_book("brackets never closed", many, SUCCORYVISE_GRAMMAR, 0);
+    bad_book("start E 1 p0 | E 1 p1", text_of("start E 1 p0 | E 1 p1\n"), SUCCORYVISE_TIMED, 0);
+}
+
+/* The ring of 200 states: 1,000 pairs are enough, and one more is 11. */
+static void pairs(void)
+{
+    struct bytes tower = full_of(0, 8 + 2 + 200 * 3), most = text_of("start A 200 A 200 A 200 A 199 T\n");
+    struct bytes over = text_of("start A 200 A 200 A 200 A 200 T\n"), table;
+    size_t i;
+
+    memcpy(tower.at, "\xC8\x01\x00\x00\x08\x00\x0A\x00\x01\x01", 10);
+    for (i = 0; i < 200; i++)
+        tower.at[10 + 3 * i + 2] = (uint8_t)((i + 1) % 200);
+    expect("1,000 pairs", make("1,000 pairs", tower, most, SUCCORYVISE_TABLE_MOST, &table),
+           SUCCORYVISE_DONE, 0, 0);
+    count(table.length == 12 + 200 * 7, "1,000 pairs", "200 rows of one step");
+    expect("1,000 pairs", check("1,000 pairs", tower, most, table), SUCCORYVISE_DONE, 0, 0);
+    expect("1,001 pairs", make("1,001 pairs", tower, over, SUCCORYVISE_TABLE_MOST, NULL),
+           SUCCORYVISE_PAIRS, 0, 0);
+    expect("1,001 pairs", check("1,001 pairs", tower, over, table), SUCCORYVISE_PAIRS, 0, 0);
+    free(tower.at);
+    free(most.at);
+    free(over.at);
+    free(table.at);
+}
+
+static void tables(void)
+{
+    static const uint8_t stopped[16] = { 1, 0, 0, 0, 12, 0, 16, 0, 3, 0, 4, 0, 0, 0, 0, 0 };
+    struct bytes tower = copy_of(small_tower, sizeof small_tower);
+    struct bytes text = text_of(book_1), none = text_of(""), never = text_of("start F\n");
+    struct bytes table = copy_of(table_1, sizeof table_1), made, outside;
+    size_t room;
+
+    expect("start F", make("start F", tower, never, SUCCORYVISE_TABLE_MOST, NULL),
+           SUCCORYVISE_NO_TABLE, 0, 0);
+    for (room = 48; room < 52; room++) {
+        struct succoryvise_answer answer = make("book 1", tower, text, room, &made);
+
+        expect("book 1", answer, room < 50 ? SUCCORYVISE_OUTPUT : SUCCORYVISE_DONE, 0, 0);
+        count(room < 50 || same(made, table), "book 1", "its table");
+        free(made.at);
+    }
+    expect("table 1", check("table 1", tower, text, table), SUCCORYVISE_DONE, 0, 0);
+
+    outside = with(table_1, 50, 33, 5);
+    expect("target row = rows", check("target row = rows", tower, text, outside),
+           SUCCORYVISE_LAYOUT, 0, 0);
+    expect("target row = rows", follow("target row = rows", outside, 0, 0), SUCCORYVISE_LAYOUT, 0, 0);
+    free(outside.at);
+    bad_table("row 0 of state 1", with(table_1, 50, 12, 1), "", 0, SUCCORYVISE_START);
+    bad_table("action 0 for 1", with(table_1, 50, 38, 0), "", 1, SUCCORYVISE_WITHHELD);
+    bad_table("target row 1 for 4", with(table_1, 50, 42, 1), "", 2, SUCCORYVISE_STEP);
+    bad_table("no step", copy_of(stopped, sizeof stopped), "", 0, SUCCORYVISE_STOPPED);
+    expect("book 5", make("book 5", tower, none, 36, &made), SUCCORYVISE_DONE, 0, 0);
+    bad_table("table 5 under book 1", made, book_1, 0, SUCCORYVISE_BROKEN);
+
+    expect("row 5 of 5", follow("row 5 of 5", table, 5, 0), SUCCORYVISE_OUTSIDE, 0, 0);
+    expect("action 4 of 4", follow("action 4 of 4", table, 0, 4), SUCCORYVISE_OUTSIDE, 0, 0);
+    expect("largest row and action", follow("largest row and action", table, SIZE_MAX, SIZE_MAX),
+           SUCCORYVISE_OUTSIDE, 0, 0);
+    expect("action 0 in row 3", follow("action 0 in row 3", table, 3, 0), SUCCORYVISE_NOT_ALLOWED, 0, 0);
+    expect("action 2 in row 3", follow("action 2 in row 3", table, 3, 2), SUCCORYVISE_DONE, 0, 0);
+    count(follow("action 2 in row 3", table, 3, 2).first == 2, "action 2 in row 3", "row 2");
+
+    free(tower.at);
+    free(text.at);
+    free(none.at);
+    free(never.at);
+    free(table.at);
+}
+
+/* An area of length 0, and one that is a byte too short, whichever it is. */
+static void areas(void)
+{
+    struct bytes tower = copy_of(small_tower, sizeof small_tower), text = text_of(book_1);
+    struct bytes table = copy_of(table_1, sizeof table_1);
+    size_t i;
+
+    for (i = 0; i < 2 * AREAS; i++) {
+        int short_one = (int)(i / 2);
+
+        lent[short_one] = i % 2 == 0 ? 0 : least[short_one] - 1;
+        expect("short area", make("short area", tower, text, 50, NULL), SUCCORYVISE_AREA, 0, 0);
+        if (short_one < 3)
+            expect("short area", check("short area", tower, text, table), SUCCORYVISE_AREA, 0, 0);
+        if (short_one < 1)
+            expect("short area", read_book("short area", 17, text), SUCCORYVISE_AREA, 0, 0);
+        lent[short_one] = least[short_one];
+    }
+    free(tower.at);
+    free(text.at);
+    free(table.at);
+}
+
+int main(void)
+{
+    size_t more;
+    int i;
+
+    /* Areas of just the length that they need and longer ones, with and without contents. */
+    for (more = 0; more < 2; more++)
+        for (filled = 0; filled < 2; filled++) {
+            for (i = 0; i < AREAS; i++)
+                lent[i] = least[i] + 77 * more;
+            towers();
+            books();
+            pairs();
+            tables();
+            if (more == 0)
+                areas();
+        }
+    for (i = 0; i <= 18; i++)
+        count(came[i], "all numbers", "one has not come");
+    printf("refusals: %d right, %d wrong\n", right, wrong);
+    return wrong != 0;
+}

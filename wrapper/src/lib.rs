@@ -1,0 +1,158 @@
+//! Play tables for bell towers: the proved entries, as safe Rust.
+//!
+//! A play table tells a tower's clavier which actions it may release after all that has happened so
+//! far. This crate reads rule books ([`read_book`]), makes the table for a tower and a book
+//! ([`make()`]), checks anybody's table ([`check`]) and follows a table by one action ([`follow`]). It
+//! is a thin layer over the archive of the Rattle crate of the same name, in which the answers are
+//! proved for every input; what this layer adds, types and the memory that is lent, is plain Rust.
+//!
+//! The words tower file, rule book, table, row and refusal are those of the paper 'Play tables for
+//! bell towers'; `docs/FORMATS.md` has every byte of the files.
+//!
+//! ```
+//! # fn main() -> Result<(), succoryvise::Refusal> {
+//! // The paper's small tower: a rest and two bells.
+//! let tower = [
+//!     0x03, 0x04, 0x03, 0x00, 0x08, 0x00, 0x10, 0x00, // 3 states, 4 actions, 3 marks
+//!     0x01, 0x01, 0x01, 0x00, 0x01, 0x01, 0x01, 0x00, // actions: length and kind
+//!     0x01, 0x00, 0x01, 0xFF, 0x02, 0xFF, // states: mask and targets
+//!     0x02, 0x00, 0xFF, 0x00, 0xFF, 0xFF, //
+//!     0x04, 0x00, 0xFF, 0xFF, 0xFF, 0x00,
+//! ];
+//! // From the rest, each bell within 3 ticks.
+//! let book = b"always !p0 | E 3 p1\nalways !p0 | E 3 p2\n";
+//!
+//! let table = succoryvise::make(&tower, book)?;
+//! assert_eq!(table.len(), 50);
+//! succoryvise::check(&tower, book, &table)?;
+//!
+//! let mut player = succoryvise::Player::new(&table);
+//! assert_eq!(player.play(0), Ok(1)); // the first bell: row 1
+//! assert_eq!(player.play(1), Ok(3)); // back to the rest: row 3
+//! assert!(!player.allows(0)); // now the other bell is due
+//! # Ok(())
+//! # }
+//! ```
+//!
+//! # Stack
+//!
+//! [`follow`] and [`Player`] need less than 1 KiB of stack. What reads a rule book calls itself as
+//! deep as the text has brackets: up to 1.5 MiB for a text of 4,096 brackets (measured on x86-64), a
+//! few KiB for books that are accepted. The threads of the standard library have 2 MiB if nothing
+//! else is asked for. On a thread with too little the program is ended by the guard page, as after any
+//! other recursion.
+//!
+//! # Linking
+//!
+//! The environment variable `PROVED_LIBRARIES` names the folder of `libsuccoryvise.a`, which
+//! `rt staticlib succoryvise` writes. The archive is for x86-64 Linux.
+
+#![deny(missing_docs)]
+#![deny(unsafe_code)]
+
+mod areas;
+#[allow(unsafe_code)]
+mod ffi;
+mod player;
+mod refusal;
+
+pub use areas::{Checker, Maker};
+pub use player::Player;
+pub use refusal::{Reason, Refusal};
+
+/// The most bytes that a tower file has.
+pub const LARGEST_TOWER: usize = 3_640;
+
+/// The most bytes that a rule book may have.
+pub const LARGEST_BOOK: usize = 4_096;
+
+/// The most bytes that a table file has: 1,000 rows of 16 steps. An output of this length is enough
+/// for every table.
+pub const LARGEST_TABLE: usize = 52_012;
+
+/// What a rule book has.
+#[derive(Clone, Copy, Debug, PartialEq, Eq)]
+pub struct BookCounts {
+    /// Its lines, each of which is a rule.
+    pub lines: usize,
+    /// The nodes of its formulas.
+    pub nodes: usize,
+}
+
+/// Reads a rule book for a tower with so many marks, and counts its lines and nodes.
+///
+/// `marks` is P of the tower, byte 2 of its file. The refusals are [`Refusal::Range`] for more than 16
+/// marks, and those of a book: [`Grammar`](Refusal::Grammar), [`Number`](Refusal::Number),
+/// [`Mark`](Refusal::Mark), [`Limit`](Refusal::Limit) and [`Timed`](Refusal::Timed).
+///
+/// ```
+/// use succoryvise::{read_book, Refusal};
+///
+/// let counts = read_book(3, b"always !p0 | E 3 p1\n").unwrap();
+/// assert_eq!((counts.lines, counts.nodes), (1, 5));
+/// assert_eq!(read_book(3, b"start T\nstart p3\n"), Err(Refusal::Mark { line: 1 }));
+/// ```
+pub fn read_book(marks: usize, text: &[u8]) -> Result<BookCounts, Refusal> {
+    let mut nodes = [0; areas::NODES];
+    let [lines, nodes] = ffi::read_book(marks, text, &mut nodes).values()?;
+    Ok(BookCounts { lines, nodes })
+}
+
+/// Makes the table for a tower and a rule book: the smallest table that allows every run that some
+/// good table allows.
+///
+/// It borrows about 160 KiB from the heap. To make many tables with the same memory, or to give the
+/// place of the table, use a [`Maker`]. The refusals are those of the tower (numbers 1 to 5) and the
+/// book (6 to 10), [`Pairs`](Refusal::Pairs) and [`NoTable`](Refusal::NoTable).
+///
+/// ```
+/// # let tower = include_bytes!("../../examples/small-tower/tower.bin");
+/// use succoryvise::{make, Refusal};
+///
+/// assert_eq!(make(tower, b"always !p1\n").unwrap().len(), 26);
+/// assert_eq!(make(tower, b"start F\n"), Err(Refusal::NoTable));
+/// ```
+pub fn make(tower: &[u8], text: &[u8]) -> Result<Vec<u8>, Refusal> {
+    Maker::new().make(tower, text)
+}
+
+/// Whether a table, whoever made it, is good for a tower and a rule book.
+///
+/// It borrows about 70 KiB from the heap; to check many tables with the same memory, use a
+/// [`Checker`]. The refusals are those of the tower (numbers 1 to 5) and the book (6 to 10),
+/// [`Layout`](Refusal::Layout), [`NotGood`](Refusal::NotGood) with the first reason, and
+/// [`Pairs`](Refusal::Pairs), which says that the table is too large to be judged, and not that it is
+/// bad.
+///
+/// ```
+/// # let tower = include_bytes!("../../examples/small-tower/tower.bin");
+/// use succoryvise::{check, make, Reason, Refusal};
+///
+/// let table = make(tower, b"").unwrap();
+/// assert_eq!(check(tower, b"", &table), Ok(()));
+/// let answer = check(tower, b"always !p1\n", &table);
+/// assert_eq!(answer, Err(Refusal::NotGood(Reason::Broken)));
+/// ```
+pub fn check(tower: &[u8], text: &[u8], table: &[u8]) -> Result<(), Refusal> {
+    Checker::new().check(tower, text, table)
+}
+
+/// The row that an action leads to from a row of a table. A performance begins in row 0; a
+/// [`Player`] keeps the row.
+///
+/// The refusals are [`Layout`](Refusal::Layout), [`Outside`](Refusal::Outside) and
+/// [`NotAllowed`](Refusal::NotAllowed). Each call looks through the whole table before it answers.
+///
+/// ```
+/// # let tower = include_bytes!("../../examples/small-tower/tower.bin");
+/// use succoryvise::{follow, make, Refusal};
+///
+/// let table = make(tower, b"").unwrap();
+/// assert_eq!(follow(&table, 0, 2), Ok(2));
+/// assert_eq!(follow(&table, 0, 1), Err(Refusal::NotAllowed));
+/// assert_eq!(follow(&table, 3, 0), Err(Refusal::Outside));
+/// ```
+pub fn follow(table: &[u8], row: usize, action: usize) -> Result<usize, Refusal> {
+    let [next, _] = ffi::follow(table, row, action).values()?;
+    Ok(next)
+}
