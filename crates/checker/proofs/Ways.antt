@@ -49,7 +49,8 @@ use Rattle.book_reader.specs.Lines.{Answers}
 use Rattle.book_reader.proofs.BookHeld.{BookHeld, book-held}
 use Rattle.table_reader.specs.Layout.{laid-out-for}
 use Rattle.table_reader.proofs.Laws.{laid-for-parts, not-laid-for-read}
-use Rattle.checker.specs.Checking.{checked-table, checked-book, BookRead, TableChecked, lengths-right, Room, Checks}
+use Rattle.pending_entries.specs.PendingEntries.{TowerWithBook}
+use Rattle.checker.specs.Checking.{checked-table, checked-book, TableChecked, lengths-right, Room, Checks}
 
 -- ---- for_tower
 
@@ -63,12 +64,12 @@ for-counts tower table s a b is-s is-a e = rw (← is-s, ← is-a) e
 module _ (tower table nodes : List ℕ) (lines count : ℕ) (b : Bool)
     (is-b : b ≡ laid-out-for table (tower-of tower .states) (tower-of tower .actions)) where
   -- A table that is for the tower can be judged.
-  pub judgeable : BookRead tower nodes lines count → b ≡ true → Judgeable tower table
+  pub judgeable : TowerWithBook tower nodes lines count → b ≡ true → Judgeable tower table
   judgeable world f =
       let (layout, states, actions) = laid-for-parts table (tower-of tower .states) (tower-of tower .actions) (sym is-b ∙ f) in
       record { fit = world .fit; layout = layout; states = states; actions = actions }
 
-  pub walkable : BookRead tower nodes lines count → b ≡ true → Walkable tower table nodes lines count
+  pub walkable : TowerWithBook tower nodes lines count → b ≡ true → Walkable tower table nodes lines count
   walkable world f = record { files = judgeable world f; held = world .held; few = world .few }
 
   -- 13.
@@ -80,7 +81,7 @@ module _ (tower table nodes : List ℕ) (lines count : ℕ) (b : Bool)
 table-answer : (tower table : List ℕ) → Judgeable tower table → read-table (tower-of tower) table ≡ give (table-of table)
 table-answer tower table ok = laid-out-read (tower-of tower) table (ok .layout) (ok .states) (ok .actions)
 
-module _ (tower table nodes : List ℕ) (lines count : ℕ) (b : Bool) (world : BookRead tower nodes lines count)
+module _ (tower table nodes : List ℕ) (lines count : ℕ) (b : Bool) (world : TowerWithBook tower nodes lines count)
     (is-b : b ≡ laid-out-for table (tower-of tower .states) (tower-of tower .actions)) (yes-b : b ≡ true) (v : RowVerdict)
     (is-v : v ≡ rows-verdict (tower-of tower) (table-of table)) where
   judged : (h : IsHeld nodes lines count)
@@ -189,7 +190,7 @@ module _ (tower text nodes : List ℕ) (marks : ℕ) (a : BookAnswer) (lines cou
   here : BookHeld marks text nodes lines count
   here = book-held marks text nodes a lines count (marks-few tower marks fit at-marks) answers is
 
-  pub book-known : BookRead tower nodes lines count
+  pub book-known : TowerWithBook tower nodes lines count
   book-known = record { fit = fit; held = here .held; few = here .few }
 
   -- The table decides.

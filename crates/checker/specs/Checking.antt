@@ -7,7 +7,7 @@ use lib.ListN.{length}
 use lib.Dec.{leb}
 use Rattle.base.specs.Answers.{Answer, _then_}
 use Rattle.base.specs.declared.Verdict.{Verdict}
-use Rattle.logic.specs.Tower.{Tower, FitTower, tower-of}
+use Rattle.logic.specs.Tower.{Tower, tower-of}
 use Rattle.logic.specs.Book.{Book}
 use Rattle.reading.specs.BookReading.{read-book}
 use Rattle.reading.specs.TableReading.{read-table}
@@ -21,12 +21,6 @@ checked-table tower book table = read-table tower table then λ rows. judge towe
 -- the answer for a book and a table file, where the tower is read
 unfoldable pub checked-book : Tower → List ℕ → List ℕ → Answer (Unit {0})
 checked-book tower text table = read-book (tower .marks) text then λ book. checked-table tower book table
-
--- The tower is fit, and an area holds a book of at most 60 nodes.
-pub record BookRead (tower nodes : List ℕ) (lines count : ℕ) : Type 0 where
-  pub fit : FitTower tower
-  pub held : IsHeld nodes lines count
-  pub few : count ≤ 60
 
 -- The answer for a table file, for the book that the area holds.
 pub record TableChecked (r : Verdict) (tower table nodes : List ℕ) (lines count : ℕ) : Type 0 where

@@ -8,7 +8,8 @@ ghost use Rattle.logic.specs.Tower.{FitTower, tower-of};
 ghost use Rattle.table_reader.specs.Layout.{laid-out-for};
 ghost use Rattle.outcome.specs.Check.{turned-down, verdict, checked-file};
 ghost use Rattle.item_walk.specs.Items.{walk-answer};
-ghost use Rattle.checker.specs.Checking.{checked-book, BookRead, TableChecked, lengths-right, Room, Checks};
+ghost use Rattle.pending_entries.specs.PendingEntries.{TowerWithBook};
+ghost use Rattle.checker.specs.Checking.{checked-book, TableChecked, lengths-right, Room, Checks};
 use base::BookAnswer;
 use base::Reason;
 use base::Refusal;
@@ -65,7 +66,7 @@ fn check_table(
     items: &mut [u8],
     index: &mut [u8],
 ) -> Verdict
-    requires { ⌜ BookRead (now tower) (now nodes) lines count ⌝ }
+    requires { ⌜ TowerWithBook (now tower) (now nodes) lines count ⌝ }
     requires { ⌜ 62062 ≤ length (now items) ⌝ }
     requires { ⌜ 8192 ≤ length (now index) ⌝ }
     ensures { λ r. ⌜ TableChecked r (now (tower .entry)) (now (table .entry)) (now (nodes .entry)) lines count ⌝ }

@@ -264,13 +264,13 @@ indexed-none entries index zeros =
       links = λ i l. absurd (omega arith);
     }
 
+-- Every byte of a cleared area is 0.
+pub cleared-byte : (size p : ℕ) → _≡_ {A = ℕ} (byte-at (replicate size 0) p) 0
+cleared-byte size p = elim (decLt p size) [
+  | yes l ↦ getD-replicate size p 0 0 l
+  | no l ↦ List·getD-eq-default (replicate size 0) 0 (omega (arith, length-replicate {A = ℕ} size 0))
+]
+
 -- A cleared area is an index of no entries.
-pub indexed-cleared : (entries : List ℕ) (size : ℕ) → Indexed entries (replicate size 0) 0
-indexed-cleared entries size = indexed-none entries (replicate size 0) zeros
-  where
-    zeros : (p : ℕ) → byte-at (replicate size 0) p ≡ 0
-    zeros p = elim (decLt p size) [
-      | yes l ↦ getD-replicate size p 0 0 l
-      | no l ↦ List·getD-eq-default (replicate size 0) 0
-          (omega (arith, length-replicate {A = ℕ} size 0))
-    ]
+pub indexed-cleared : (entries index : List ℕ) (size : ℕ) → index ≡ replicate size 0 → Indexed entries index 0
+indexed-cleared entries index size e = rw e (indexed-none entries (replicate size 0) (cleared-byte size))

@@ -1,13 +1,13 @@
 -- A law for each way through the code.
-use Prim.Native.Nat.{ℕ, suc, _+_, _-_, _*_, _/_, _%_, _≤_, _<_}
+use Prim.Native.Nat.{ℕ, suc, _+_, _-_, _*_, _%_, _≤_, _<_}
 use native.Mathlib.Omega.{arith}
 use native.Mathlib.Numerals.{add-one}
 use native.Mathlib.Decide.{decLt, ℕ-discrete}
 use mathlib.Core.Path.{_≡_, refl, sym, _∙_, ap, ap₂}
 use mathlib.Core.Bool.{Bool, true, false, _&&_}
 use mathlib.Core.List.{List}
-use lib.ListN.{length, getD, set, drop, length-set, drop-of-length-le}
-use lib.Seq.{sets, length-sets, drop-cons, getD-set-same, getD-set-other}
+use lib.ListN.{length, getD, drop, drop-of-length-le}
+use lib.Seq.{sets, length-sets, drop-cons}
 use lib.Dec.{eqb}
 use borrow.Author.Tests.{eq-eqb, ne-eqb}
 use mir.Syntax.{w8, w64}
@@ -15,6 +15,7 @@ use mir.Val.{Fits}
 use Rattle.base.specs.Bytes.{number-at, number-bytes}
 use Rattle.base.specs.Lists.{same-list, place-of}
 use Rattle.base.proofs.Lists.{false-by}
+use Rattle.lent_bytes.proofs.Numbers.{stored, stored-read, byte-beside}
 use Rattle.entry_index.specs.Entries.{entry-size, most-entries, index-size, links-at, buckets, entry-at, entries-of, same-entry}
 use Rattle.entry_index.specs.Entries.{hash-from, hash-of, last-with, head-of, link-of, Indexed}
 use Rattle.entry_index.proofs.Laws.{entry-byte, entry-length, same-entry-out, found-at, found-none, hash-below}
@@ -22,46 +23,10 @@ use Rattle.entry_index.proofs.Laws.{last-most, last-has, last-behind, l
 
 -- ---- two-byte numbers
 
--- A byte is a number.
-pub cast-byte : (l : List ℕ) (i : ℕ) → ((j : ℕ) → Fits w8 (getD l j 0)) → Fits w64 (getD l i 0)
-cast-byte l i h = omega (arith, h i)
-
--- The upper byte of a two-byte number.
-pub upper-fits : (l : List ℕ) (i : ℕ) → ((j : ℕ) → Fits w8 (getD l j 0)) → Fits w64 (256 * getD l i 0)
-upper-fits l i h = omega (arith, h i)
-
--- A two-byte number.
-pub two-fit : (l : List ℕ) (i k : ℕ) → ((j : ℕ) → Fits w8 (getD l j 0)) → Fits w64 (getD l i 0 + 256 * getD l k 0)
-two-fit l i k h = omega (arith, h i, h k)
-
--- What two bytes spell.
-pub two-read : (l : List ℕ) (p : ℕ) → getD l p 0 + 256 * getD l (p + 1) 0 ≡ number-at 2 l p
+-- A number elsewhere than where one is written is what it was.
+written-elsewhere : (l : List ℕ) (p q n : ℕ) → (q ≡ p → ⊥) → (q ≡ p + 1 → ⊥) → (q + 1 ≡ p → ⊥) → number-at 2 (stored l p n) q ≡ number-at 2 l q
 unfolding number-at
-two-read l p = omega arith
-
--- Two bytes stored are a number written.
-pub two-written : (l : List ℕ) (p n : ℕ) → set (set l p (n % 256)) (p + 1) (n / 256 % 256) ≡ sets l p (number-bytes 2 n)
-unfolding number-bytes
-two-written l p n = rw (add-one p)
-
--- A number written is read back,
-written-here : (l : List ℕ) (p n : ℕ) → p + 1 < length l → n < 65536 → number-at 2 (sets l p (number-bytes 2 n)) p ≡ n
-unfolding number-at number-bytes
-written-here l p n room small =
-    let one = set l p (n % 256) in
-    let long = length-set l p (n % 256) in
-    let low = getD-set-other one (suc p) p (n / 256 % 256) 0 (λ e. omega arith) ∙ getD-set-same l p (n % 256) 0 (omega arith) in
-    let high = getD-set-same one (suc p) (n / 256 % 256) 0 (omega arith) in
-    rw (add-one p) (omega arith)
-
--- and a number elsewhere is what it was.
-written-elsewhere : (l : List ℕ) (p q n : ℕ) → (q ≡ p → ⊥) → (q ≡ p + 1 → ⊥) → (q + 1 ≡ p → ⊥)
-    → number-at 2 (sets l p (number-bytes 2 n)) q ≡ number-at 2 l q
-unfolding number-at number-bytes
-written-elsewhere l p q n a b c = rw (at q a (λ e. b (omega arith)), at (q + 1) c (λ e. a (omega arith)))
-  where
-    at : (i : ℕ) → (i ≡ p → ⊥) → (i ≡ suc p → ⊥) → getD (set (set l p (n % 256)) (suc p) (n / 256 % 256)) i 0 ≡ getD l i 0
-    at i d e = getD-set-other (set l p (n % 256)) (suc p) i (n / 256 % 256) 0 e ∙ getD-set-other l p i (n % 256) 0 d
+written-elsewhere l p q n a b c = rw (byte-beside l p n q a (λ e. b (omega arith)), byte-beside l p n (q + 1) c (λ e. a (omega arith)))
 
 -- ---- the hash
 
@@ -319,7 +284,7 @@ module _ (entries index one two : List ℕ) (n h before : ℕ) (a : Adding entri
       let same = long in
       let room = a .room in
       let few = a .few in
-      ap (λ (l : List ℕ). number-at 2 l (0 + 2 * h)) (a .head-stored) ∙ written-here one (0 + 2 * h) (n + 1) (omega arith) (omega arith)
+      ap (λ (l : List ℕ). number-at 2 l (0 + 2 * h)) (a .head-stored) ∙ stored-read one (0 + 2 * h) (n + 1) (omega arith) (omega arith)
 
   head-old : (g : ℕ) → g < buckets → (g ≡ h → ⊥) → head-of two g ≡ head-of index g
   unfolding head-of
@@ -337,7 +302,7 @@ module _ (entries index one two : List ℕ) (n h before : ℕ) (a : Adding entri
       let most = last-most entries h n in
       kept (2048 + 2 * n) (λ e. omega arith) (λ e. omega arith) (λ e. omega arith)
       ∙ ap (λ (l : List ℕ). number-at 2 l (2048 + 2 * n)) (a .link-stored)
-      ∙ written-here index (2048 + 2 * n) before (omega arith) (omega arith)
+      ∙ stored-read index (2048 + 2 * n) before (omega arith) (omega arith)
 
   link-old : (i : ℕ) → i < n → link-of two i ≡ link-of index i
   unfolding link-of

@@ -3,8 +3,6 @@
 ghost use Prim.Native.Nat.{_+_, _*_, _<_, _≤_};
 ghost use mathlib.Core.Path.{_≡_};
 ghost use lib.ListN.{length};
-ghost use lib.Seq.{sets};
-ghost use Rattle.base.specs.Bytes.{number-at, number-bytes};
 ghost use Rattle.base.specs.Lists.{place-of};
 ghost use Rattle.entry_index.specs.Entries.{entry-size, most-entries, entries-size, index-size};
 ghost use Rattle.entry_index.specs.Entries.{entry-at, entries-of, same-entry, hash-of, head-of, link-of, Indexed};
@@ -21,23 +19,6 @@ const BUCKETS: usize = 1021;
 const HEADS_AT: usize = 0;
 
 const LINKS_AT: usize = 2048;
-
-// The two-byte number at p, the low byte first.
-fn two_bytes(bytes: &[u8], p: usize) -> usize
-    requires { ⌜ p + 1 < length (now bytes) ⌝ }
-    ensures { λ r. ⌜ r ≡ number-at 2 (now (bytes .entry)) p ⌝ }
-{
-    bytes[p] as usize + 256 * (bytes[p + 1] as usize)
-}
-
-// Writes n as a two-byte number at p, the low byte first.
-fn put_two_bytes(bytes: &mut [u8], p: usize, n: usize)
-    requires { ⌜ p + 1 < length (now bytes) ⌝ }
-    ensures { λ _. ⌜ now (bytes .exit) ≡ sets (now (bytes .entry)) p (number-bytes 2 n) ⌝ }
-{
-    bytes[p] = (n % 256) as u8;
-    bytes[p + 1] = (n / 256 % 256) as u8;
-}
 
 // The hash of entry i.
 pub fn hash(entries: &[u8], i: usize) -> usize
@@ -79,7 +60,7 @@ fn head(entries: &[u8], index: &[u8], n: usize) -> usize
     requires { ⌜ index-size ≤ length (now index) ⌝ }
     ensures { λ r. ⌜ r ≡ head-of (now (index .entry)) (hash-of (entry-at (now (entries .entry)) n)) ⌝ }
 {
-    two_bytes(index, HEADS_AT + 2 * hash(entries, n))
+    lent_bytes::two_bytes(index, HEADS_AT + 2 * hash(entries, n))
 }
 
 // The link of entry i: the last entry before i with the same hash, plus one, or 0.
@@ -88,7 +69,7 @@ fn link(index: &[u8], i: usize) -> usize
     requires { ⌜ index-size ≤ length (now index) ⌝ }
     ensures { λ r. ⌜ r ≡ link-of (now (index .entry)) i ⌝ }
 {
-    two_bytes(index, LINKS_AT + 2 * i)
+    lent_bytes::two_bytes(index, LINKS_AT + 2 * i)
 }
 
 // The number of the first of n entries that is equal to entry n, or n if there is none.
@@ -120,7 +101,7 @@ pub fn add(entries: &[u8], index: &mut [u8], n: usize)
     ensures { λ _. ⌜ Indexed (now (entries .entry)) (now (index .exit)) (n + 1) ⌝ }
 {
     let head_at = HEADS_AT + 2 * hash(entries, n);
-    let before = two_bytes(index, head_at);
-    put_two_bytes(index, LINKS_AT + 2 * n, before);
-    put_two_bytes(index, head_at, n + 1);
+    let before = lent_bytes::two_bytes(index, head_at);
+    lent_bytes::put_two_bytes(index, LINKS_AT + 2 * n, before);
+    lent_bytes::put_two_bytes(index, head_at, n + 1);
 }

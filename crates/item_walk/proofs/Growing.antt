@@ -1,18 +1,15 @@
 -- The steps of an item in turn: what is left of them decides what is new in the end.
-use Prim.Native.Nat.{ℕ, suc, _+_, _-_, _^_, _≤_, _<_}
+use Prim.Native.Nat.{ℕ, _+_, _-_, _^_, _≤_, _<_}
 use native.Mathlib.Omega.{arith}
-use native.Mathlib.Numerals.{add-one}
 use native.Mathlib.Decide.{decLt}
 use mathlib.Core.Path.{_≡_, refl, sym, _∙_, ap, ap₂}
 use mathlib.Core.Bool.{Bool, true, false, _||_, not}
 use mathlib.Core.Option.{Option, none, some}
-use mathlib.Core.List.{List, [], _∷_, _++_, map, map-map}
+use mathlib.Core.List.{List, _∷_, _++_, map, map-map, append-nil}
 use lib.ListN.{length, length-append}
-use lib.Seq.{append-snoc}
 use mathlib.Core.Bool.{or-false}
 use mir.Syntax.{w64}
 use mir.Val.{Fits}
-use Rattle.base.specs.Choice.{pick}
 use Rattle.base.specs.Lists.{some-of, count-from, present, is-there}
 use Rattle.base.specs.Search.{new-ones}
 use Rattle.base.proofs.Lists.{or-right}
@@ -26,10 +23,13 @@ use Rattle.outcome.specs.Check.{Item, same-item, item-pending, item-at, item-fo
 use Rattle.progression.specs.NodeBytes.{IsHeld}
 use Rattle.entry_index.specs.Entries.{entry-at, Indexed}
 use Rattle.entry_index.proofs.Laws.{indexed-same}
+use Rattle.pending_entries.specs.PendingEntries.{entry-number, Noted}
+use Rattle.pending_entries.specs.declared.Place.{Place}
+use Rattle.pending_entries.proofs.Seen.{numbers-cons, one-more}
 use Rattle.table_reader.proofs.Laws.{laid-out-known}
 use Rattle.row_judge.proofs.Ways.{row-steps-at, some-mapped}
-use Rattle.item_walk.specs.Items.{item-of, items-of, entry-row, Filled, Walkable, StepOf, follower, item-read, Followed, Noted, with-new, Grown}
-use Rattle.item_walk.proofs.Entries.{items-length, items-more, items-same}
+use Rattle.item_walk.specs.Items.{item-of, items-of, Filled, Walkable, StepOf, follower, item-read, Followed, with-new, Grown}
+use Rattle.item_walk.proofs.Entries.{items-length, items-same, noted-items}
 
 -- ---- an item's steps by their numbers
 
@@ -57,13 +57,6 @@ module _ (tower table : List ℕ) (book : Book) (v : Item) (l : v .row < rows-of
       let fails : Step → Bool = λ s. not (is-there (item-pending (tower-of tower) book (table-of table) v s)) in
       ap (some-of fails) (row-steps-at table (v .row) l)
       ∙ some-mapped fails (step-of table) (count-from (row-first table (v .row)) (row-count table (v .row)))
-
--- The first of the numbers that are left, and the others.
-numbers-cons : (s end : ℕ) → s < end → count-from s (end - s) ≡ s ∷ count-from (s + 1) (end - (s + 1))
-unfolding count-from
-numbers-cons s end l =
-    let e : end - s ≡ suc (end - (s + 1)) = omega arith in
-    ap (count-from s) e ∙ ap (λ z. s ∷ count-from z (end - (s + 1))) (sym (add-one s))
 
 -- What an answer says of a step.
 no-item : (r : ℕ) (o : Option Pending) → item-at r o ≡ none → is-there o ≡ false
@@ -102,22 +95,14 @@ module _ (tower table : List ℕ) (book : Book) (v : Item) (s end : ℕ) (l : s 
       let f = an-item (step-target table s) (item-pending (tower-of tower) book (table-of table) v (step-of table s)) w e in
       rw (numbers-cons s end l, f)
 
--- One follower more: those seen, with what is new.
-one-more : (seen : List Item) (w : Item) (ws : List Item) (b : Bool) → some-of (same-item w) seen ≡ b
-    → (all : List Item) → all ≡ pick b (λ _. seen) (λ _. seen ++ (w ∷ []))
-    → all ++ new-ones same-item all ws ≡ seen ++ new-ones same-item seen (w ∷ ws)
-unfolding new-ones
-one-more seen w ws true e all f = rw (e, f)
-one-more seen w ws false e all f = rw (e, f) (append-snoc seen w (new-ones same-item (seen ++ (w ∷ [])) ws))
-
 -- ---- the loop
 
 -- At step s of item i's row: `area` and `index` hold n items, and the steps that are left decide what is new in the end.
 pub record Growing (tower table nodes : List ℕ) (lines count : ℕ) (first : List ℕ) (i met : ℕ) (before : Bool) (end s : ℕ) (area index : List ℕ)
     (n : ℕ) (broken : Bool) : Type 0 where
   pub low : i < met
-  pub last : end ≡ row-first table (entry-row first i) + row-count table (entry-row first i)
-  pub from : row-first table (entry-row first i) ≤ s
+  pub last : end ≡ row-first table (entry-number first i) + row-count table (entry-number first i)
+  pub from : row-first table (entry-number first i) ≤ s
   pub inside : s ≤ end
   pub least : met ≤ n
   pub most : n ≤ 1000
@@ -135,7 +120,7 @@ pub record Growing (tower table nodes : List ℕ) (lines count : ℕ) (first : L
 
 module _ (tower table nodes : List ℕ) (lines count : ℕ) (area index : List ℕ) (i met : ℕ) (broken : Bool)
     (world : Walkable tower table nodes lines count) (filled : Filled table count area met) (low : i < met) where
-  pub grow-start : (r f k g : ℕ) → met ≤ 1000 → Indexed area index met → 8192 ≤ length index → r ≡ entry-row area i → f ≡ row-first table r
+  pub grow-start : (r f k g : ℕ) → met ≤ 1000 → Indexed area index met → 8192 ≤ length index → r ≡ entry-number area i → f ≡ row-first table r
       → k ≡ row-count table r → g ≡ row-first table r
       → Growing tower table nodes lines count area i met broken (f + k) g area index met broken
   unfolding item-of with-new
@@ -161,21 +146,21 @@ module _ (tower table nodes : List ℕ) (lines count : ℕ) (area index : List �
       v : Item
       v = item-of count (entry-at area i)
 
-      at-first : f ≡ row-first table (entry-row area i)
+      at-first : f ≡ row-first table (entry-number area i)
       at-first = at-f ∙ ap (row-first table) at-r
 
-      at-count : k ≡ row-count table (entry-row area i)
+      at-count : k ≡ row-count table (entry-number area i)
       at-count = at-k ∙ ap (row-count table) at-r
 
-      to-first : g ≡ row-first table (entry-row area i)
+      to-first : g ≡ row-first table (entry-number area i)
       to-first = at-g ∙ ap (row-first table) at-r
 
-      steps : f + k - g ≡ row-count table (entry-row area i)
+      steps : f + k - g ≡ row-count table (entry-number area i)
       steps = omega (arith, at-first, at-count, to-first)
 
 module _ (tower table nodes : List ℕ) (lines count : ℕ) (first : List ℕ) (i met : ℕ) (before : Bool) (end s : ℕ) (area index : List ℕ) (n : ℕ)
     (broken : Bool) (g : Growing tower table nodes lines count first i met before end s area index n broken) where
-  pub grow-step : s < end → StepOf table (entry-row area i) s
+  pub grow-step : s < end → StepOf table (entry-number area i) s
   grow-step l = rw (g .entry) (record { from = g .from; below = omega (arith, g .last) })
 
   pub grow-low : i < n
@@ -185,9 +170,9 @@ module _ (tower table nodes : List ℕ) (lines count : ℕ) (first : List ℕ) (
   pub grow-fits : s < end → Walkable tower table nodes lines count → length table < 2 ^ 64 → Fits w64 (s + 1)
   unfolding step-place step-size
   grow-fits l world small =
-      let row : entry-row first i < rows-of table = rw (← g .entry) (g .filled .rows i grow-low) in
+      let row : entry-number first i < rows-of table = rw (← g .entry) (g .filled .rows i grow-low) in
       let known = laid-out-known table (world .files .layout) in
-      omega (arith, g .last, known .row (entry-row first i) row .last, known .header .size)
+      omega (arith, g .last, known .row (entry-number first i) row .last, known .header .size)
 
   -- No more steps are left.
   pub grow-end : end ≤ s → Grown (record { met = n; broken = broken }) tower table nodes lines count first i met before area index
@@ -205,10 +190,6 @@ module _ (tower table nodes : List ℕ) (lines count : ℕ) (first : List ℕ) (
     where
       none-left : end - s ≡ 0
       none-left = omega arith
-
-      append-nil : (xs : List Item) → xs ++ [] ≡ xs
-      append-nil [] = refl
-      append-nil (x ∷ xs) = ap (λ z. x ∷ z) (append-nil xs)
 
   module _ (b : Bool) (after : List ℕ) (l : s < end) (f : Followed b tower table nodes lines count area i s n after) where
     v : Item
@@ -250,7 +231,7 @@ module _ (tower table nodes : List ℕ) (lines count : ℕ) (first : List ℕ) (
         none-says : (h : IsHeld nodes lines count) → follower (tower-of tower) (h .book) table v s ≡ none
         none-says h = rw e at (says h)
 
-    module _ (m : ℕ) (later : List ℕ) (is : b ≡ true) (few : count ≤ 60) (noted : Noted m after n later) where
+    module _ (out : Place) (later : List ℕ) (is : b ≡ true) (few : count ≤ 60) (noted : Noted out after n later) where
       w : Item
       w = item-of count (entry-at after n)
 
@@ -258,55 +239,33 @@ module _ (tower table nodes : List ℕ) (lines count : ℕ) (first : List ℕ) (
       unfolding item-read w
       some-says h = says h ∙ ap (λ c. item-read c (item-of count (entry-at after n))) is
 
-      old : Bool
-      old = some-of (same-item w) (items-of count after n)
-
-      m-is : m ≡ pick old (λ _. n) (λ _. n + 1)
-      unfolding old w
-      m-is = noted .says count few (f .filled .blank)
-
-      m-range : (n ≤ m) × (m ≤ n + 1)
-      m-range = go old m-is
-        where
-          go : (c : Bool) → m ≡ pick c (λ _. n) (λ _. n + 1) → (n ≤ m) × (m ≤ n + 1)
-          go true e = (omega arith, omega arith)
-          go false e = (omega arith, omega arith)
-
-      all-items : items-of count after m ≡ pick old (λ _. items-of count after n) (λ _. items-of count after n ++ (w ∷ []))
-      unfolding w
-      all-items = go old m-is
-        where
-          go : (c : Bool) → m ≡ pick c (λ _. n) (λ _. n + 1)
-              → items-of count after m ≡ pick c (λ _. items-of count after n) (λ _. items-of count after n ++ (item-of count (entry-at after n) ∷ []))
-          go true e = ap (items-of count after) e
-          go false e = ap (items-of count after) e ∙ items-more count after n
-
       noted-grown : (h : IsHeld nodes lines count)
-          → items-of count after m
-          ++ new-ones same-item (items-of count after m) (led-to tower table (h .book) v (s + 1) (end - (s + 1)))
+          → items-of count after (out .met)
+          ++ new-ones same-item (items-of count after (out .met)) (led-to tower table (h .book) v (s + 1) (end - (s + 1)))
           ≡ with-new (tower-of tower) (h .book) table (items-of count first met) v
-      unfolding old v
+      unfolding present v w
       noted-grown h =
-          one-more (items-of count after n) w (led-to tower table (h .book) v (s + 1) (end - (s + 1))) old refl (items-of count after m) all-items
+          one-more same-item (items-of count after n) (some w) (map (follower (tower-of tower) (h .book) table v) (count-from (s + 1) (end - (s + 1))))
+          (items-of count after (out .met)) (noted-items count few after n later out (f .filled .blank) noted)
           ∙ ap₂ (λ z y. z ++ new-ones same-item z y) items-still (sym (led-whole tower table (h .book) v s end l w (some-says h)))
           ∙ g .grown h
 
-      noted-filled : Filled table count after m
+      noted-filled : Filled table count after (out .met)
       noted-filled =
           record {
             size = f .filled .size;
             rows = λ j k. elim (decLt j n) [
               | yes low ↦ f .filled .rows j low
               | no high ↦ (
-                  let e : j ≡ n = omega (arith, m-range .1) in
+                  let e : j ≡ n = omega (arith, noted .most) in
                   rw e (f .row is))
             ];
             blank = f .filled .blank;
           }
 
       -- The item that the step leads to is there.
-      pub grow-noted : m ≤ 1000 → length later ≡ length index
-          → Growing tower table nodes lines count first i met before end (s + 1) after later m broken
+      pub grow-noted : out .met ≤ 1000 → length later ≡ length index
+          → Growing tower table nodes lines count first i met before end (s + 1) after later (out .met) broken
       unfolding v
       grow-noted small kept =
           record {
@@ -314,7 +273,7 @@ module _ (tower table nodes : List ℕ) (lines count : ℕ) (first : List ℕ) (
             last = g .last;
             from = omega (arith, g .from);
             inside = omega arith;
-            least = omega (arith, g .least, m-range .0);
+            least = omega (arith, g .least, noted .least);
             most = small;
             filled = noted-filled;
             indexed = noted .indexed;
@@ -325,21 +284,21 @@ module _ (tower table nodes : List ℕ) (lines count : ℕ) (first : List ℕ) (
           }
 
       -- It is one too many.
-      pub grow-many : 1000 < m → Grown (record { met = m; broken = broken }) tower table nodes lines count first i met before after later
+      pub grow-many : 1000 < out .met → Grown (record { met = out .met; broken = broken }) tower table nodes lines count first i met before after later
       unfolding v
       grow-many over =
           record {
-            least = omega (arith, g .least, m-range .0);
-            most = omega (arith, g .most, m-range .1);
+            least = omega (arith, g .least, noted .least);
+            most = omega (arith, g .most, noted .most);
             filled = noted-filled;
             indexed = noted .indexed;
             done = λ small h. absurd (omega arith);
             broke = λ small h. absurd (omega arith);
             many = λ big h. omega (
               arith,
-              items-length count after m,
+              items-length count after (out .met),
               ap length (sym (noted-grown h)),
-              length-append (items-of count after m)
-                  (new-ones same-item (items-of count after m) (led-to tower table (h .book) v (s + 1) (end - (s + 1)))),
+              length-append (items-of count after (out .met))
+                  (new-ones same-item (items-of count after (out .met)) (led-to tower table (h .book) v (s + 1) (end - (s + 1)))),
             );
           }

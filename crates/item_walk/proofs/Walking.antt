@@ -1,16 +1,13 @@
 -- The items in turn: what the search of the definitions still finds from here on is what it finds in all.
-use Prim.Native.Nat.{ℕ, zero, suc, _+_, _-_, _*_, _≤_, _<_}
+use Prim.Native.Nat.{ℕ, suc, _+_, _-_, _≤_, _<_}
 use native.Mathlib.Omega.{arith}
 use native.Mathlib.Numerals.{add-one}
-use native.Mathlib.Decide.{decLt}
-use mathlib.Core.Path.{_≡_, refl, sym, _∙_, ap, ap₂, subst}
-use mathlib.Core.Logic.{_⊎_, inl, inr}
+use mathlib.Core.Path.{_≡_, refl, sym, _∙_, ap, ap₂}
 use mathlib.Core.Bool.{Bool, true, false, _||_, or-false}
 use mathlib.Core.List.{List, [], _∷_, _++_}
-use lib.ListN.{length, getD, take, drop, replicate, length-replicate, getD-replicate, List·getD-eq-default}
-use lib.Seq.{take-suc, drop-cons, drop-append-le, take-append-le, take-length, drop-length}
+use lib.ListN.{length, take, drop}
+use lib.Seq.{take-suc, take-append-le, take-length}
 use borrow.Author.Tests.{lt-ltb, le-ltb}
-use Rattle.base.specs.Bytes.{byte-at, number-at}
 use Rattle.base.specs.Lists.{some-of, below, count-from}
 use Rattle.base.specs.Search.{new-ones, search-on, search-from}
 use Rattle.base.proofs.Lists.{some-append}
@@ -19,40 +16,15 @@ use Rattle.logic.specs.Book.{Book}
 use Rattle.reading.specs.TableReading.{table-of}
 use Rattle.pending.specs.Pairs.{most-pairs}
 use Rattle.outcome.specs.Check.{Item, same-item, first-item, item-followers, items, over-items, breaks, some-broken}
-use Rattle.progression.specs.PendingBytes.{pending-of}
 use Rattle.progression.specs.NodeBytes.{IsHeld}
-use Rattle.progression.specs.Contracts.{Begun}
-use Rattle.progression.proofs.Callers.{begun-is}
 use Rattle.entry_index.specs.Entries.{entry-at, entries-of, Indexed}
-use Rattle.entry_index.proofs.Laws.{indexed-cleared}
+use Rattle.pending_entries.specs.PendingEntries.{First}
+use Rattle.pending_entries.proofs.Turns.{search-next, search-end, search-over}
 use Rattle.table_reader.proofs.Laws.{laid-out-known}
-use Rattle.item_walk.specs.Items.{item-of, items-of, entry-row, Filled, Walkable, with-new, Grown, Started, walk-verdict, Walked}
+use Rattle.item_walk.specs.Items.{item-of, items-of, Filled, Walkable, with-new, Grown, Started, walk-verdict, Walked}
 use Rattle.item_walk.specs.declared.Expanded.{Expanded}
 use Rattle.item_walk.specs.declared.WalkEnd.the-variants.{TooMany, Broken, Whole}
-use Rattle.item_walk.proofs.Entries.{row-of-entry, part-of-entry, beside-byte, items-length, items-at}
-
--- ---- one turn of the search
-
-module _ {X : Type 0} (same : X → X → Bool) (followers : X → List X) (most : ℕ) where
-  -- The next one's followers are looked at.
-  search-turn : (n : ℕ) (seen : List X) (x : X) (todo : List X) → length seen ≤ most
-      → search-on same followers most (suc n) seen (x ∷ todo)
-      ≡ search-on same followers most n (seen ++ new-ones same seen (followers x)) (todo ++ new-ones same seen (followers x))
-  unfolding search-on
-  search-turn n seen x todo l = rw (le-ltb most (length seen) l)
-
-  -- Nothing is left to do.
-  search-done : (n : ℕ) (seen : List X) → search-on same followers most n seen [] ≡ seen
-  unfolding search-on
-  search-done zero seen = refl
-  search-done (suc n) seen = refl
-
-  -- They are too many.
-  search-over : (n : ℕ) (seen todo : List X) → most < length seen → search-on same followers most n seen todo ≡ seen
-  unfolding search-on
-  search-over zero seen todo l = refl
-  search-over (suc n) seen [] l = refl
-  search-over (suc n) seen (x ∷ todo) l = rw (lt-ltb most (length seen) l)
+use Rattle.item_walk.proofs.Entries.{items-length, items-at}
 
 -- ---- the loop
 
@@ -101,10 +73,9 @@ module _ (tower table nodes : List ℕ) (lines count : ℕ) (area index : List �
   all-found : n ≤ i → (h : IsHeld nodes lines count) → items (tower-of tower) (h .book) (table-of table) ≡ seen
   unfolding seen
   all-found l h =
-      let e : i ≡ length (items-of count area n) = omega (arith, walking .inside, all-seen) in
-      let none : drop i (items-of count area n) ≡ [] = ap (λ z. drop z (items-of count area n)) e ∙ drop-length (items-of count area n) in
-      sym (walking .same h) ∙ ap (found tower table (h .book) (1001 - i) (items-of count area n)) none
-      ∙ search-done same-item (item-followers (tower-of tower) (h .book) (table-of table)) most-pairs (1001 - i) (items-of count area n)
+      sym (walking .same h)
+      ∙ search-end same-item (item-followers (tower-of tower) (h .book) (table-of table)) most-pairs (1001 - i) (items-of count area n) i
+      (omega (arith, all-seen))
 
   not-over : n ≤ i → (h : IsHeld nodes lines count) → over-items (tower-of tower) (h .book) (table-of table) ≡ false
   unfolding over-items most-pairs
@@ -133,12 +104,6 @@ module _ (tower table nodes : List ℕ) (lines count : ℕ) (area index : List �
     v : Item
     v = item-of count (entry-at area i)
 
-    next : drop i seen ≡ v ∷ drop (suc i) seen
-    unfolding seen v
-    next =
-        drop-cons (items-of count area n) i (item-of count (entry-at area 0)) (omega (arith, all-seen))
-        ∙ ap (λ z. z ∷ drop (suc i) (items-of count area n)) (items-at count area n i l)
-
     so-far : take (suc i) seen ≡ take i seen ++ (v ∷ [])
     unfolding seen v
     so-far =
@@ -150,15 +115,13 @@ module _ (tower table nodes : List ℕ) (lines count : ℕ) (area index : List �
 
     -- One turn of the search.
     turned : (h : IsHeld nodes lines count)
-        → found tower table (h .book) (1001 - (i + 1)) (seen ++ new (h .book)) (drop (suc i) seen ++ new (h .book))
+        → found tower table (h .book) (1001 - (i + 1)) (seen ++ new (h .book)) (drop (i + 1) (seen ++ new (h .book)))
         ≡ items (tower-of tower) (h .book) (table-of table)
-    unfolding new seen most-pairs
+    unfolding new seen v most-pairs
     turned h =
-        let fuel : 1001 - i ≡ suc (1001 - (i + 1)) = omega (arith, walking .most) in
-        let few : length (items-of count area n) ≤ 1000 = omega (arith, all-seen, walking .most) in
-        sym (search-turn same-item (item-followers (tower-of tower) (h .book) (table-of table)) 1000 (1001 - (i + 1)) (items-of count area n) v
-        (drop (suc i) (items-of count area n)) few)
-        ∙ ap₂ (λ k z. found tower table (h .book) k (items-of count area n) z) (sym fuel) (sym next)
+        sym (search-next same-item (item-followers (tower-of tower) (h .book) (table-of table)) 1000 1001 (items-of count area n) i
+        (item-of count (entry-at area 0)) (item-of count (entry-at area i)) (items-at count area n i l) (omega (arith, all-seen))
+        (omega (arith, all-seen, walking .most)) (omega (arith, walking .most)))
         ∙ walking .same h
 
     pub walk-many : 1000 < out .met → Walked TooMany tower table nodes lines count
@@ -168,7 +131,7 @@ module _ (tower table nodes : List ℕ) (lines count : ℕ) (area index : List �
           says = λ h.
               let many = grown .many over h in
               let all = sym (turned h) ∙ search-over same-item (item-followers (tower-of tower) (h .book) (table-of table)) 1000 (1001 - (i + 1))
-              (seen ++ new (h .book)) (drop (suc i) seen ++ new (h .book)) many in
+              (seen ++ new (h .book)) (drop (i + 1) (seen ++ new (h .book))) many in
               let more : 1000 < length (items (tower-of tower) (h .book) (table-of table)) = omega (arith, ap length all, many) in
               rw (lt-ltb 1000 (length (items (tower-of tower) (h .book) (table-of table))) more);
         }
@@ -183,11 +146,7 @@ module _ (tower table nodes : List ℕ) (lines count : ℕ) (area index : List �
           filled = grown .filled;
           indexed = grown .indexed;
           room = omega (arith, walking .room);
-          same = λ h.
-              ap₂ (λ z k. found tower table (h .book) (1001 - (i + 1)) z (drop k z)) (grown .done few h) (add-one i)
-              ∙ ap (found tower table (h .book) (1001 - (i + 1)) (seen ++ new (h .book)))
-              (drop-append-le (suc i) seen (new (h .book)) (omega (arith, all-seen)))
-              ∙ turned h;
+          same = λ h. ap (λ z. found tower table (h .book) (1001 - (i + 1)) z (drop (i + 1) z)) (grown .done few h) ∙ turned h;
           broke = λ h.
               grown .broke few h
               ∙ ap₂ _||_ (walking .broke h) (sym (or-false (breaks (tower-of tower) (h .book) (table-of table) v)))
@@ -204,53 +163,21 @@ items-one : (count : ℕ) (area : List ℕ) → items-of count area 1 ≡ item-o
 unfolding items-of entries-of below count-from
 items-one count area = refl
 
--- Every byte of a cleared area is 0.
-blank-byte : (size p : ℕ) → _≡_ {A = ℕ} (getD (replicate size 0) p 0) 0
-blank-byte size p = elim (decLt p size) [
-  | yes l ↦ getD-replicate size p 0 0 l
-  | no l ↦ List·getD-eq-default (replicate size 0) 0 (omega (arith, length-replicate {A = ℕ} size 0))
-]
-
-module _ (tower table nodes : List ℕ) (lines count size : ℕ) (area : List ℕ) (world : Walkable tower table nodes lines count) (large : 62062 ≤ size) where
-  module _ (begun : Begun nodes lines count (replicate size 0) 2 area) where
-    still-blank : (p : ℕ) → (p < 2) ⊎ (2 + count ≤ p) → byte-at area p ≡ 0
-    still-blank p side = beside-byte (replicate size 0) 2 count area (begun .beside) p side ∙ blank-byte size p
-
-    first-row : entry-row area 0 ≡ 0
-    unfolding number-at
-    first-row = row-of-entry area 0 ∙ omega (arith, still-blank 0 (inl (omega arith)), still-blank 1 (inl (omega arith)))
-
-    pub begun-size : 62062 ≤ length area
-    begun-size = omega (arith, begun .beside .size, length-replicate {A = ℕ} size 0)
-
-    pub begun-started : Started table nodes lines count area
-    begun-started =
-        record {
-          filled =
-              record {
-                size = begun-size;
-                rows = λ j l.
-                    let e : j ≡ 0 = omega arith in
-                    rw (e, first-row) (laid-out-known table (world .files .layout) .header .a-row);
-                blank = record { zeros = λ j p l m. still-blank (62 * j + p) (inr (omega arith)) };
-              };
-          first = λ h. items-one count area ∙ ap (λ z. z ∷ []) (item h);
-        }
-      where
-        item : (h : IsHeld nodes lines count) → item-of count (entry-at area 0) ≡ first-item (h .book)
-        item h = unfold item-of first-item in
-            (ap₂ (λ r p. record { row = r; pending = p }) first-row
-            (ap pending-of (part-of-entry area 0 count (world .few))
-            ∙ begun-is nodes lines count (replicate size 0) 2 area (h .book) begun (h .held)))
-
--- ---- the same, for areas that were cleared
-
-module _ (tower table nodes : List ℕ) (lines count size : ℕ) (clear area : List ℕ) (cleared : clear ≡ replicate size 0)
-    (world : Walkable tower table nodes lines count) (large : 62062 ≤ size) where
-  pub start-ready : Begun nodes lines count clear 2 area → Started table nodes lines count area
-  start-ready begun =
-      begun-started tower table nodes lines count size area world large
-      (subst (λ z. Begun nodes lines count z 2 area) cleared begun)
-
-pub index-ready : (entries index : List ℕ) (size : ℕ) → index ≡ replicate size 0 → Indexed entries index 0
-index-ready entries index size e = rw e (indexed-cleared entries size)
+pub start-ready : (tower table nodes : List ℕ) (lines count : ℕ) (area : List ℕ) → Walkable tower table nodes lines count
+    → First nodes lines count 0 area → Started table nodes lines count area
+start-ready tower table nodes lines count area world first =
+    record {
+      filled =
+          record {
+            size = first .size;
+            rows = λ j l.
+                let e : j ≡ 0 = omega arith in
+                rw (e, first .number-is) (laid-out-known table (world .files .layout) .header .a-row);
+            blank = first .blank;
+          };
+      first = λ h. items-one count area ∙ ap (λ z. z ∷ []) (item h);
+    }
+  where
+    item : (h : IsHeld nodes lines count) → item-of count (entry-at area 0) ≡ first-item (h .book)
+    item h = unfold item-of first-item in
+        (ap₂ (λ r p. record { row = r; pending = p }) (first .number-is) (first .says (h .book) (h .held)))

@@ -1,14 +1,12 @@
--- Items as entries of a lent area, and what the functions of the walk promise. An entry holds the row in two bytes, then a byte for each
--- node of the book; the bytes behind them stay zero, so that equal items are equal entries.
-use Prim.Native.Nat.{ℕ, _+_, _*_, _≤_, _<_}
+-- Items as entries of a lent area, and what the functions of the walk promise. The number of an entry is the row.
+use Prim.Native.Nat.{ℕ, _+_, _≤_, _<_}
 use mathlib.Core.Path.{_≡_}
 use mathlib.Core.Bool.{Bool, true, false, _||_}
 use mathlib.Core.Option.{Option, none, some}
 use mathlib.Core.List.{List, [], _∷_, _++_, map}
 use lib.ListN.{length}
 use Rattle.base.specs.Choice.{pick}
-use Rattle.base.specs.Lists.{some-of}
-use Rattle.base.specs.Bytes.{byte-at, number-at}
+use Rattle.base.specs.Bytes.{number-at}
 use Rattle.base.specs.Search.{new-ones}
 use Rattle.base.specs.Answers.{Answer, refuse, give}
 use Rattle.base.specs.declared.Reason.the-variants as Why
@@ -20,8 +18,8 @@ use Rattle.reading.specs.TableReading.{rows-of, row-first, row-count, step-targ
 use Rattle.outcome.specs.Check.{Item, same-item, first-item, item-pending, item-at, item-followers, over-items, breaks, some-broken}
 use Rattle.progression.specs.PendingBytes.{pending-of, part}
 use Rattle.progression.specs.NodeBytes.{IsHeld}
-use Rattle.progression.specs.Contracts.{Beside}
-use Rattle.entry_index.specs.Entries.{entry-size, entries-size, entry-at, entries-of, Indexed}
+use Rattle.entry_index.specs.Entries.{entries-size, entry-at, entries-of, Indexed}
+use Rattle.pending_entries.specs.PendingEntries.{entry-number, Blank}
 use Rattle.row_judge.specs.RowVerdict.{Judgeable}
 use Rattle.item_walk.specs.declared.WalkEnd.{WalkEnd}
 use Rattle.item_walk.specs.declared.WalkEnd.the-variants.{TooMany, Broken, Whole}
@@ -37,18 +35,10 @@ item-of count entry = record { row = number-at 2 entry 0; pending = pending-of (
 unfoldable pub items-of : ℕ → List ℕ → ℕ → List Item
 items-of count area n = map (item-of count) (entries-of area n)
 
--- the row of entry i
-abbrev pub entry-row : List ℕ → ℕ → ℕ
-entry-row area i = number-at 2 (entry-at area i) 0
-
--- In every entry the bytes behind the nodes' are zero.
-pub record Blank (count : ℕ) (area : List ℕ) : Type 0 where
-  pub zeros : (j p : ℕ) → 2 + count ≤ p → p < entry-size → byte-at area (entry-size * j + p) ≡ 0
-
 -- There is room for all entries, the first n are rows of the table, and the rest of every entry is blank.
 pub record Filled (table : List ℕ) (count : ℕ) (area : List ℕ) (n : ℕ) : Type 0 where
   pub size : entries-size ≤ length area
-  pub rows : (j : ℕ) → j < n → entry-row area j < rows-of table
+  pub rows : (j : ℕ) → j < n → entry-number area j < rows-of table
   pub blank : Blank count area
 
 -- The files of a tower and a table, and the area of a book.
@@ -64,11 +54,6 @@ pub record StepOf (table : List ℕ) (r s : ℕ) : Type 0 where
 
 -- ---- one step
 
--- The row is written into entry n.
-pub record RowPut (area : List ℕ) (n row : ℕ) (after : List ℕ) : Type 0 where
-  pub beside : Beside area (entry-size * n) 2 after
-  pub number : number-at 2 after (entry-size * n) ≡ row
-
 -- the item that step s of the file leads to from v; nothing if it is broken
 unfoldable pub follower : Tower → Book → List ℕ → Item → ℕ → Option Item
 follower tower book table v s = item-at (step-target table s) (item-pending tower book (table-of table) v (step-of table s))
@@ -82,15 +67,9 @@ item-read false v = none
 pub record Followed (b : Bool) (tower table nodes : List ℕ) (lines count : ℕ) (area : List ℕ) (i s n : ℕ) (after : List ℕ) : Type 0 where
   pub filled : Filled table count after n
   pub kept : (j : ℕ) → j < n → entry-at after j ≡ entry-at area j
-  pub row : b ≡ true → entry-row after n < rows-of table
+  pub row : b ≡ true → entry-number after n < rows-of table
   pub says : (h : IsHeld nodes lines count)
       → follower (tower-of tower) (h .book) table (item-of count (entry-at area i)) s ≡ item-read b (item-of count (entry-at after n))
-
--- Entry n is one of the first m items, and m is n if it was one of the first n.
-pub record Noted (m : ℕ) (area : List ℕ) (n : ℕ) (index : List ℕ) : Type 0 where
-  pub indexed : Indexed area index m
-  pub says : (count : ℕ) → count ≤ 60 → Blank count area
-      → m ≡ pick (some-of (same-item (item-of count (entry-at area n))) (items-of count area n)) (λ _. n) (λ _. n + 1)
 
 -- ---- the walk
 

@@ -1,11 +1,11 @@
 // The second part of the checker (01, 'Why a call is turned down', 11 and 14 e): the walk over items,
-// which are rows with what is pending there. An item is an entry of the lent area: its row in two
-// bytes, then a byte for each node of the book (specs/Items.antt).
-ghost use Prim.Native.Nat.{_+_, _*_, _<_, _≤_};
-ghost use mathlib.Core.Path.{_≡_};
-ghost use lib.ListN.{length, replicate};
-ghost use Rattle.entry_index.specs.Entries.{entry-size, most-entries, entries-size, index-size, Indexed};
-ghost use Rattle.item_walk.specs.Items.{entry-row, Walkable, Filled, RowPut, StepOf, Followed, Noted, Grown, Started, Walked};
+// which are rows with what is pending there. An item is an entry of the lent area: its row, then what
+// is pending (specs/Items.antt).
+ghost use Prim.Native.Nat.{_<_, _≤_};
+ghost use lib.ListN.{length};
+ghost use Rattle.entry_index.specs.Entries.{most-entries, entries-size, index-size, Indexed};
+ghost use Rattle.pending_entries.specs.PendingEntries.{entry-number};
+ghost use Rattle.item_walk.specs.Items.{Walkable, Filled, StepOf, Followed, Grown, Started, Walked};
 
 // How a walk ends: over 1,000 items; some step is broken; or none is.
 pub enum WalkEnd {
@@ -23,40 +23,8 @@ pub struct Expanded {
 // The most items.
 const MOST: usize = 1000;
 
-// The bytes of an item, and where its pending part begins.
-const ENTRY_SIZE: usize = 62;
-
-const PENDING: usize = 2;
-
-// Every byte is zero.
-pub fn clear(area: &mut [u8])
-    ensures { λ _. ⌜ now (area .exit) ≡ replicate (length (now (area .entry))) 0 ⌝ }
-{
-    let n = area.len();
-    let mut i = 0;
-    while i < n {
-        area[i] = 0;
-        i += 1;
-    }
-}
-
-// The row of item i.
-fn row_of(items: &[u8], i: usize) -> usize
-    requires { ⌜ entry-size * i + entry-size ≤ length (now items) ⌝ }
-    ensures { λ r. ⌜ r ≡ entry-row (now (items .entry)) i ⌝ }
-{
-    items[ENTRY_SIZE * i] as usize + 256 * (items[ENTRY_SIZE * i + 1] as usize)
-}
-
-// Writes the row of item n.
-fn put_row(items: &mut [u8], n: usize, row: usize)
-    requires { ⌜ entry-size * n + entry-size ≤ length (now items) ⌝ }
-    requires { ⌜ row < 65536 ⌝ }
-    ensures { λ _. ⌜ RowPut (now (items .entry)) n row (now (items .exit)) ⌝ }
-{
-    items[ENTRY_SIZE * n] = (row % 256) as u8;
-    items[ENTRY_SIZE * n + 1] = (row / 256 % 256) as u8;
-}
+// The row of the first item.
+const FIRST_ROW: usize = 0;
 
 // Step s of the row of item i: the item that it leads to is written as entry n. False if the step is
 // broken; then entry n is of no use.
@@ -75,35 +43,14 @@ fn follow(
     requires { ⌜ Filled (now table) count (now items) n ⌝ }
     requires { ⌜ i < n ⌝ }
     requires { ⌜ n ≤ most-entries ⌝ }
-    requires { ⌜ StepOf (now table) (entry-row (now items) i) s ⌝ }
+    requires { ⌜ StepOf (now table) (entry-number (now items) i) s ⌝ }
     ensures { λ b. ⌜ Followed b (now (tower .entry)) (now (table .entry)) (now (nodes .entry)) lines count (now (items .entry)) i s n (now (items .exit)) ⌝ }
 {
-    let x = table_reader::row_state(table, row_of(items, i));
+    let x = table_reader::row_state(table, pending_entries::number(items, i));
     let d = tower_reader::step_length(tower, x, table_reader::step_action(table, s));
     let mask = tower_reader::mask(tower, x);
-    let from = ENTRY_SIZE * i + PENDING;
-    let to = ENTRY_SIZE * n + PENDING;
-    if !progression::progressed(nodes, lines, count, mask, d, items, from, to) {
-        return false;
-    }
-    put_row(items, n, table_reader::step_target(table, s));
-    true
-}
-
-// How many items there are with entry n: one more than n if it is new.
-fn note(items: &[u8], index: &mut [u8], n: usize) -> usize
-    requires { ⌜ Indexed (now items) (now index) n ⌝ }
-    requires { ⌜ n ≤ most-entries ⌝ }
-    requires { ⌜ entries-size ≤ length (now items) ⌝ }
-    requires { ⌜ index-size ≤ length (now index) ⌝ }
-    ensures { λ m. ⌜ Noted m (now (items .entry)) n (now (index .exit)) ⌝ }
-{
-    let found = entry_index::find(items, index, n);
-    if found < n {
-        return n;
-    }
-    entry_index::add(items, index, n);
-    n + 1
+    let target = table_reader::step_target(table, s);
+    pending_entries::follow(nodes, lines, count, mask, d, items, i, target, n)
 }
 
 // Every step of item i is followed. Where the items become too many it stops with 1,001 of them.
@@ -127,7 +74,7 @@ fn expand(
     requires { ⌜ met ≤ most-entries ⌝ }
     ensures { λ out. ⌜ Grown out (now (tower .entry)) (now (table .entry)) (now (nodes .entry)) lines count (now (items .entry)) i met broken (now (items .exit)) (now (index .exit)) ⌝ }
 {
-    let row = row_of(items, i);
+    let row = pending_entries::number(items, i);
     let end = table_reader::row_first(table, row) + table_reader::row_count(table, row);
     let mut s = table_reader::row_first(table, row);
     let mut n = met;
@@ -136,7 +83,8 @@ fn expand(
         let at = s;
         s += 1;
         if follow(tower, table, nodes, lines, count, items, i, at, n) {
-            n = note(items, index, n);
+            let place = pending_entries::note(items, index, n);
+            n = place.met;
             if MOST < n {
                 return Expanded {
                     met: n,
@@ -215,9 +163,8 @@ pub fn walk(
     requires { ⌜ index-size ≤ length (now index) ⌝ }
     ensures { λ r. ⌜ Walked r (now (tower .entry)) (now (table .entry)) (now (nodes .entry)) lines count ⌝ }
 {
-    clear(items);
-    clear(index);
-    progression::begin(nodes, lines, count, items, PENDING);
+    pending_entries::begin(nodes, lines, count, FIRST_ROW, items);
+    lent_bytes::clear(index);
     entry_index::add(items, index, 0);
     walk_on(tower, table, nodes, lines, count, items, index)
 }

@@ -37,7 +37,8 @@ use Rattle.book_reader.proofs.BookHeld.{BookHeld, book-held}
 use Rattle.pair_graph.specs.Graph.{Classes}
 use Rattle.pair_graph.specs.Steps.{graph-of, kept-in, class-in, cell, action-room}
 use Rattle.pair_graph.specs.GraphTable.{graph-table}
-use Rattle.pair_search.specs.Explored.{found, Explorable, Explored}
+use Rattle.pending_entries.specs.PendingEntries.{TowerWithBook}
+use Rattle.pair_search.specs.Explored.{found, Explored}
 use Rattle.pair_search.specs.declared.Found.{Found}
 use Rattle.pair_search.specs.declared.Found.the-variants.{TooMany, Met}
 use Rattle.removal.specs.Removal.{Removed}
@@ -220,7 +221,7 @@ module _ (tower nodes : List ℕ) (lines count : ℕ) (entries steps : List ℕ)
 
   module _ (n : ℕ) (is : r ≡ Met n) where
     -- The areas hold the pairs.
-    pub pairs-met : (nodes₁ pairs₁ index₁ steps₁ flags classes : List ℕ) → Explorable tower nodes lines count
+    pub pairs-met : (nodes₁ pairs₁ index₁ steps₁ flags classes : List ℕ) → TowerWithBook tower nodes lines count
         → Room nodes₁ pairs₁ index₁ steps₁ flags classes → length entries ≡ length pairs₁ → PairsMet tower entries steps flags classes n
     pairs-met nodes₁ pairs₁ index₁ steps₁ flags classes world room same =
         let held = explored .pairs-held n is in
@@ -272,7 +273,7 @@ module _ (tower text nodes : List ℕ) (marks : ℕ) (a : BookAnswer) (lines cou
   here : BookHeld marks text nodes lines count
   here = book-held marks text nodes a lines count (marks-few tower marks fit at-marks) answers is
 
-  pub book-known : Explorable tower nodes lines count
+  pub book-known : TowerWithBook tower nodes lines count
   book-known = record { fit = fit; held = here .held; few = here .few }
 
   -- The table decides.

@@ -6,7 +6,7 @@ ghost use lib.ListN.{length};
 ghost use Rattle.logic.specs.Tower.{FitTower, tower-of};
 ghost use Rattle.outcome.specs.Make.{made-file};
 ghost use Rattle.pair_graph.specs.Steps.{kept-in};
-ghost use Rattle.pair_search.specs.Explored.{Explorable};
+ghost use Rattle.pending_entries.specs.PendingEntries.{TowerWithBook};
 ghost use Rattle.maker.specs.Making.{made-book, Ends, lengths-right, Room, PairsMet, KeptWritten, RowsMade, TableMade, AllCleared, Makes};
 use base::BookAnswer;
 use base::MakeAnswer;
@@ -96,7 +96,7 @@ fn make_table(
     flags: &mut [u8],
     classes: &mut [u8],
 ) -> MakeAnswer
-    requires { ⌜ Explorable (now tower) (now nodes) lines count ⌝ }
+    requires { ⌜ TowerWithBook (now tower) (now nodes) lines count ⌝ }
     requires { ⌜ Room (now nodes) (now pairs) (now index) (now steps) (now flags) (now classes) ⌝ }
     ensures { λ r. ⌜ TableMade r (now (tower .entry)) (now (nodes .entry)) lines count (now (out .entry)) (now (out .exit)) ⌝ }
 {

@@ -4,7 +4,7 @@ use native.Mathlib.Omega.{arith}
 use mathlib.Core.Path.{_≡_, refl, sym, _∙_, ap, ap₂}
 use mathlib.Core.Option.{some}
 use mathlib.Core.List.{List, [], _∷_}
-use lib.ListN.{length, getD, drop, replicate}
+use lib.ListN.{length, getD, drop}
 use borrow.Author.Tests.{lt-ltb, le-ltb}
 use Rattle.base.specs.Lists.{below, count-from}
 use Rattle.base.specs.Search.{search-on, search-from}
@@ -14,14 +14,13 @@ use Rattle.pending.specs.Pairs.{Pair, same-pair, most-pairs, first-pair, pair-s
 use Rattle.progression.specs.NodeBytes.{IsHeld}
 use Rattle.tower_reader.proofs.Laws.{fit-bounds, start-within}
 use Rattle.entry_index.specs.Entries.{entries-of, Indexed}
-use Rattle.entry_index.proofs.Laws.{indexed-cleared}
-use Rattle.pending_entries.specs.PendingEntries.{First}
+use Rattle.pending_entries.specs.PendingEntries.{First, TowerWithBook}
 use Rattle.pending_entries.proofs.Entries.{number-of-entry}
 use Rattle.pending_entries.proofs.Turns.{search-next, search-end, search-over}
 use Rattle.pair_graph.specs.Graph.{Move, to}
 use Rattle.pair_graph.specs.Steps.{action-room, cell, move-at, graph-of}
 use Rattle.made_graph.specs.GraphOf.{numbered, SaysStep, says-not-enabled, says-broken, says-to}
-use Rattle.pair_search.specs.Explored.{found, HoldsPairs, Explored, pair-of, pairs-of, pair-in, Explorable, Filled, SaysMove, moves-not, moves-broken, moves-to, RightCells, with-new, Grown, Started}
+use Rattle.pair_search.specs.Explored.{found, HoldsPairs, Explored, pair-of, pairs-of, pair-in, Filled, SaysMove, moves-not, moves-broken, moves-to, RightCells, with-new, Grown, Started}
 use Rattle.pair_search.specs.declared.Found.the-variants.{TooMany, Met}
 use Rattle.pair_search.proofs.PairEntries.{pairs-length, pairs-at, getD-there, state-of-pair}
 
@@ -112,7 +111,7 @@ module _ (tower nodes : List ℕ) (lines count : ℕ) (area index steps : List �
 
   -- ---- the end
 
-  module _ (world : Explorable tower nodes lines count) (l : n ≤ i) where
+  module _ (world : TowerWithBook tower nodes lines count) (l : n ≤ i) where
     -- All pairs are expanded: they are what the search finds.
     all-found : (h : IsHeld nodes lines count) → pairs (tower-of tower) (h .book) ≡ pairs-of count area n
     all-found h =
@@ -187,11 +186,11 @@ pairs-one : (count : ℕ) (area : List ℕ) → pairs-of count area 1 ≡ pair-i
 unfolding pairs-of entries-of below count-from
 pairs-one count area = refl
 
-pub start-small : (tower nodes : List ℕ) (lines count x : ℕ) → x ≡ tower-of tower .start → Explorable tower nodes lines count → x < 65536
+pub start-small : (tower nodes : List ℕ) (lines count x : ℕ) → x ≡ tower-of tower .start → TowerWithBook tower nodes lines count → x < 65536
 start-small tower nodes lines count x e world =
     omega (arith, start-within tower x (world .fit) e, fit-bounds (world .fit) .states-most)
 
-pub start-ready : (tower nodes : List ℕ) (lines count x : ℕ) (area : List ℕ) → x ≡ tower-of tower .start → Explorable tower nodes lines count
+pub start-ready : (tower nodes : List ℕ) (lines count x : ℕ) (area : List ℕ) → x ≡ tower-of tower .start → TowerWithBook tower nodes lines count
     → First nodes lines count x area → Started tower nodes lines count area
 start-ready tower nodes lines count x area e world first =
     record {
@@ -209,6 +208,3 @@ start-ready tower nodes lines count x area e world first =
     pair : (h : IsHeld nodes lines count) → pair-in count area 0 ≡ first-pair (tower-of tower) (h .book)
     pair h = unfold pair-of first-pair in
         (ap₂ (λ r p. record { state = r; pending = p }) (first .number-is ∙ e) (first .says (h .book) (h .held)))
-
-pub index-ready : (entries index : List ℕ) (size : ℕ) → index ≡ replicate size 0 → Indexed entries index 0
-index-ready entries index size e = rw e (indexed-cleared entries size)

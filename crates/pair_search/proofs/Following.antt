@@ -15,7 +15,7 @@ use Rattle.logic.specs.Tower.{tower-of, mask-of}
 use Rattle.logic.specs.Book.{Book}
 use Rattle.logic.specs.declared.Tick.{Tick}
 use Rattle.pending.specs.Pending.{progressed}
-use Rattle.pending.specs.Pairs.{Pair, pair-at, pair-step}
+use Rattle.pending.specs.Pairs.{Pair, same-pair, pair-at, pair-step}
 use Rattle.progression.specs.PendingBytes.{pending-of, outcome}
 use Rattle.progression.specs.NodeBytes.{IsHeld}
 use Rattle.progression.proofs.Callers.{mask-marks}
@@ -26,13 +26,13 @@ use Rattle.tower_reader.proofs.Laws.{fit-bounds, state-reached, none-reached, r
 use Rattle.lent_bytes.proofs.Numbers.{stored, stored-read, stored-beside}
 use Rattle.entry_index.specs.Entries.{entry-at, Indexed}
 use Rattle.entry_index.proofs.Laws.{indexed-same}
-use Rattle.pending_entries.specs.PendingEntries.{entry-number, entry-cells, Entered, Noted}
+use Rattle.pending_entries.specs.PendingEntries.{entry-number, entry-cells, Entered, Noted, with-one, TowerWithBook}
 use Rattle.pending_entries.specs.declared.Place.{Place}
 use Rattle.pair_graph.specs.Graph.{Move, to}
 use Rattle.pair_graph.specs.Steps.{action-room, move-of, cell, move-at}
-use Rattle.pair_search.specs.Explored.{pair-of, pairs-of, pair-in, Explorable, Filled, with-one, SaysMove, moves-not, moves-broken, moves-to, Followed, RightCells, Stepped}
+use Rattle.pair_search.specs.Explored.{pair-of, pairs-of, pair-in, Filled, SaysMove, moves-not, moves-broken, moves-to, Followed, RightCells, Stepped}
 use Rattle.pair_search.specs.declared.Led.{Led}
-use Rattle.pair_search.proofs.PairEntries.{pairs-same, state-of-pair, place-equal, noted-pairs}
+use Rattle.pair_search.proofs.PairEntries.{pairs-same, state-of-pair, noted-pairs}
 
 -- ---- what the callees of `follow` want
 
@@ -44,12 +44,15 @@ pub state-inside : (tower : List ℕ) (count : ℕ) (area : List ℕ) (i n x : �
     → x < tower-of tower .states
 state-inside tower count area i n x e filled low = rw e (filled .states i low)
 
-pub target-small : (tower nodes : List ℕ) (lines count : ℕ) (area : List ℕ) (i n x a y : ℕ) (r : Reached) → r ≡ State y
-    → r ≡ target-read (tower-of tower .target x a) → x ≡ entry-number area i → Explorable tower nodes lines count → Filled tower count area n → i < n
-    → y < 65536
-target-small tower nodes lines count area i n x a y r f e at-x world filled low =
-    let inside = state-inside tower count area i n x at-x filled low in
-    omega (arith, reached-within tower x a y r (world .fit) inside e f, fit-bounds (world .fit) .states-most)
+pub target-inside : (tower nodes : List ℕ) (lines count : ℕ) (area : List ℕ) (i n x a y : ℕ) (r : Reached) → r ≡ State y
+    → r ≡ target-read (tower-of tower .target x a) → x ≡ entry-number area i → TowerWithBook tower nodes lines count → Filled tower count area n → i < n
+    → y < tower-of tower .states
+target-inside tower nodes lines count area i n x a y r f e at-x world filled low =
+    reached-within tower x a y r (world .fit) (state-inside tower count area i n x at-x filled low) e f
+
+-- A state's number takes two bytes at most.
+pub state-small : (tower nodes : List ℕ) (lines count y : ℕ) → TowerWithBook tower nodes lines count → y < tower-of tower .states → y < 65536
+state-small tower nodes lines count y world inside = omega (arith, fit-bounds (world .fit) .states-most)
 
 -- The index is still that of the entries before n.
 pub still-indexed : (b : Bool) (nodes : List ℕ) (lines count mask : ℕ) (d : Tick) (area : List ℕ) (i y n : ℕ) (after index : List ℕ)
@@ -59,17 +62,17 @@ still-indexed b nodes lines count mask d area i y n after index entered indexed 
 
 -- ---- the ways of `follow`
 
-module _ (tower nodes : List ℕ) (lines count : ℕ) (area index : List ℕ) (i a n x : ℕ) (r : Reached)
+module _ (tower nodes : List ℕ) (lines count : ℕ) (area : List ℕ) (i a n x : ℕ) (r : Reached)
     (filled : Filled tower count area n) (at-x : x ≡ entry-number area i) (at-r : r ≡ target-read (tower-of tower .target x a)) where
   -- where the action leads
   leads : (o : Option ℕ) → tower-of tower .target x a ≡ o → tower-of tower .target (pair-in count area i .state) a ≡ o
   leads o e = ap (λ z. tower-of tower .target z a) (state-of-pair count area i ∙ sym at-x) ∙ e
 
   -- The action is not enabled.
-  pub follow-not : Indexed area index n → r ≡ NotEnabled
+  pub follow-not : (index : List ℕ) → Indexed area index n → r ≡ NotEnabled
       → Followed (record { code = 0; met = n }) tower nodes lines count area i a n area index
   unfolding with-one pair-step bind move-of
-  follow-not indexed is =
+  follow-not index indexed is =
       record {
         least = omega arith;
         most = omega arith;
@@ -84,8 +87,8 @@ module _ (tower nodes : List ℕ) (lines count : ℕ) (area index : List ℕ) (i
       nowhere : tower-of tower .target (pair-in count area i .state) a ≡ none
       nowhere = leads none (none-reached (tower-of tower .target x a) r at-r is)
 
-  module _ (y mask : ℕ) (d : Tick) (b : Bool) (after : List ℕ) (is : r ≡ State y) (at-d : d ≡ tower-of tower .step-length x a)
-      (at-mask : mask ≡ mask-of tower x) (entered : Entered b nodes lines count mask d area i y n after) where
+  module _ (y number mask : ℕ) (d : Tick) (b : Bool) (after : List ℕ) (is : r ≡ State y) (at-d : d ≡ tower-of tower .step-length x a)
+      (at-mask : mask ≡ mask-of tower x) (entered : Entered b nodes lines count mask d area i number n after) where
     goes : tower-of tower .target (pair-in count area i .state) a ≡ some y
     goes = leads (some y) (state-reached (tower-of tower .target x a) r y at-r is)
 
@@ -98,7 +101,7 @@ module _ (tower nodes : List ℕ) (lines count : ℕ) (area index : List ℕ) (i
     step-pending h =
         ap (λ z. progressed (tower-of tower) (h .book) z (tower-of tower .step-length z a) (pending-of (entry-cells count area i))) (sym at-x)
         ∙ ap (λ z. progressed (tower-of tower) (h .book) x z (pending-of (entry-cells count area i))) (sym at-d)
-        ∙ subst (λ z. Entered b nodes lines count z d area i y n after) at-mask entered .says (h .book) (h .held) (mask-marks tower x)
+        ∙ subst (λ z. Entered b nodes lines count z d area i number n after) at-mask entered .says (h .book) (h .held) (mask-marks tower x)
 
     -- the pair that it leads to
     step-pair : (h : IsHeld nodes lines count)
@@ -115,14 +118,14 @@ module _ (tower nodes : List ℕ) (lines count : ℕ) (area index : List ℕ) (i
         }
 
     -- The step is broken.
-    pub follow-broken : Indexed area index n → b ≡ false → Followed (record { code = 1; met = n }) tower nodes lines count area i a n after index
+    pub follow-broken : (index : List ℕ) → Indexed area index n → b ≡ false → Followed (record { code = 1; met = n }) tower nodes lines count area i a n after index
     unfolding with-one move-of
-    follow-broken indexed f =
+    follow-broken index indexed f =
         record {
           least = omega arith;
           most = omega arith;
           filled = still-filled;
-          indexed = still-indexed b nodes lines count mask d area i y n after index entered indexed;
+          indexed = still-indexed b nodes lines count mask d area i number n after index entered indexed;
           kept = entered .kept;
           small = omega arith;
           grown = λ h. pairs-same count after area n (entered .kept) ∙ sym (rw (nothing h));
@@ -136,8 +139,8 @@ module _ (tower nodes : List ℕ) (lines count : ℕ) (area index : List ℕ) (i
         nothing h = step-pair h ∙ none-at b f
 
     -- It leads to entry n.
-    module _ (later : List ℕ) (out : Place) (world : Explorable tower nodes lines count) (low : i < n) (f : b ≡ true)
-        (noted : Noted out after n later) where
+    module _ (later : List ℕ) (out : Place) (world : TowerWithBook tower nodes lines count) (low : i < n) (f : b ≡ true)
+        (noted : Noted out after n later) (same : number ≡ y) where
       leads-here : (h : IsHeld nodes lines count) → pair-step (tower-of tower) (h .book) (pair-in count area i) a ≡ some (pair-in count after n)
       leads-here h = step-pair h ∙ some-at b f
         where
@@ -145,7 +148,7 @@ module _ (tower nodes : List ℕ) (lines count : ℕ) (area index : List ℕ) (i
           some-at c e =
               unfold pair-at outcome pair-of in
               (ap (λ z. pair-at y (outcome z (entry-cells count after n))) e
-              ∙ ap (λ z. some (record { state = z; pending = pending-of (entry-cells count after n) })) (sym (entered .number-is f)))
+              ∙ ap (λ z. some (record { state = z; pending = pending-of (entry-cells count after n) })) (sym (entered .number-is f ∙ same)))
 
       pub follow-to : n ≤ 1000 → Followed (record { code = out .at + 2; met = out .met }) tower nodes lines count area i a n after later
       follow-to most =
@@ -159,8 +162,8 @@ module _ (tower nodes : List ℕ) (lines count : ℕ) (area index : List ℕ) (i
                     | yes k ↦ still-filled .states j k
                     | no k ↦ (
                         let e : j ≡ n = omega (arith, noted .most) in
-                        rw (e, entered .number-is f)
-                        (reached-within tower x a y r (world .fit) (state-inside tower count area i n x at-x filled low) at-r is))
+                        rw (e, entered .number-is f, same)
+                        (target-inside tower nodes lines count area i n x a y r is at-r at-x world filled low))
                   ];
                   blank = still-filled .blank;
                 };
@@ -169,11 +172,11 @@ module _ (tower nodes : List ℕ) (lines count : ℕ) (area index : List ℕ) (i
             small = omega (arith, noted .inside, noted .most);
             grown = λ h.
                 noted-pairs count (world .few) after n later out (still-filled .blank) noted
-                ∙ ap (λ z. with-one z (some (pair-in count after n))) (pairs-same count after area n (entered .kept))
-                ∙ ap (with-one (pairs-of count area n)) (sym (leads-here h));
+                ∙ ap (λ z. with-one same-pair z (some (pair-in count after n))) (pairs-same count after area n (entered .kept))
+                ∙ ap (with-one same-pair (pairs-of count area n)) (sym (leads-here h));
             says = λ h. subst (λ z. SaysMove (tower-of tower) (h .book) count after (out .met) (pair-in count area i) a z) (sym (move-more (out .at)))
                 (moves-to (out .at) (noted .inside)
-                (leads-here h ∙ ap some (sym (place-equal count (world .few) after n later out (still-filled .blank) noted))));
+                (leads-here h ∙ ap some (ap (pair-of count) (sym (noted .equal)))));
           }
         where
           move-more : (j : ℕ) → move-of (j + 2) ≡ to j
@@ -181,7 +184,7 @@ module _ (tower nodes : List ℕ) (lines count : ℕ) (area index : List ℕ) (i
 
 -- ---- the cell
 
-module _ (tower nodes : List ℕ) (lines count i a n : ℕ) (world : Explorable tower nodes lines count) (listed : a < tower-of tower .actions)
+module _ (tower nodes : List ℕ) (lines count i a n : ℕ) (world : TowerWithBook tower nodes lines count) (listed : a < tower-of tower .actions)
     (low : i < n) (most : n ≤ 1000) where
   pub cell-number-fits : Fits w64 (16 * i + a)
   cell-number-fits = omega (arith, fit-bounds (world .fit) .actions-most)
@@ -202,7 +205,7 @@ says-still tower book count area n v a after m l kept _ (moves-to j k e) =
     moves-to j (omega arith) (e ∙ ap (λ z. some (pair-of count z)) (sym (kept j k)))
 
 module _ (tower nodes : List ℕ) (lines count : ℕ) (area : List ℕ) (i a n : ℕ) (steps after index after-steps : List ℕ) (out : Led)
-    (world : Explorable tower nodes lines count) (listed : a < tower-of tower .actions) (low : i < n) (most : n ≤ 1000) (room : 32000 ≤ length steps)
+    (world : TowerWithBook tower nodes lines count) (listed : a < tower-of tower .actions) (low : i < n) (most : n ≤ 1000) (room : 32000 ≤ length steps)
     (cells : RightCells tower nodes lines count area n steps (16 * i + a))
     (followed : Followed out tower nodes lines count area i a n after index)
     (written : after-steps ≡ stored steps (2 * (16 * i + a)) (out .code)) where
@@ -247,8 +250,8 @@ module _ (tower nodes : List ℕ) (lines count : ℕ) (area : List ℕ) (i a n :
           subst (λ z. SaysMove (tower-of tower) (h .book) count after (out .met) (pair-in count after j) b z) (sym (cell-before j b m))
           (says-after h j b inside (move-at steps j b) (cells .says h j b l m))
       right h j b l k (no m) =
-          let same-pair : j ≡ i = omega (arith, fit-bounds (world .fit) .actions-most) in
+          let same-place : j ≡ i = omega (arith, fit-bounds (world .fit) .actions-most) in
           let same-action : b ≡ a = omega (arith, fit-bounds (world .fit) .actions-most) in
-          rw (same-pair, same-action, written-cell)
+          rw (same-place, same-action, written-cell)
           (subst (λ z. SaysMove (tower-of tower) (h .book) count after (out .met) z a (move-of (out .code)))
           (ap (pair-of count) (sym (followed .kept i low))) (followed .says h))

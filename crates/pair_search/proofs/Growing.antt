@@ -1,15 +1,10 @@
 -- The actions of a pair in turn: what is left of them decides what is new in the end.
-use Prim.Native.Nat.{ℕ, suc, _+_, _-_, _*_, _≤_, _<_}
+use Prim.Native.Nat.{ℕ, _+_, _-_, _*_, _≤_, _<_}
 use native.Mathlib.Omega.{arith}
-use native.Mathlib.Numerals.{add-one}
 use mathlib.Core.Path.{_≡_, refl, sym, _∙_, ap}
-use mathlib.Core.Bool.{Bool, true, false}
-use mathlib.Core.Option.{Option, none, some}
-use mathlib.Core.List.{List, [], _∷_, _++_, map}
+use mathlib.Core.List.{List, _++_, map, append-nil}
 use lib.ListN.{length, length-append}
-use lib.Seq.{append-snoc}
-use Rattle.base.specs.Choice.{pick}
-use Rattle.base.specs.Lists.{some-of, count-from, below, present}
+use Rattle.base.specs.Lists.{count-from, below, present}
 use Rattle.base.specs.Search.{new-ones}
 use Rattle.logic.specs.Tower.{Tower, tower-of}
 use Rattle.logic.specs.Book.{Book}
@@ -17,7 +12,9 @@ use Rattle.pending.specs.Pairs.{Pair, same-pair, pair-step, pair-followers}
 use Rattle.progression.specs.NodeBytes.{IsHeld}
 use Rattle.tower_reader.proofs.Laws.{fit-bounds}
 use Rattle.entry_index.specs.Entries.{entry-at, Indexed}
-use Rattle.pair_search.specs.Explored.{pair-of, pairs-of, pair-in, Explorable, Filled, with-one, RightCells, Stepped, with-new, Grown}
+use Rattle.pending_entries.specs.PendingEntries.{with-one, TowerWithBook}
+use Rattle.pending_entries.proofs.Seen.{numbers-cons, one-more}
+use Rattle.pair_search.specs.Explored.{pair-of, pairs-of, pair-in, Filled, RightCells, Stepped, with-new, Grown}
 use Rattle.pair_search.proofs.PairEntries.{pairs-length}
 
 -- ---- the actions by their numbers
@@ -25,25 +22,6 @@ use Rattle.pair_search.proofs.PairEntries.{pairs-length}
 -- what the actions from number a on lead to from v, as far as there are any
 abbrev led-to : Tower → Book → Pair → ℕ → ℕ → List Pair
 led-to tower book v a end = present (map (pair-step tower book v) (count-from a (end - a)))
-
--- The first of the numbers that are left, and the others.
-numbers-cons : (a end : ℕ) → a < end → count-from a (end - a) ≡ a ∷ count-from (a + 1) (end - (a + 1))
-unfolding count-from
-numbers-cons a end l =
-    let e : end - a ≡ suc (end - (a + 1)) = omega arith in
-    ap (count-from a) e ∙ ap (λ z. a ∷ count-from z (end - (a + 1))) (sym (add-one a))
-
--- One action: those seen with what is new, from here on.
-one-more : (seen : List Pair) (o : Option Pair) (os : List (Option Pair)) (all : List Pair) → all ≡ with-one seen o
-    → all ++ new-ones same-pair all (present os) ≡ seen ++ new-ones same-pair seen (present (o ∷ os))
-unfolding with-one present
-one-more seen none os all e = rw e
-one-more seen (some w) os all e = go (some-of (same-pair w) seen) refl e
-  where
-    go : (b : Bool) → some-of (same-pair w) seen ≡ b → all ≡ pick b (λ _. seen) (λ _. seen ++ (w ∷ []))
-        → all ++ new-ones same-pair all (present os) ≡ seen ++ new-ones same-pair seen (w ∷ present os)
-    go true t f = unfold new-ones in rw (t, f)
-    go false t f = unfold new-ones in rw (t, f) (append-snoc seen w (new-ones same-pair (seen ++ (w ∷ [])) (present os)))
 
 -- ---- the loop
 
@@ -98,7 +76,7 @@ module _ (tower nodes : List ℕ) (lines count : ℕ) (first : List ℕ) (i met 
   grow-listed l = omega (arith, g .last)
 
   -- No more actions are left.
-  pub grow-end : Explorable tower nodes lines count → end ≤ a → Grown n tower nodes lines count first i met area index steps
+  pub grow-end : TowerWithBook tower nodes lines count → end ≤ a → Grown n tower nodes lines count first i met area index steps
   unfolding count-from present new-ones
   grow-end world l =
       record {
@@ -114,10 +92,6 @@ module _ (tower nodes : List ℕ) (lines count : ℕ) (first : List ℕ) (i met 
       none-left : end - a ≡ 0
       none-left = omega arith
 
-      append-nil : (xs : List Pair) → xs ++ [] ≡ xs
-      append-nil [] = refl
-      append-nil (x ∷ xs) = ap (λ z. x ∷ z) (append-nil xs)
-
   module _ (m : ℕ) (after later later-steps : List ℕ) (l : a < end)
       (stepped : Stepped m tower nodes lines count area i a n after later later-steps) where
     grown-on : (h : IsHeld nodes lines count)
@@ -125,9 +99,9 @@ module _ (tower nodes : List ℕ) (lines count : ℕ) (first : List ℕ) (i met 
         ++ new-ones same-pair (pairs-of count after m) (led-to (tower-of tower) (h .book) (pair-in count first i) (a + 1) end)
         ≡ with-new (tower-of tower) (h .book) (pairs-of count first met) (pair-in count first i)
     grown-on h =
-        one-more (pairs-of count area n) (pair-step (tower-of tower) (h .book) (pair-in count first i) a)
+        one-more same-pair (pairs-of count area n) (pair-step (tower-of tower) (h .book) (pair-in count first i) a)
         (map (pair-step (tower-of tower) (h .book) (pair-in count first i)) (count-from (a + 1) (end - (a + 1)))) (pairs-of count after m)
-        (stepped .grown h ∙ ap (λ z. with-one (pairs-of count area n) (pair-step (tower-of tower) (h .book) (pair-of count z) a)) (g .entry))
+        (stepped .grown h ∙ ap (λ z. with-one same-pair (pairs-of count area n) (pair-step (tower-of tower) (h .book) (pair-of count z) a)) (g .entry))
         ∙ ap (λ z. pairs-of count area n
         ++ new-ones same-pair (pairs-of count area n) (present (map (pair-step (tower-of tower) (h .book) (pair-in count first i)) z)))
         (sym (numbers-cons a end l))

@@ -2,20 +2,19 @@
 -- for each node of the book; the bytes behind them stay zero, so that equal pairs are equal entries.
 use Prim.Native.Nat.{ℕ, _+_, _*_, _≤_, _<_}
 use mathlib.Core.Path.{_≡_}
-use mathlib.Core.Option.{Option, none, some}
+use mathlib.Core.Option.{none, some}
 use mathlib.Core.List.{List, [], _∷_, _++_, map}
 use lib.ListN.{length}
 use Rattle.base.specs.Choice.{pick}
 use Rattle.base.specs.Bytes.{number-at}
-use Rattle.base.specs.Lists.{some-of}
 use Rattle.base.specs.Search.{new-ones}
-use Rattle.logic.specs.Tower.{Tower, FitTower, tower-of}
+use Rattle.logic.specs.Tower.{Tower, tower-of}
 use Rattle.logic.specs.Book.{Book}
 use Rattle.pending.specs.Pairs.{Pair, same-pair, first-pair, pair-step, pair-followers, pairs, over-pairs}
 use Rattle.progression.specs.PendingBytes.{pending-of, part}
 use Rattle.progression.specs.NodeBytes.{IsHeld}
 use Rattle.entry_index.specs.Entries.{entries-size, entry-at, entries-of, Indexed}
-use Rattle.pending_entries.specs.PendingEntries.{entry-number, Blank}
+use Rattle.pending_entries.specs.PendingEntries.{entry-number, Blank, with-one}
 use Rattle.pair_graph.specs.Graph.{Move, not-enabled, broken, to}
 use Rattle.pair_graph.specs.Steps.{state-in, move-of, move-at, graph-of, HoldsGraph}
 use Rattle.made_graph.specs.GraphOf.{GraphOf}
@@ -55,12 +54,6 @@ pairs-of count area n = map (pair-of count) (entries-of area n)
 abbrev pub pair-in : ℕ → List ℕ → ℕ → Pair
 pair-in count area i = pair-of count (entry-at area i)
 
--- The file of a tower, and the area of a book.
-pub record Explorable (tower nodes : List ℕ) (lines count : ℕ) : Type 0 where
-  pub fit : FitTower tower
-  pub held : IsHeld nodes lines count
-  pub few : count ≤ 60
-
 -- There is room for all entries, the first n have states of the tower, and the rest of every entry is blank.
 pub record Filled (tower : List ℕ) (count : ℕ) (area : List ℕ) (n : ℕ) : Type 0 where
   pub size : entries-size ≤ length area
@@ -68,11 +61,6 @@ pub record Filled (tower : List ℕ) (count : ℕ) (area : List ℕ) (n : ℕ) :
   pub blank : Blank count area
 
 -- ---- one action
-
--- those seen, with the one that is there if it is new
-unfoldable pub with-one : List Pair → Option Pair → List Pair
-with-one seen none = seen
-with-one seen (some w) = pick (some-of (same-pair w) seen) (λ _. seen) (λ _. seen ++ (w ∷ []))
 
 -- What a move says of action a from pair v, where the first n entries are the pairs.
 pub data SaysMove (tower : Tower) (book : Book) (count : ℕ) (area : List ℕ) (n : ℕ) (v : Pair) (a : ℕ) : Move → Type 0 where
@@ -89,7 +77,7 @@ pub record Followed (out : Led) (tower nodes : List ℕ) (lines count : ℕ) (ar
   pub kept : (j : ℕ) → j < n → entry-at after j ≡ entry-at area j
   pub small : out .code < 65536
   pub grown : (h : IsHeld nodes lines count)
-      → pairs-of count after (out .met) ≡ with-one (pairs-of count area n) (pair-step (tower-of tower) (h .book) (pair-in count area i) a)
+      → pairs-of count after (out .met) ≡ with-one same-pair (pairs-of count area n) (pair-step (tower-of tower) (h .book) (pair-in count area i) a)
   pub says : (h : IsHeld nodes lines count)
       → SaysMove (tower-of tower) (h .book) count after (out .met) (pair-in count area i) a (move-of (out .code))
 
@@ -106,7 +94,7 @@ pub record Stepped (m : ℕ) (tower nodes : List ℕ) (lines count : ℕ) (area 
   pub indexed : Indexed after index m
   pub kept : (j : ℕ) → j < n → entry-at after j ≡ entry-at area j
   pub grown : (h : IsHeld nodes lines count)
-      → pairs-of count after m ≡ with-one (pairs-of count area n) (pair-step (tower-of tower) (h .book) (pair-in count area i) a)
+      → pairs-of count after m ≡ with-one same-pair (pairs-of count area n) (pair-step (tower-of tower) (h .book) (pair-in count area i) a)
   pub cells : RightCells tower nodes lines count after m after-steps (16 * i + a + 1)
 
 -- ---- one pair, and all

@@ -5,7 +5,8 @@ ghost use Prim.Native.Nat.{_+_, _*_, _<_, _≤_};
 ghost use lib.ListN.{length};
 ghost use Rattle.logic.specs.Tower.{tower-of};
 ghost use Rattle.entry_index.specs.Entries.{most-entries, entries-size, index-size, Indexed};
-ghost use Rattle.pair_search.specs.Explored.{Explorable, Filled, Followed, RightCells, Stepped, Grown, Started, Explored};
+ghost use Rattle.pending_entries.specs.PendingEntries.{TowerWithBook};
+ghost use Rattle.pair_search.specs.Explored.{Filled, Followed, RightCells, Stepped, Grown, Started, Explored};
 use tower_reader::Reached;
 
 // How the exploration ends: over 1,000 pairs, or so many.
@@ -45,7 +46,7 @@ fn follow(
     a: usize,
     n: usize,
 ) -> Led
-    requires { ⌜ Explorable (now tower) (now nodes) lines count ⌝ }
+    requires { ⌜ TowerWithBook (now tower) (now nodes) lines count ⌝ }
     requires { ⌜ Filled (now tower) count (now pairs) n ⌝ }
     requires { ⌜ Indexed (now pairs) (now index) n ⌝ }
     requires { ⌜ index-size ≤ length (now index) ⌝ }
@@ -90,7 +91,7 @@ fn step(
     a: usize,
     n: usize,
 ) -> usize
-    requires { ⌜ Explorable (now tower) (now nodes) lines count ⌝ }
+    requires { ⌜ TowerWithBook (now tower) (now nodes) lines count ⌝ }
     requires { ⌜ Filled (now tower) count (now pairs) n ⌝ }
     requires { ⌜ Indexed (now pairs) (now index) n ⌝ }
     requires { ⌜ RightCells (now tower) (now nodes) lines count (now pairs) n (now steps) (16 * i + a) ⌝ }
@@ -118,7 +119,7 @@ fn expand(
     i: usize,
     met: usize,
 ) -> usize
-    requires { ⌜ Explorable (now tower) (now nodes) lines count ⌝ }
+    requires { ⌜ TowerWithBook (now tower) (now nodes) lines count ⌝ }
     requires { ⌜ Filled (now tower) count (now pairs) met ⌝ }
     requires { ⌜ Indexed (now pairs) (now index) met ⌝ }
     requires { ⌜ RightCells (now tower) (now nodes) lines count (now pairs) met (now steps) (16 * i) ⌝ }
@@ -152,7 +153,7 @@ fn explore_on(
     index: &mut [u8],
     steps: &mut [u8],
 ) -> Found
-    requires { ⌜ Explorable (now tower) (now nodes) lines count ⌝ }
+    requires { ⌜ TowerWithBook (now tower) (now nodes) lines count ⌝ }
     requires { ⌜ Started (now tower) (now nodes) lines count (now pairs) ⌝ }
     requires { ⌜ Indexed (now pairs) (now index) 1 ⌝ }
     requires { ⌜ index-size ≤ length (now index) ⌝ }
@@ -182,7 +183,7 @@ pub fn explore(
     index: &mut [u8],
     steps: &mut [u8],
 ) -> Found
-    requires { ⌜ Explorable (now tower) (now nodes) lines count ⌝ }
+    requires { ⌜ TowerWithBook (now tower) (now nodes) lines count ⌝ }
     requires { ⌜ entries-size ≤ length (now pairs) ⌝ }
     requires { ⌜ index-size ≤ length (now index) ⌝ }
     requires { ⌜ 32000 ≤ length (now steps) ⌝ }

@@ -6,7 +6,7 @@ use native.Mathlib.Decide.{decLt}
 use mathlib.Core.Path.{_≡_, refl, sym, _∙_, ap, ap₂}
 use mathlib.Core.Logic.{_⊎_, inl, inr}
 use mathlib.Core.List.{List, [], _∷_}
-use lib.ListN.{length, getD, take, drop, replicate, length-replicate, getD-replicate, List·getD-eq-default}
+use lib.ListN.{length, getD, take, drop}
 use lib.Seq.{getD-take, getD-drop, take-take, drop-drop, ext-getD, drop-set-lt}
 use mir.Syntax.{w8}
 use mir.Val.{Fits}
@@ -96,13 +96,6 @@ number-else area n count mid after m b = record { size = b .size ∙ m .size; by
     go : (p : ℕ) → (p < 62 * n) ⊎ (62 * n + 2 + count ≤ p) → byte-at after p ≡ byte-at area p
     go p (inl l) = beside-byte mid (62 * n) 2 after b p (inl l) ∙ m .bytes p (inl l)
     go p (inr l) = beside-byte mid (62 * n) 2 after b p (inr (omega arith)) ∙ m .bytes p (inr l)
-
--- Every byte of a cleared area is 0.
-pub cleared-byte : (size p : ℕ) → _≡_ {A = ℕ} (getD (replicate size 0) p 0) 0
-cleared-byte size p = elim (decLt p size) [
-  | yes l ↦ getD-replicate size p 0 0 l
-  | no l ↦ List·getD-eq-default (replicate size 0) 0 (omega (arith, length-replicate {A = ℕ} size 0))
-]
 
 -- ---- entries that hold the same are equal
 

@@ -1,3 +1,4 @@
 pub mod Entries
 pub mod Turns
+pub mod Seen
 mod Ways

@@ -3,16 +3,26 @@
 use Prim.Native.Nat.{ℕ, _+_, _*_, _≤_, _<_}
 use mathlib.Core.Path.{_≡_}
 use mathlib.Core.Bool.{Bool, true}
-use mathlib.Core.List.{List}
+use mathlib.Core.Option.{Option, none, some}
+use mathlib.Core.List.{List, [], _∷_, _++_}
 use lib.ListN.{length}
+use Rattle.base.specs.Choice.{pick}
+use Rattle.base.specs.Lists.{some-of}
 use Rattle.base.specs.Bytes.{byte-at, number-at}
+use Rattle.logic.specs.Tower.{FitTower}
 use Rattle.logic.specs.Book.{Book}
 use Rattle.logic.specs.declared.Tick.{Tick}
 use Rattle.pending.specs.Pending.{progressed, first-pending}
 use Rattle.progression.specs.PendingBytes.{pending-of, part, outcome}
-use Rattle.progression.specs.NodeBytes.{Held, Marked}
+use Rattle.progression.specs.NodeBytes.{Held, IsHeld, Marked}
 use Rattle.entry_index.specs.Entries.{entry-size, entries-size, entry-at, Indexed}
 use Rattle.pending_entries.specs.declared.Place.{Place}
+
+-- A fit tower, and an area that holds a book of at most 60 nodes.
+pub record TowerWithBook (tower nodes : List ℕ) (lines count : ℕ) : Type 0 where
+  pub fit : FitTower tower
+  pub held : IsHeld nodes lines count
+  pub few : count ≤ 60
 
 -- the number of entry i
 abbrev pub entry-number : List ℕ → ℕ → ℕ
@@ -52,3 +62,10 @@ pub record First (nodes : List ℕ) (lines count number : ℕ) (area : List ℕ)
   pub blank : Blank count area
   pub number-is : entry-number area 0 ≡ number
   pub says : (book : Book) → Held nodes lines count book → pending-of (entry-cells count area 0) ≡ first-pending book
+
+-- ---- what entries stand for
+
+-- those seen, with the one that is there if it is new
+unfoldable pub with-one : {X : Type 0} → (X → X → Bool) → List X → Option X → List X
+with-one same seen none = seen
+with-one same seen (some x) = pick (some-of (same x) seen) (λ _. seen) (λ _. seen ++ (x ∷ []))

@@ -2,7 +2,8 @@
 -- The invariant: the hash so far, with the bytes that are left, gives the hash of the entry. The measure: how many bytes are left.
 use Prim.Native.Nat.{_-_}
 use borrow.Author.Needs.{needs}
-use Rattle.entry_index.proofs.Ways.{Hashing, hash-start, hash-more, hash-end, hash-fits, cast-byte}
+use Rattle.entry_index.proofs.Ways.{Hashing, hash-start, hash-more, hash-end, hash-fits}
+use Rattle.lent_bytes.proofs.Numbers.{cast-byte}
 use Rattle.entry_index.proofs.hash.Statement.{statement}
 use Rattle.entry_index.proofs.hash.Tie as tie
 
