@@ -1,6 +1,5 @@
 -- The laws of refusal chains: when 'r if b else o' and 'o then f' give a value, and when they refuse.
 use mathlib.Core.Path.{_≡_, refl}
-use mathlib.Core.Logic.{_⊎_, inl, inr}
 use mathlib.Core.Bool.{Bool, true, false}
 use Prim.Native.Nat.{ℕ}
 use native.Mathlib.Omega.{arith}
@@ -27,13 +26,6 @@ module _ {A : Type 0} where
   unfolding _if_else_
   if-gives r true o e = gives-not-refuses e refl
   if-gives r false o e = (refl, e)
-
-  -- a chain that refuses does so at its test, or behind it
-  pub if-refused : (r : Refusal) (b : Bool) (o : Answer A) {q : Refusal} → (r if b else o) ≡ refuse q
-      → ((b ≡ true) × (r ≡ q)) ⊎ ((b ≡ false) × (o ≡ refuse q))
-  unfolding _if_else_
-  if-refused r true o {q} e = inl (refl, let z : r ≡ q = cc in z)
-  if-refused r false o e = inr (refl, e)
 
 -- what goes on with a value gives one
 pub then-gives : {A B : Type 0} (o : Answer A) (f : A → Answer B) {x : B} → (o then f) ≡ give x → (a : A) × (o ≡ give a) × (f a ≡ give x)

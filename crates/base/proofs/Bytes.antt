@@ -6,7 +6,7 @@ use native.Mathlib.Numerals.{add-one}
 use mathlib.Core.Path.{_≡_, refl, sym, _∙_, ap}
 use mathlib.Core.List.{List, [], _∷_, _++_}
 use lib.ListN.{length, drop, List·getD-eq-default}
-use lib.Seq.{getD-drop, drop-cons, drop-drop, drop-at, drop-append-seam}
+use lib.Seq.{getD-drop, drop-cons, drop-drop, drop-at}
 use Rattle.base.specs.Bytes.{byte-at, number-at, number-bytes}
 
 -- Every element is a byte.
@@ -80,12 +80,6 @@ number-read width n bytes rest p e lt =
 pub number-behind : (width n : ℕ) (bytes rest : List ℕ) (p : ℕ) → drop p bytes ≡ number-bytes width n ++ rest → drop (p + width) bytes ≡ rest
 number-behind width n bytes rest p e =
     sym (drop-drop width p bytes) ∙ ap (drop width) e ∙ drop-at (number-bytes width n) rest width (length-number-bytes width n)
-
--- A number that fits is read back behind a prefix.
-pub number-past : (width n : ℕ) (before rest : List ℕ) → n < 256 ^ width
-    → number-at width (before ++ (number-bytes width n ++ rest)) (length before) ≡ n
-number-past width n before rest lt =
-    number-read width n (before ++ (number-bytes width n ++ rest)) rest (length before) (drop-append-seam before (number-bytes width n ++ rest)) lt
 
 -- Past the end every number is 0.
 pub number-past-end : (width : ℕ) (bytes : List ℕ) (p : ℕ) → length bytes ≤ p → number-at width bytes p ≡ 0

@@ -220,19 +220,6 @@ module _ {ℓ} {X : Type ℓ} where
       let (i, l, p) = mem-index x m in
       Memᴰ·cast (sym p ∙ ap (λ (zs : List X). getD zs i x) e) (mem-getD ys i x (omega (arith, ap length e)))
 
-  -- A list with a member has a length above 0.
-  pub mem-some : {x : X} {xs : List X} → List·Memᴰ x xs → 0 < length xs
-  mem-some (List·Memᴰ·head p) = omega arith
-  mem-some (List·Memᴰ·tail m) = omega arith
-
-  -- Every element passes: the one at each index does.
-  pub every-getD : (test : X → Bool) (xs : List X) (i : ℕ) (d : X) → every test xs ≡ true → i < length xs → test (getD xs i d) ≡ true
-  every-getD test xs i d e l = every-at test e (mem-getD xs i d l)
-
-  -- The one at each index passes: every element does.
-  pub getD-every : (test : X → Bool) (xs : List X) (d : X) → ((i : ℕ) → i < length xs → test (getD xs i d) ≡ true) → every test xs ≡ true
-  getD-every test xs d h = every-all test xs (λ x m. let (i, l, p) = mem-index d m in ap test (sym p) ∙ h i l)
-
 -- ---- Numbers in order
 
 -- There are n numbers in `count-from k n`.
@@ -301,10 +288,6 @@ some-below test n e = let (a, m, p) = some-at test (below n) e in (a, mem-below 
 -- A number below n passes: some one does.
 pub below-some : (test : ℕ → Bool) (n a : ℕ) → a < n → test a ≡ true → some-of test (below n) ≡ true
 below-some test n a l p = some-of-mem test (below-mem n a l) p
-
--- Not every number below n passes: one that fails.
-pub below-fails : (test : ℕ → Bool) (n : ℕ) → every test (below n) ≡ false → (a : ℕ) × (a < n) × (test a ≡ false)
-below-fails test n e = let (a, m, p) = every-false test (below n) e in (a, mem-below n m, p)
 
 -- ---- Options
 
@@ -402,16 +385,6 @@ module _ {ℓ} {X : Type ℓ} (test : X → Bool) where
   unfolding there-with
   there-with-in p q = ap (there-with test) p ∙ q
 
-  -- What is there fails: the test fails.
-  pub there-with-fails : {o : Option X} {x : X} → o ≡ some x → test x ≡ false → there-with test o ≡ false
-  unfolding there-with
-  there-with-fails p q = ap (there-with test) p ∙ q
-
-  -- Nothing is there: the test fails.
-  pub there-with-none : {o : Option X} → o ≡ none → there-with test o ≡ false
-  unfolding there-with
-  there-with-none p = ap (there-with test) p
-
   -- What is kept was there and passes.
   pub only-if-out : (o : Option X) {x : X} → only-if test o ≡ some x → (o ≡ some x) × (test x ≡ true)
   unfolding only-if
@@ -426,22 +399,6 @@ module _ {ℓ} {X : Type ℓ} (test : X → Bool) where
   pub only-if-in : {o : Option X} {x : X} → o ≡ some x → test x ≡ true → only-if test o ≡ some x
   unfolding only-if
   only-if-in {x = x} p q = ap (only-if test) p ∙ ap (λ (b : Bool). pick b (λ _. some x) (λ _. none)) q
-
-  -- Nothing is kept: nothing was there, or what was there fails.
-  pub only-if-none : (o : Option X) → only-if test o ≡ none → (o ≡ none) ⊎ ((x : X) × (o ≡ some x) × (test x ≡ false))
-  unfolding only-if
-  only-if-none none e = inl refl
-  only-if-none (some y) e = go (test y) refl e
-    where
-      go : (b : Bool) → test y ≡ b → _≡_ {A = Option X} (pick b (λ _. some y) (λ _. none)) none
-          → (some y ≡ none) ⊎ ((x : X) × (some y ≡ some x) × (test x ≡ false))
-      go true p q = none-some q refl
-      go false p q = inr (y, refl, p)
-
-  -- What was there and fails is not kept.
-  pub only-if-not : {o : Option X} {x : X} → o ≡ some x → test x ≡ false → only-if test o ≡ none
-  unfolding only-if
-  only-if-not {x = x} p q = ap (only-if test) p ∙ ap (λ (b : Bool). pick b (λ _. some x) (λ _. none)) q
 
 -- ---- What is there in a list of options
 
@@ -577,10 +534,6 @@ module _ {ℓ} {X : Type ℓ} (test : X → Bool) where
           → test (getD (x ∷ xs) (pick b (λ _. 0) (λ _. suc (place-of test xs))) d) ≡ true
       go true e k ih = e
       go false e k ih = ih (omega arith)
-
-  -- The element at the place is a member.
-  pub place-of-mem : (xs : List X) (d : X) → place-of test xs < length xs → List·Memᴰ (getD xs (place-of test xs) d) xs
-  place-of-mem xs d l = mem-getD xs (place-of test xs) d l
 
   -- No earlier element passes.
   pub place-of-before : (xs : List X) (i : ℕ) (d : X) → i < place-of test xs → test (getD xs i d) ≡ false

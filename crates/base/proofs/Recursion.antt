@@ -1,6 +1,6 @@
 -- The laws of `run`: one call is one step whose calls are calls of it again, where every call of a step has less left.
 use Prim.Native.Nat.{ℕ, zero, suc, _<_}
-use mathlib.Core.Path.{_≡_, refl}
+use mathlib.Core.Path.{_≡_}
 use native.Mathlib.Omega.{arith}
 use Rattle.base.specs.Recursion.{within, run}
 

@@ -1,7 +1,7 @@
 -- Breadth-first search and rounds until nothing changes: the two ways of computing that the outcomes share. X is any type with a test for
 -- what counts as one and the same.
 use Prim.Native.Nat.{ℕ, zero, suc, _+_}
-use mathlib.Core.Bool.{Bool, true, false, not, Bool·beq}
+use mathlib.Core.Bool.{Bool, Bool·beq}
 use mathlib.Core.List.{List, [], _∷_, _++_}
 use lib.ListN.{length}
 use lib.Dec.{ltb}

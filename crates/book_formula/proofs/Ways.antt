@@ -19,7 +19,7 @@ use Rattle.base.proofs.Lists.{and-left, and-right, or-cases}
 use Rattle.logic.specs.Time.{ticks}
 use Rattle.logic.specs.Book.{Formula, constant, proposition, and, or, next, until, within}
 use Rattle.logic.specs.declared.Tick.{Tick}
-use Rattle.reading.specs.Tokens.{stands, skip, Token, numeral, mark-named, mark-at, mark-token}
+use Rattle.reading.specs.Tokens.{stands, skip, numeral, mark-named, mark-at, mark-token}
 use Rattle.reading.specs.Grammar.{Bound, no-bound, compared, optional, Connective, connective, connectives, BoundRead, bound-at, Parsed, bad, got, onward, behind, or-level, and-level, unit-level, or-rest, and-rest, joining, bracketed, two-parts, with-bound, led, marked-unit, unit-at, read-level, formula-one, formula-two, formula-at}
 use Rattle.reading.specs.BookArea.{comparison-code}
 use Rattle.book_tokens.specs.Told.{place-behind, numeral-told, bound-told, bound-code, row-told, led-told, bound-by}
@@ -32,7 +32,7 @@ use Rattle.book_tokens.specs.declared.Bounded.the-variants as B
 use Rattle.book_tokens.specs.declared.Row.{Row}
 use Rattle.book_tokens.specs.declared.Led.{Led}
 use Rattle.book_tokens.specs.declared.Led.the-variants.{Nothing, By}
-use Rattle.book_tokens.proofs.Laws.{byte-inside, skip-ahead}
+use Rattle.book_tokens.proofs.Laws.{byte-inside, skip-ahead, numeral-missing, numeral-read}
 use Rattle.book_nodes.specs.State.{State, state-of, absorb, bit, leaf, mark-node, last-node, bounded-node, until-node, Opens}
 use Rattle.book_nodes.proofs.Absorb.{absorb-constant, absorb-mark, absorb-open, absorb-and, absorb-or, absorb-next, absorb-always, absorb-until}
 use Rattle.book_formula.specs.Parse.{parse, Reads, not-of, is-read, Joint, by-or, by-and, whole-of, operand-of, rest-of, sign-of, node-of, Joins, left-at, mark-code, Marks, with-connective, led-at, Leads, one-code, ReadsOne, not-one, one-read, within-at, until-at, second-at, Ended, not-ended, is-ended, Seconds}
@@ -296,16 +296,6 @@ pub mark-other : (s : List ℕ) (at b : ℕ) (wanted : Bool) (a : List ℕ) → 
 unfolding mark-at stands marked-unit
 mark-other s at b wanted a e n =
     record { reads = λ room. not-of (rw (ne-eqb (byte-at s at) 112 (λ f. n (e ∙ f)))) refl }
-
-numeral-missing : (o : Option (Token ℕ)) (r : Number) → r ≡ numeral-told o → r ≡ N.Missing → o ≡ none
-unfolding numeral-told
-numeral-missing none r e f = refl
-numeral-missing (some t) r e f = let z : _≡_ {A = ℕ} 0 1 = cc in absurd (omega arith)
-
-numeral-read : (o : Option (Token ℕ)) (r : Number) (v q : ℕ) → r ≡ numeral-told o → r ≡ N.Read v q → o ≡ some (record { said = v; next = q })
-unfolding numeral-told
-numeral-read none r v q e f = let z : _≡_ {A = ℕ} 0 1 = cc in absurd (omega arith)
-numeral-read (some t) r v q e f = let a : t .said ≡ v = cc in let b : t .next ≡ q = cc in rw (← a, ← b)
 
 pub mark-unnumbered : (s : List ℕ) (at b : ℕ) (wanted : Bool) (a : List ℕ) (r : Number) → b ≡ byte-at s at → b ≡ 112
     → r ≡ numeral-told (numeral 2 s (at + 1)) → r ≡ N.Missing → Marks 0 wanted s at a a

@@ -92,25 +92,6 @@ state-timed a v le =
       getD-set-other a 362 363 v 0 (λ e. omega arith),
     )
 
--- The number of marks is stored.
-pub state-marks : (a : List ℕ) (v : ℕ) → 512 ≤ length a
-    → state-of (set a 363 v)
-    ≡ record {
-      nodes = record { kept = take 360 a; count = byte-at a 360 };
-      fault = byte-at a 361;
-      is-timed = byte-at a 362;
-      marks = v;
-    }
-unfolding state-of
-state-marks a v le =
-    rw (
-      take-set-le 360 a 363 v (omega arith),
-      getD-set-other a 363 360 v 0 (λ e. omega arith),
-      getD-set-other a 363 361 v 0 (λ e. omega arith),
-      getD-set-other a 363 362 v 0 (λ e. omega arith),
-      getD-set-same a 363 v 0 (omega arith),
-    )
-
 -- ---- one more node
 
 pub put-full : (a : List ℕ) (bytes : List ℕ) → 512 ≤ length a → 60 ≤ getD a 360 0 → state-of (set a 360 61) ≡ stored bytes (state-of a)

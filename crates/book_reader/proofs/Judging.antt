@@ -90,11 +90,6 @@ unfolding due
 due-least true k h = omega arith
 due-least false k h = h
 
-due-not : (b : Bool) (k : ℕ) → k < 255 → (due b k ≡ k → ⊥) → b ≡ false
-unfolding due
-due-not true k h n = absurd (n refl)
-due-not false k h n = refl
-
 least : Bool → Bool → Bool → Bool → ℕ
 least a b c d = min (min (due a 7) (min (due b 8) (min (due c 9) (due d 10)))) 255
 

@@ -66,11 +66,6 @@ pub skip-ahead : (s : List ℕ) (p : ℕ) → p ≤ skip s p
 unfolding skip
 skip-ahead s p = omega arith
 
--- Spaces end where the text does.
-pub skip-inside : (s : List ℕ) (p : ℕ) → p ≤ length s → skip s p ≤ length s
-unfolding skip
-skip-inside s p le = let h = leading-le (eqb 32) (drop p s) in let k = length-drop p s in omega arith
-
 pub skip-done : (s : List ℕ) (at next : ℕ) → skip s next ≡ skip s at → next < length s → (getD s next 0 ≡ 32 → ⊥) → next ≡ skip s at
 skip-done s at next h lt n = sym (skip-stays s next lt n) ∙ h
 
@@ -324,12 +319,12 @@ connective-none b i h le =
 
 -- ---- bounds
 
-numeral-missing : (o : Option (Token ℕ)) (r : Number) → r ≡ numeral-told o → r ≡ N.Missing → o ≡ none
+pub numeral-missing : (o : Option (Token ℕ)) (r : Number) → r ≡ numeral-told o → r ≡ N.Missing → o ≡ none
 unfolding numeral-told
 numeral-missing none r e f = refl
 numeral-missing (some t) r e f = let z : _≡_ {A = ℕ} 0 1 = cc in absurd (omega arith)
 
-numeral-read : (o : Option (Token ℕ)) (r : Number) (v q : ℕ) → r ≡ numeral-told o → r ≡ N.Read v q → o ≡ some (record { said = v; next = q })
+pub numeral-read : (o : Option (Token ℕ)) (r : Number) (v q : ℕ) → r ≡ numeral-told o → r ≡ N.Read v q → o ≡ some (record { said = v; next = q })
 unfolding numeral-told
 numeral-read none r v q e f = let z : _≡_ {A = ℕ} 0 1 = cc in absurd (omega arith)
 numeral-read (some t) r v q e f = let a : t .said ≡ v = cc in let b : t .next ≡ q = cc in rw (← a, ← b)

@@ -14,10 +14,9 @@ use lib.Dec.{eqb}
 use borrow.Author.Tests.{eqb-true, eqb-false, eq-eqb, ne-eqb}
 use Rattle.base.specs.Choice.{pick}
 use Rattle.base.specs.Bytes.{byte-at, number-at}
-use Rattle.base.specs.Lists.{count-from, below, place-of, Distinct}
-use Rattle.base.proofs.Lists.{never-both, same-list-eq, eq-same-list, length-below, getD-below, decides-same}
+use Rattle.base.specs.Lists.{count-from, below, place-of}
+use Rattle.base.proofs.Lists.{never-both, same-list-eq, eq-same-list, length-below, getD-below}
 use Rattle.base.proofs.Lists.{place-of-le, place-of-at, place-of-before, place-of-first}
-use Rattle.base.proofs.Search.{distinct-apart, apart-at}
 use Rattle.entry_index.specs.Entries.{entry-size, buckets, entry-at, entries-of, same-entry, hash-from, hash-of, last-with, head-of}
 use Rattle.entry_index.specs.Entries.{Indexed}
 
@@ -146,24 +145,6 @@ found-none entries n none = go (decLt r n)
         never-both (same-entry-in (entry-at entries n) (entry-at entries r) (sym (found-equal entries n r refl l))) (none r l)
     go (no m) = omega (arith, found-most entries n)
 
--- Of different entries the answer is the one that is equal.
-pub found-only : (entries : List ℕ) (n i : ℕ) → Distinct (entries-of entries n) → i < n → entry-at entries i ≡ entry-at entries n
-    → place-of (same-entry (entry-at entries n)) (entries-of entries n) ≡ i
-found-only entries n i distinct l same = go (decLt i r)
-  where
-    r : ℕ
-    r = place-of (same-entry (entry-at entries n)) (entries-of entries n)
-
-    go : Dec (i < r) → r ≡ i
-    go (yes before) = absurd (found-first entries n r i refl before same)
-    go (no m) =
-        let many = entries-length entries n in
-        let e = found-equal entries n r refl (omega arith) in
-        apart-at (decides-same same-entry same-entry-out (λ x. same-entry-in x x refl)) (entries-of entries n) r i (entry-at entries 0)
-        (distinct-apart same-entry same-entry-out (entries-of entries n) distinct) (omega arith) (omega arith)
-        (same-entry-in (getD (entries-of entries n) r (entry-at entries 0)) (getD (entries-of entries n) i (entry-at entries 0))
-        (entries-at entries n r (omega arith) ∙ e ∙ sym same ∙ sym (entries-at entries n i l)))
-
 -- ---- hashes
 
 hash-small : (h : ℕ) (bytes : List ℕ) → h < buckets → hash-from h bytes < buckets
@@ -248,12 +229,6 @@ indexed-same one other index n agree indexed =
           indexed .links i l ∙ last-same one other (hash-of (entry-at one i)) i (λ j m. agree j (omega arith))
           ∙ ap (λ (entry : List ℕ). last-with other (hash-of entry) i) (agree i l);
     }
-
--- What is written into the area from entry n on does not matter to it.
-pub indexed-kept : (one other index : List ℕ) (n : ℕ) → length one ≡ length other
-    → ((p : ℕ) → p < entry-size * n → byte-at one p ≡ byte-at other p) → Indexed one index n → Indexed other index n
-indexed-kept one other index n same-length agree indexed =
-    indexed-same one other index n (entries-agree one other n same-length agree) indexed
 
 -- An index of zeros is one of no entries.
 pub indexed-none : (entries index : List ℕ) → ((p : ℕ) → byte-at index p ≡ 0) → Indexed entries index 0

@@ -11,11 +11,6 @@ module _ {ℓ} {X : Type ℓ} (move : X → ℕ → Option X) where
   unfolding leads
   leads-nil x = refl
 
-  -- The first action leads on to where the rest starts.
-  pub leads-cons : (x : X) (a : ℕ) (w : List ℕ) → leads move x (a ∷ w) ≡ bind (move x a) (λ y. leads move y w)
-  unfolding leads
-  leads-cons x a w = refl
-
   -- Where the first action is there, the rest decides.
   pub leads-step : (x y : X) (a : ℕ) (w : List ℕ) → move x a ≡ some y → leads move x (a ∷ w) ≡ leads move y w
   unfolding leads bind
@@ -87,7 +82,3 @@ module _ {ℓ} {X : Type ℓ} (move : X → ℕ → Option X) where
   pub snoc-out : (x z : X) (w : List ℕ) (a : ℕ) → leads move x (w ++ (a ∷ [])) ≡ some z
       → (y : X) × (leads move x w ≡ some y) × (move y a ≡ some z)
   snoc-out x z w a e = (bind-eq-some-iff (leads move x w) (λ y. move y a)) .0 (sym (leads-snoc x w a) ∙ e)
-
-  -- The beginning of a way is a way.
-  pub leads-prefix : (x z : X) (w u : List ℕ) → leads move x (w ++ u) ≡ some z → (y : X) × (leads move x w ≡ some y)
-  leads-prefix x z w u e = let (y, f, g) = append-out x z w u e in (y, f)

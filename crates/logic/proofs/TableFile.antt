@@ -209,19 +209,3 @@ row-bytes-bytes first [] = no-bytes
 row-bytes-bytes first (row ∷ rows) =
     append-bytes (number-bytes-bytes state-width (row .state)) (append-bytes (number-bytes-bytes 1 (length (row .steps)))
     (append-bytes (number-bytes-bytes 2 first) (row-bytes-bytes (first + length (row .steps)) rows)))
-
-step-bytes-bytes : (s : Step) → AllBytes (step-bytes s)
-unfolding step-bytes
-step-bytes-bytes s = append-bytes (number-bytes-bytes 1 (s .action)) (number-bytes-bytes 2 (s .target))
-
-header-bytes-bytes : (rows steps states actions : ℕ) → AllBytes (header-bytes rows steps states actions)
-unfolding header-bytes
-header-bytes-bytes rows steps states actions =
-    joined-bytes (number-bytes 2) (rows ∷ steps ∷ rows-at ∷ steps-at rows ∷ states ∷ actions ∷ []) (number-bytes-bytes 2)
-
--- A table's file is made of bytes.
-pub file-bytes : (states actions : ℕ) (table : Table) → AllBytes (table-file states actions table)
-unfolding table-file
-file-bytes states actions table =
-    append-bytes (header-bytes-bytes (length table) (length (all-steps table)) states actions)
-    (append-bytes (row-bytes-bytes 0 table) (joined-bytes step-bytes (all-steps table) step-bytes-bytes))

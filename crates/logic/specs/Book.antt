@@ -4,9 +4,8 @@ use mathlib.Core.Bool.{Bool, true, false, _&&_, _||_, not}
 use mathlib.Core.Path.{_≡_}
 use mathlib.Core.List.{List, [], _∷_, _++_, map, List·Memᴰ}
 use lib.ListN.{length}
-use lib.Dec.{leb, ltb, eqb}
+use lib.Dec.{leb, ltb}
 use Rattle.base.specs.Lists.{joined}
-use Rattle.logic.specs.Time.{ticks}
 use Rattle.logic.specs.declared.Tick.{Tick}
 
 -- The comparison of a next: of `<=` `<` `>=` `>`

@@ -1,12 +1,11 @@
 -- 01, 'Runs and broken rules': runs, positions, T(i), kept and broken. The logic is that of document 004, with whole ticks.
-use Prim.Native.Nat.{ℕ, zero, suc, _≤_, _<_}
+use Prim.Native.Nat.{ℕ, _≤_, _<_}
 use mathlib.Core.Path.{_≡_}
 use mathlib.Core.Logic.{_⊎_}
-use mathlib.Core.Bool.{Bool, true, false}
-use mathlib.Core.Option.{Option, none, some, bind, Option·getD}
+use mathlib.Core.Bool.{true}
+use mathlib.Core.Option.{Option, some, bind, Option·getD}
 use mathlib.Core.List.{List, [], _∷_, map, List·Memᴰ}
 use lib.ListN.{length, getD, take}
-use Rattle.base.specs.Lists.{total}
 use Rattle.logic.specs.Time.{ticks, plus, AtMost, position, after, From, Before}
 use Rattle.logic.specs.Tower.{Tower}
 use Rattle.logic.specs.Book.{Formula, constant, proposition, and, or, next, always, until, compares, Form, at-start, everywhere, Rule, Book}

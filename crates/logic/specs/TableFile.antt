@@ -2,7 +2,7 @@
 use Prim.Native.Nat.{ℕ, _+_, _*_}
 use mathlib.Core.List.{List, [], _∷_, _++_, map}
 use lib.ListN.{length}
-use Rattle.base.specs.Lists.{joined, total}
+use Rattle.base.specs.Lists.{joined}
 use Rattle.base.specs.Bytes.{number-bytes}
 use Rattle.logic.specs.Tower.{state-width}
 use Rattle.logic.specs.Tables.{Step, Row, Table}

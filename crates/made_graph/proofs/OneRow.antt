@@ -1,19 +1,19 @@
 -- The classes of kept pairs are the rows: two kept pairs are of one class exactly if they make one row.
-use Prim.Native.Nat.{ℕ, zero, suc, _≤_, _<_}
-use mathlib.Core.Path.{_≡_, refl, sym, _∙_, ap, ap₂, subst}
+use Prim.Native.Nat.{ℕ, zero, suc, _<_}
+use mathlib.Core.Path.{_≡_, refl, sym, _∙_, ap₂, subst}
 use mathlib.Core.Bool.{Bool, true, false}
 use mathlib.Core.Option.{Option, none, some, Option·map}
-use mathlib.Core.List.{List, [], _∷_, List·Memᴰ}
+use mathlib.Core.List.{List·Memᴰ}
 use native.Mathlib.Omega.{arith}
-use lib.ListN.{length, getD}
+use lib.ListN.{length}
 use lib.Dec.{eqb}
 use borrow.Author.Tests.{eqb-true, eq-eqb}
 use Rattle.base.specs.Choice.{pick}
 use Rattle.base.specs.Lists.{same-option, only-if}
-use Rattle.base.proofs.Lists.{same-truth, never-both, mem-getD}
+use Rattle.base.proofs.Lists.{same-truth, mem-getD}
 use Rattle.logic.specs.Tower.{Tower}
 use Rattle.logic.specs.Book.{Book}
-use Rattle.pending.specs.Pairs.{Pair, first-pair, pair-step, pairs}
+use Rattle.pending.specs.Pairs.{first-pair, pair-step, pairs}
 use Rattle.outcome.specs.Game.{safe, safe-step}
 use Rattle.outcome.specs.Rows.{alike-for, last-split, one-row}
 use Rattle.outcome.proofs.Alike.{Known, alike-more, one-row-state, one-row-step}

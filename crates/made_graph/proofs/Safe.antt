@@ -1,15 +1,15 @@
 -- The largest set of pairs that are fine among themselves are the safe pairs.
-use Prim.Native.Nat.{ℕ, zero, suc, _≤_, _<_}
+use Prim.Native.Nat.{ℕ, zero, suc, _<_}
 use mathlib.Core.Path.{_≡_, refl, sym, _∙_, ap, subst}
 use mathlib.Core.Logic.{_⊎_, inl, inr}
 use mathlib.Core.Bool.{Bool, true, false, _&&_, _||_, not}
-use mathlib.Core.Option.{Option, none, some, bind}
-use mathlib.Core.List.{List, [], _∷_, List·Memᴰ}
+use mathlib.Core.Option.{none, some, bind}
+use mathlib.Core.List.{List·Memᴰ}
 use native.Mathlib.Omega.{arith}
-use lib.ListN.{length, getD}
+use lib.ListN.{length}
 use borrow.Author.Tests.{not-true}
 use Rattle.base.specs.Lists.{every, some-of, below, is-there, there-with}
-use Rattle.base.proofs.Lists.{whether, whether-there, never-both, same-truth, and-both, and-left, and-right, or-left, or-right, or-cases, not-in, below-every, below-some, every-below, some-below, is-there-in, there-not, there-with-in, there-with-out, none-some, some-one, mem-getD}
+use Rattle.base.proofs.Lists.{whether, never-both, same-truth, and-both, and-left, and-right, or-left, or-right, or-cases, not-in, below-every, below-some, every-below, some-below, is-there-in, there-not, there-with-in, there-with-out, none-some, some-one, mem-getD}
 use Rattle.logic.specs.Tower.{Tower, controllable, goes-on, Listed}
 use Rattle.logic.specs.Book.{Book}
 use Rattle.pending.specs.Pairs.{Pair, first-pair, pair-step, pairs, over-pairs}

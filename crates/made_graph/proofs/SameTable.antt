@@ -1,5 +1,5 @@
 -- The table of the graph is the made table.
-use Prim.Native.Nat.{ℕ, zero, suc, _≤_, _<_}
+use Prim.Native.Nat.{ℕ, zero, suc, _<_}
 use mathlib.Core.Path.{_≡_, refl, sym, _∙_, ap, ap₂, subst}
 use mathlib.Core.Bool.{Bool, true, false, _||_}
 use mathlib.Core.Option.{Option, none, some, Option·map}
@@ -7,7 +7,7 @@ use mathlib.Core.List.{List, [], _∷_, _++_, map, List·Memᴰ, List·Memᴰ·h
 use mathlib.Core.Logic.{_⊎_, inl, inr}
 use native.Mathlib.Omega.{arith}
 use lib.ListN.{length, getD, length-map}
-use lib.Dec.{ltb, eqb}
+use lib.Dec.{ltb}
 use Rattle.base.specs.Choice.{pick}
 use Rattle.base.specs.Lists.{some-of, below, present, place-of}
 use Rattle.base.specs.Search.{new-ones, search-on, search-from}
@@ -15,14 +15,13 @@ use Rattle.base.proofs.Lists.{mem-below, never-both, present-map-out}
 use Rattle.base.proofs.Search.{search-first}
 use Rattle.logic.specs.Tower.{Tower}
 use Rattle.logic.specs.Book.{Book}
-use Rattle.logic.specs.Tables.{Step, Row, Table}
-use Rattle.pending.specs.Pairs.{Pair, same-pair, first-pair, pair-step, pair-followers, pairs, most-pairs}
+use Rattle.logic.specs.Tables.{Step, Row}
+use Rattle.pending.specs.Pairs.{Pair, same-pair, first-pair, pair-followers, pairs, most-pairs}
 use Rattle.outcome.specs.Game.{safe, safe-step}
 use Rattle.outcome.specs.Rows.{one-row, safe-followers, row-pairs, row-step, made-row, made-table}
-use Rattle.outcome.proofs.Alike.{Known}
 use Rattle.pair_graph.specs.Graph.{Graph, allowed-to, Kept, Classes}
 use Rattle.pair_graph.specs.GraphTable.{allowed, allowed-all, same-class, row-order, graph-step, graph-row, graph-table}
-use Rattle.made_graph.specs.GraphOf.{numbered, GraphOf}
+use Rattle.made_graph.specs.GraphOf.{numbered}
 use Rattle.made_graph.proofs.OneRow.{SafeGraph, allowed-step, allowed-kept, class-row}
 
 -- ---- a search on numbers and the same search on what they stand for

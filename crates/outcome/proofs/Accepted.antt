@@ -1,21 +1,19 @@
 -- What the maker makes, the checker accepts: a made table has no more rows with what is pending than there are pairs.
-use Prim.Native.Nat.{ℕ, _≤_, _<_}
-use mathlib.Core.Path.{_≡_, refl, sym, _∙_, ap, ap₂, subst}
+use Prim.Native.Nat.{_≤_, _<_}
+use mathlib.Core.Path.{_≡_, sym, _∙_, ap, ap₂, subst}
 use mathlib.Core.Logic.{_⊎_, inl, inr}
 use mathlib.Core.Bool.{true, false}
-use mathlib.Core.Option.{some, map-eq-some-iff}
-use mathlib.Core.List.{List, map, List·Memᴰ, Memᴰ·of-map}
+use mathlib.Core.Option.{map-eq-some-iff}
+use mathlib.Core.List.{map, Memᴰ·of-map}
 use lib.ListN.{length, length-map}
-use Rattle.base.specs.Lists.{Distinct}
 use Rattle.base.specs.Answers.{give, refuse}
 use Rattle.base.specs.declared.Refusal.the-variants.{Pairs}
 use Rattle.base.proofs.Lists.{never-both, some-one, distinct-map}
 use Rattle.logic.specs.Tower.{Tower}
 use Rattle.logic.specs.Book.{Book}
 use Rattle.logic.specs.Runs.{leads}
-use Rattle.logic.specs.Tables.{Table, row-at, Good, Made}
+use Rattle.logic.specs.Tables.{Table, Made}
 use Rattle.logic.specs.TableFile.{most-rows}
-use Rattle.pending.specs.Pending.{Pending}
 use Rattle.pending.specs.Pairs.{Pair, first-pair, over-pairs, most-pairs}
 use Rattle.outcome.specs.Game.{safe, safe-step}
 use Rattle.outcome.specs.Rows.{made-table}
@@ -25,8 +23,8 @@ use Rattle.outcome.specs.Reached.{ReachedPair, ReachedItem, MoreThan}
 use Rattle.outcome.proofs.RowPairs.{row-number}
 use Rattle.outcome.proofs.Items.{item, pair-of, RunTo, run-to}
 use Rattle.outcome.proofs.Counted.{item-reached, over-pairs-iff}
-use Rattle.outcome.proofs.Checker.{Judgeable, good-accepted}
-use Rattle.outcome.proofs.Maker.{Makeable, so, follows, safe-leads, made-good, made-made, MadeFor, table-made}
+use Rattle.outcome.proofs.Checker.{good-accepted}
+use Rattle.outcome.proofs.Maker.{Makeable, so, follows, safe-leads, made-good, made-made, table-made}
 
 module _ (tower : Tower) (book : Book) (able : Makeable tower book)
     (few : over-pairs tower book ≡ false) (first-safe : safe tower book (first-pair tower book) ≡ true) where

@@ -1,18 +1,18 @@
 -- From the outcomes on bytes to the answers on towers, books and tables.
-use Prim.Native.Nat.{ℕ, zero, suc, _+_, _≤_, _<_}
+use Prim.Native.Nat.{ℕ, _+_, _≤_}
 use mathlib.Core.Path.{_≡_, refl, sym, _∙_, ap, subst}
 use mathlib.Core.Bool.{Bool, true, false}
-use mathlib.Core.List.{List, [], _∷_, _++_}
+use mathlib.Core.List.{List}
 use native.Mathlib.Omega.{arith}
 use lib.ListN.{length, take, drop}
 use lib.Seq.{sets, sets-eq, take-at}
 use lib.Dec.{ltb}
-use borrow.Author.Tests.{ltb-false, lt-ltb, le-ltb}
+use borrow.Author.Tests.{ltb-false}
 use Rattle.base.specs.Choice.{pick}
 use Rattle.base.specs.Bytes.{long-enough, cleared}
 use Rattle.base.specs.Answers.{Answer, refuse, give, _if_else_, _then_}
 use Rattle.base.proofs.Lists.{whether, never-both}
-use Rattle.base.proofs.Answers.{gives-not-refuses, if-gives, if-on, then-gives, then-on, then-stays}
+use Rattle.base.proofs.Answers.{gives-not-refuses, if-gives, then-gives, then-on}
 use Rattle.base.specs.declared.Refusal.{Refusal}
 use Rattle.base.specs.declared.Refusal.the-variants.{TowerSize, Range, Action, Target, Mask, Grammar, Number, Mark, Limit, Timed, Pairs, NoTable, Layout, NotGood, Area, Output, Outside, NotAllowed}
 use Rattle.base.specs.declared.MakeAnswer.the-variants.{Made, Refused}

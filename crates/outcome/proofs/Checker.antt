@@ -2,9 +2,9 @@
 use Prim.Native.Nat.{ℕ, zero, suc, _+_, _-_, _≤_, _<_}
 use mathlib.Core.Path.{_≡_, refl, sym, _∙_, ap, subst}
 use mathlib.Core.Logic.{_↔_, _⊎_, inl, inr}
-use mathlib.Core.Bool.{Bool, true, false}
+use mathlib.Core.Bool.{false}
 use mathlib.Core.Option.{some}
-use mathlib.Core.List.{List, [], _∷_}
+use mathlib.Core.List.{List}
 use native.Mathlib.Omega.{arith}
 use native.Mathlib.Nat.{zero-add, add-zero, suc-add}
 use lib.ListN.{length}
@@ -17,8 +17,8 @@ use Rattle.base.specs.declared.Reason.the-variants as Why
 use Rattle.base.specs.declared.Refusal.the-variants.{Pairs, NotGood}
 use Rattle.logic.specs.Tower.{Tower, Listed}
 use Rattle.logic.specs.Book.{Book, FitBook}
-use Rattle.logic.specs.Tables.{Table, row-at, Allows, AllowsFrom, IsTable, GoodStart, NoneWithheld, StepsRight, GoesOn, NoneBroken, Good}
-use Rattle.logic.specs.Runs.{IsRun, leads, Unbroken}
+use Rattle.logic.specs.Tables.{Table, row-at, Allows, AllowsFrom, IsTable, NoneBroken, Good}
+use Rattle.logic.specs.Runs.{IsRun, leads}
 use Rattle.logic.proofs.Canonical.{Follows, arrives, below-suc}
 use Rattle.pending.specs.Pairs.{Pair, pair-step, first-pair, most-pairs}
 use Rattle.pending.proofs.Theorems.{unbroken-iff}

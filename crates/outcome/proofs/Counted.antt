@@ -1,14 +1,14 @@
 -- Refusal 11 says what the paper says: more than 1,000 distinct ones are reached. The search's own count is never spoken of.
-use Prim.Native.Nat.{ℕ, zero, suc, _≤_, _<_}
-use mathlib.Core.Path.{_≡_, refl, sym, _∙_, ap, ap₂, subst}
+use Prim.Native.Nat.{ℕ, _≤_}
+use mathlib.Core.Path.{_≡_, _∙_, ap₂, subst}
 use mathlib.Core.Logic.{_↔_}
-use mathlib.Core.Bool.{Bool, true, false}
-use mathlib.Core.Option.{Option, none, some, bind, bind-eq-some-iff}
+use mathlib.Core.Bool.{Bool, true}
+use mathlib.Core.Option.{Option, some, bind, bind-eq-some-iff}
 use mathlib.Core.List.{List, [], _∷_, _++_, List·Memᴰ}
 use native.Mathlib.Omega.{arith}
 use lib.ListN.{length, List·getD-eq-default}
 use lib.Dec.{ltb}
-use borrow.Author.Tests.{ltb-true, ltb-false, lt-ltb}
+use borrow.Author.Tests.{ltb-true, ltb-false}
 use Rattle.base.specs.Lists.{below}
 use Rattle.base.specs.Search.{search-from}
 use Rattle.base.proofs.Lists.{whether, true-by, present-map-in, present-map-out, below-mem, some-one}
@@ -16,7 +16,7 @@ use Rattle.base.proofs.Search.{Reached, start, onward, search-at-most, search-m
 use Rattle.logic.specs.Tower.{Tower, Listed}
 use Rattle.logic.specs.Book.{Book}
 use Rattle.logic.specs.Runs.{leads}
-use Rattle.logic.specs.Tables.{Step, Table, row-at, step-to, move, Once, IsTable}
+use Rattle.logic.specs.Tables.{Table, row-at, move, Once, IsTable}
 use Rattle.logic.proofs.Leads.{leads-nil, leads-out, snoc-in}
 use Rattle.logic.proofs.Canonical.{step-found}
 use Rattle.pending.specs.Pending.{Pending, progressed}

@@ -4,16 +4,12 @@ use Prim.Native.String.{String}
 use mathlib.Core.Path.{_≡_, refl, sym, _∙_, ap}
 use mathlib.Core.Bool.{true}
 use mathlib.Core.Option.{bind}
-use mathlib.Core.List.{List, [], _∷_, _++_}
+use mathlib.Core.List.{List, _++_}
 use lib.ListN.{length, take, replicate}
 use lib.Seq.{sets}
 use Rattle.base.specs.Answers.{Answer, give, refuse}
-use Rattle.base.specs.declared.Refusal.{Refusal}
 use Rattle.base.specs.declared.Refusal.the-variants.{NoTable, NotGood}
 use Rattle.base.specs.declared.Reason.the-variants.{Broken}
-use Rattle.base.specs.declared.MakeAnswer.the-variants.{Made, Refused}
-use Rattle.outcome.specs.Make.{MakeOutcome}
-use Rattle.outcome.specs.Check.{CheckOutcome}
 use Rattle.outcome.specs.SmallTower.{small-tower, book-1, book-2, book-3, book-4, book-5, book-6, book-7, book-8, book-9, book-10, output, made, table, table-1, table-5, table-6, table-7, MadeTable, NotMade, SmallTowerTable}
 use Rattle.base.specs.Answers.{row-of, letter-of, refusal-said, make-said, verdict-said, _if_else_, _then_}
 use Rattle.base.specs.Bytes.{number-at, number-bytes, long-enough, cleared}

@@ -1,27 +1,27 @@
 -- The safety game: whatever a good table reaches is never removed, and what is never removed is fine. So a good table exists exactly if the
 -- first pair is safe.
-use Prim.Native.Nat.{ℕ, zero, suc, _≤_, _<_}
-use mathlib.Core.Path.{_≡_, refl, sym, _∙_, ap, ap₂, subst, fun-ext}
+use Prim.Native.Nat.{ℕ, zero, suc, _<_}
+use mathlib.Core.Path.{_≡_, refl, sym, _∙_, ap, ap₂, fun-ext}
 use mathlib.Core.Bool.{Bool, true, false, _&&_, _||_, not}
 use mathlib.Core.Option.{Option, none, some}
 use mathlib.Core.List.{List, [], _∷_, _++_, List·Memᴰ}
 use lib.ListN.{length}
 use borrow.Author.Tests.{ltb-false}
-use Rattle.base.specs.Lists.{every, some-of, below, is-there, there-with, only-if}
-use Rattle.base.proofs.Lists.{whether, and-both, and-left, and-right, or-left, or-right, or-cases, not-in, below-every, below-some, is-there-in, there-not, there-with-in, whether-there, some-one, present-map-in, below-mem}
+use Rattle.base.specs.Lists.{every, some-of, below, is-there, there-with}
+use Rattle.base.proofs.Lists.{whether, and-both, and-left, and-right, or-left, or-right, not-in, below-every, below-some, there-not, there-with-in, whether-there, some-one, present-map-in, below-mem}
 use Rattle.base.proofs.Search.{search-reached, search-finds}
 use Rattle.base.proofs.Search as Search
 use Rattle.base.proofs.Rounds.{Falling, rest-round-rests}
 use Rattle.logic.specs.Tower.{Tower, controllable, goes-on, Listed}
 use Rattle.logic.specs.Book.{Book}
 use Rattle.logic.specs.Runs.{leads, IsRun, Unbroken}
-use Rattle.logic.specs.Tables.{Table, Row, row-at, move, AllowsAction, AllowsFrom, Allows, NoneWithheld, GoesOn, StepsRight, NoneBroken, IsTable, Good}
+use Rattle.logic.specs.Tables.{Table, row-at, move, AllowsAction, AllowsFrom, Allows, NoneWithheld, GoesOn, StepsRight, NoneBroken, Good}
 use Rattle.logic.proofs.Leads.{snoc-in, snoc-out}
-use Rattle.logic.proofs.Canonical.{Arrives, good-arrives, good-run}
+use Rattle.logic.proofs.Canonical.{good-arrives, good-run}
 use Rattle.pending.specs.Pairs.{Pair, same-pair, first-pair, pair-step, pair-followers, pairs, over-pairs, most-pairs}
 use Rattle.pending.proofs.Same.{same-pair-eq, same-pair-refl}
 use Rattle.pending.proofs.Steps.{pair-step-listed}
-use Rattle.outcome.specs.Game.{forced-right, can-go, fine, kept-through, last-removal, safe, safe-step}
+use Rattle.outcome.specs.Game.{forced-right, can-go, fine, kept-through, last-removal, safe}
 
 module _ (tower : Tower) (book : Book) where
   -- where a list of actions leads over unbroken steps

@@ -2,9 +2,9 @@
 -- any tower under `start F`.
 use Prim.Native.Nat.{ℕ}
 use mathlib.Core.Path.{_≡_, refl, _∙_}
-use mathlib.Core.Bool.{true, false}
+use mathlib.Core.Bool.{false}
 use mathlib.Core.Option.{some}
-use mathlib.Core.List.{List, [], _∷_}
+use mathlib.Core.List.{[], _∷_}
 use lib.ListN.{length}
 use Rattle.base.specs.Text.{ascii}
 use Rattle.base.specs.Answers.{give, refuse}
@@ -17,7 +17,7 @@ use Rattle.logic.specs.Tables as Tables
 use Rattle.logic.proofs.Leads.{leads-one}
 use Rattle.pending.proofs.Theorems.{start-false-breaks}
 use Rattle.outcome.specs.Calls.{FitFiles, FitTable}
-use Rattle.outcome.specs.Check.{check-outcome, checked-file}
+use Rattle.outcome.specs.Check.{checked-file}
 use Rattle.outcome.specs.Make.{made-file}
 use Rattle.outcome.specs.SmallTower.{small-tower, book-1, table-1}
 use Rattle.outcome.proofs.ElevenOutcomes.{opened}

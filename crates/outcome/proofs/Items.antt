@@ -1,24 +1,22 @@
 -- Rows with what is pending: the checker's walk over them finds a broken step exactly if some allowed run is broken.
-use Prim.Native.Nat.{ℕ, zero, suc, _≤_, _<_}
+use Prim.Native.Nat.{ℕ, _<_}
 use mathlib.Core.Path.{_≡_, refl, sym, _∙_, ap, ap₂, subst}
-use mathlib.Core.Logic.{_↔_}
-use mathlib.Core.Bool.{Bool, true, false, _&&_, not}
+use mathlib.Core.Bool.{true, false, not}
 use mathlib.Core.Option.{Option, none, some}
-use mathlib.Core.List.{List, [], _∷_, _++_, map, List·Memᴰ, Memᴰ·cast}
+use mathlib.Core.List.{List, [], _∷_, _++_, List·Memᴰ, Memᴰ·cast}
 use native.Mathlib.Omega.{arith}
 use lib.ListN.{length}
-use lib.Dec.{ltb, eqb}
-use borrow.Author.Tests.{not-true, not-false, eqb-true, eq-eqb, ltb-false}
-use Rattle.base.specs.Lists.{some-of, is-there, present}
-use Rattle.base.specs.Search.{search-from}
+use lib.Dec.{eqb}
+use borrow.Author.Tests.{not-false, eqb-true, eq-eqb, ltb-false}
+use Rattle.base.specs.Lists.{is-there}
 use Rattle.base.proofs.Lists.{and-both, and-left, and-right, some-none, none-of, is-there-in, is-there-out, none-some, some-one, present-map-in, present-map-out}
 use Rattle.base.proofs.Search.{Reached, start, onward, Fitting, decides-fitting, search-all, search-reached}
 use Rattle.logic.specs.Tower.{Tower}
 use Rattle.logic.specs.Book.{Book}
-use Rattle.logic.specs.Runs.{leads, IsRun, Unbroken}
-use Rattle.logic.specs.Tables.{Step, Row, Table, row-at, step-to, move, AllowsFrom, Allows, Once, IsTable, GoodStart, StepsRight, NoneBroken}
+use Rattle.logic.specs.Runs.{leads}
+use Rattle.logic.specs.Tables.{Step, Table, row-at, move, AllowsFrom, Allows, GoodStart, StepsRight}
 use Rattle.logic.proofs.Leads.{leads-nil, leads-in, leads-out, snoc-in, snoc-out}
-use Rattle.logic.proofs.Canonical.{Follows, Arrives, arrives, step-found}
+use Rattle.logic.proofs.Canonical.{Follows, arrives, step-found}
 use Rattle.pending.specs.Pending.{Pending, same-pending, progressed, first-pending}
 use Rattle.pending.specs.Pairs.{Pair, first-pair, pair-step, most-pairs}
 use Rattle.pending.proofs.Same.{same-pending-eq, same-pending-refl}

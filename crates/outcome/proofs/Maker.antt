@@ -1,32 +1,29 @@
 -- The maker: 11 and 12 exactly when the paper says so, and otherwise the made table of the logic.
-use Prim.Native.Nat.{ℕ, zero, suc, _≤_, _<_}
+use Prim.Native.Nat.{ℕ}
 use mathlib.Core.Path.{_≡_, refl, sym, _∙_, ap, subst}
-use mathlib.Core.Logic.{_↔_, _⊎_, inl, inr}
-use mathlib.Core.Bool.{Bool, true, false, not}
-use mathlib.Core.Option.{Option, none, some, Option·map, map-eq-some-iff}
-use mathlib.Core.List.{List, [], _∷_, _++_, List·Memᴰ}
+use mathlib.Core.Bool.{true, false, not}
+use mathlib.Core.Option.{some, Option·map, map-eq-some-iff}
+use mathlib.Core.List.{List, [], _∷_, _++_}
 use native.Mathlib.Omega.{arith}
-use lib.ListN.{length}
-use borrow.Author.Tests.{not-true, not-false}
-use Rattle.base.specs.Lists.{only-if}
-use Rattle.base.specs.Answers.{Answer, refuse, give, _if_else_}
-use Rattle.base.proofs.Lists.{whether, never-both, false-by, true-by, not-in, only-if-in}
-use Rattle.base.proofs.Answers.{gives-not-refuses, if-on, if-refuses, if-gives, if-refused}
+use borrow.Author.Tests.{not-false}
+use Rattle.base.specs.Answers.{Answer, refuse, give}
+use Rattle.base.proofs.Lists.{whether, never-both, not-in, only-if-in}
+use Rattle.base.proofs.Answers.{gives-not-refuses, if-on, if-refuses, if-gives}
 use Rattle.base.specs.declared.Refusal.the-variants.{Pairs, NoTable}
 use Rattle.logic.specs.Tower.{Tower, Listed}
 use Rattle.logic.specs.Book.{Book, FitBook}
-use Rattle.logic.specs.Runs.{leads, IsRun, Unbroken}
+use Rattle.logic.specs.Runs.{leads, IsRun}
 use Rattle.logic.specs.Tables.{Table, row-at, move, Allows, AllowsFrom, NoneBroken, Good, GoodAllow, Made}
 use Rattle.logic.proofs.Leads.{leads-nil, leads-in, leads-out}
 use Rattle.logic.proofs.Canonical.{Follows, arrives, made-unique}
 use Rattle.pending.specs.Pairs.{Pair, first-pair, pair-step, over-pairs, most-pairs}
 use Rattle.pending.proofs.Theorems.{unbroken-iff, pair-leads-state}
-use Rattle.outcome.specs.Game.{kept-through, last-removal, safe, safe-step}
+use Rattle.outcome.specs.Game.{last-removal, safe, safe-step}
 use Rattle.outcome.specs.Rows.{made-table}
 use Rattle.outcome.specs.Make.{table-for}
 use Rattle.outcome.specs.Reached.{ReachedPair, MoreThan}
 use Rattle.outcome.specs.MadeRight.{RightTable, too-many, none-good, made}
-use Rattle.outcome.proofs.Game.{Met, Exact, Together, onward, good-kept, met-step, safe-fine}
+use Rattle.outcome.proofs.Game.{Exact, Together, onward, good-kept, met-step, safe-fine}
 use Rattle.outcome.proofs.Alike.{Known, safe-step-out}
 use Rattle.outcome.proofs.RowPairs.{row-number}
 use Rattle.outcome.proofs.MadeTable.{MadeSo, made-so}

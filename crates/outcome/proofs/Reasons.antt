@@ -1,19 +1,17 @@
 -- The checker's tests are the reasons of the paper: each test fails exactly if its part of 'good' holds.
-use Prim.Native.Nat.{ℕ, zero, suc, _≤_, _<_}
-use mathlib.Core.Path.{_≡_, refl, sym, _∙_, ap, subst}
-use mathlib.Core.Logic.{_↔_, _⊎_, inl, inr}
-use mathlib.Core.Bool.{Bool, true, false, _&&_, _||_, not}
-use mathlib.Core.Option.{Option, none, some}
-use mathlib.Core.List.{List, [], _∷_, List·Memᴰ, List·Memᴰ·head, List·Memᴰ·tail, Memᴰ·cast}
+use Prim.Native.Nat.{ℕ}
+use mathlib.Core.Path.{_≡_, refl, sym, _∙_, ap}
+use mathlib.Core.Logic.{_↔_}
+use mathlib.Core.Bool.{false, _&&_, not}
+use mathlib.Core.Option.{some}
+use mathlib.Core.List.{List, [], _∷_, List·Memᴰ, List·Memᴰ·head, List·Memᴰ·tail}
 use native.Mathlib.Omega.{arith}
-use lib.ListN.{length}
 use lib.Dec.{eqb}
 use borrow.Author.Tests.{not-true, not-false, eqb-true, eqb-false, eq-eqb}
-use Rattle.base.specs.Choice.{pick}
-use Rattle.base.specs.Lists.{every, some-of, below, is-there, there-with}
-use Rattle.base.proofs.Lists.{whether, never-both, false-by, true-by, not-in, and-both, and-left, and-right, every-false, every-all, every-not, some-none, none-of, below-mem, mem-below, is-there-in, is-there-out, not-there, there-not, none-some, there-with-in, there-with-out, whether-there, some-one}
+use Rattle.base.specs.Lists.{some-of, below, is-there, there-with}
+use Rattle.base.proofs.Lists.{whether, never-both, false-by, true-by, not-in, and-both, and-left, and-right, every-false, every-not, some-none, none-of, below-mem, is-there-in, is-there-out, none-some, there-with-in, there-with-out, some-one}
 use Rattle.logic.specs.Tower.{Tower, controllable, goes-on, Listed}
-use Rattle.logic.specs.Tables.{Step, Row, Table, row-at, step-to, move, AllowsAction, Once, IsTable, GoodStart, NoneWithheld, StepsRight, GoesOn}
+use Rattle.logic.specs.Tables.{Step, Table, row-at, step-to, move, AllowsAction, Once, GoodStart, NoneWithheld, StepsRight, GoesOn}
 use Rattle.logic.proofs.Canonical.{step-here, step-past, step-found}
 use Rattle.outcome.specs.Check.{wrong-start, withheld, wrong-step, stopped}
 

@@ -1,11 +1,9 @@
 -- Calls of the entries, as the statements of the demands speak of them.
 use Prim.Native.Nat.{ℕ}
 use mathlib.Core.Path.{_≡_}
-use mathlib.Core.Bool.{true}
 use mathlib.Core.List.{List}
 use lib.ListN.{take}
-use Rattle.base.specs.Bytes.{long-enough}
-use Rattle.base.specs.Answers.{Answer, give}
+use Rattle.base.specs.Answers.{give}
 use Rattle.base.specs.declared.MakeAnswer.the-variants.{Made}
 use Rattle.logic.specs.Tower.{Tower}
 use Rattle.logic.specs.Book.{Book}
@@ -13,7 +11,6 @@ use Rattle.logic.specs.Tables.{Table}
 use Rattle.reading.specs.TowerReading.{read-tower}
 use Rattle.reading.specs.BookReading.{read-book}
 use Rattle.reading.specs.TableReading.{read-table}
-use Rattle.outcome.specs.Areas.{make-areas, check-areas}
 use Rattle.outcome.specs.Make.{make-outcome}
 
 -- The files are fit: they are those of this tower and this book.

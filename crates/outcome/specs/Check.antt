@@ -1,6 +1,6 @@
 -- The checker's outcome: 15, tower, book, 13, 14 a, 14 b to d by row, 11 counted over rows with what is pending, 14 e.
-use Prim.Native.Nat.{ℕ, zero, suc}
-use mathlib.Core.Bool.{Bool, true, false, _&&_, _||_, not}
+use Prim.Native.Nat.{ℕ}
+use mathlib.Core.Bool.{Bool, _&&_, not}
 use mathlib.Core.Option.{Option, none, some}
 use mathlib.Core.List.{List, [], _∷_, map}
 use lib.ListN.{length}
@@ -9,7 +9,6 @@ use Rattle.base.specs.Choice.{pick}
 use Rattle.base.specs.Lists.{every, some-of, below, present, is-there, there-with}
 use Rattle.base.specs.Bytes.{long-enough, cleared}
 use Rattle.base.specs.Answers.{Answer, refuse, give, _if_else_, _then_}
-use Rattle.base.specs.declared.Reason.{Reason}
 use Rattle.base.specs.declared.Reason.the-variants.{Start, Withheld, Stopped, Broken}
 use Rattle.base.specs.declared.Reason.the-variants as Why
 use Rattle.base.specs.declared.Refusal.{Refusal}
@@ -18,7 +17,7 @@ use Rattle.base.specs.declared.Verdict.{Verdict}
 use Rattle.base.specs.declared.Verdict.the-variants as Check
 use Rattle.logic.specs.Tower.{Tower, controllable, goes-on}
 use Rattle.logic.specs.Book.{Book}
-use Rattle.logic.specs.Tables.{Step, Row, Table, row-at, step-to, move}
+use Rattle.logic.specs.Tables.{Step, Row, Table, row-at, move}
 use Rattle.reading.specs.TowerReading.{read-tower}
 use Rattle.reading.specs.BookReading.{read-book}
 use Rattle.reading.specs.TableReading.{read-table}

@@ -1,6 +1,6 @@
 -- The follower's outcome: 13 by the table's own header, 17, 18, or the target row. It borrows no area.
 use Prim.Native.Nat.{ℕ}
-use mathlib.Core.Bool.{Bool, not, _||_}
+use mathlib.Core.Bool.{not, _||_}
 use mathlib.Core.Option.{Option, none, some}
 use mathlib.Core.List.{List}
 use lib.Dec.{leb}

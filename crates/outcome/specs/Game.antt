@@ -1,8 +1,7 @@
 -- The safety game on the pairs: remove every pair from which a break or a stop can be forced. What is left is what a good table may reach.
 use Prim.Native.Nat.{ℕ, zero, suc}
-use mathlib.Core.Bool.{Bool, true, false, _&&_, _||_, not}
+use mathlib.Core.Bool.{Bool, true, _&&_, _||_, not}
 use mathlib.Core.Option.{Option, none, some}
-use mathlib.Core.List.{List}
 use lib.ListN.{length}
 use Rattle.base.specs.Lists.{every, some-of, below, is-there, there-with, only-if}
 use Rattle.logic.specs.Tower.{Tower, controllable, goes-on}

@@ -1,6 +1,5 @@
 -- What the checker is to say of a table for a tower and a book, in the words of the logic: the first reason a to e that holds, 11 before e.
 use Prim.Native.Nat.{ℕ, _<_}
-use mathlib.Core.List.{List}
 use lib.ListN.{length}
 use Rattle.base.specs.Answers.{Answer, refuse, give}
 use Rattle.base.specs.declared.Reason.the-variants.{Start, Withheld, Stopped, Broken}

@@ -1,5 +1,4 @@
 -- What the maker is to answer for a tower and a book, in the words of the logic: 11, 12, or the made table.
-use Prim.Native.Nat.{ℕ}
 use Rattle.base.specs.Answers.{Answer, refuse, give}
 use Rattle.base.specs.declared.Refusal.the-variants.{Pairs, NoTable}
 use Rattle.logic.specs.Tower.{Tower}

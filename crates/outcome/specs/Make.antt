@@ -1,6 +1,6 @@
 -- The maker's outcome: 15; the tower; the book; 11; 12; 16.
 use Prim.Native.Nat.{ℕ}
-use mathlib.Core.Bool.{Bool, not}
+use mathlib.Core.Bool.{not}
 use mathlib.Core.List.{List}
 use lib.ListN.{length}
 use lib.Seq.{sets}

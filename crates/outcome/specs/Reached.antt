@@ -1,7 +1,7 @@
 -- What is counted for refusal 11, said without a search: pairs, and rows with what is pending, that runs over unbroken steps lead to.
 use Prim.Native.Nat.{ℕ, _<_}
 use mathlib.Core.Path.{_≡_}
-use mathlib.Core.Option.{Option, none, some, bind}
+use mathlib.Core.Option.{Option, some, bind}
 use mathlib.Core.List.{List, List·Memᴰ}
 use lib.ListN.{length}
 use Rattle.base.specs.Lists.{Distinct}

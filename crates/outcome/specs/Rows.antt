@@ -1,8 +1,8 @@
 -- 01, 'Good tables', 'Rows with equal state and equal allowed runs onward are one row': the rows of the made table, by partition refinement.
 use Prim.Native.Nat.{ℕ, zero, suc}
-use mathlib.Core.Bool.{Bool, true, false, _&&_}
+use mathlib.Core.Bool.{Bool, _&&_}
 use mathlib.Core.Option.{Option, none, some}
-use mathlib.Core.List.{List, [], _∷_, map}
+use mathlib.Core.List.{List, map}
 use lib.ListN.{length}
 use lib.Dec.{eqb}
 use Rattle.base.specs.Lists.{every, below, present, joined, same-option, place-of}

@@ -3,13 +3,13 @@ use Prim.Native.Nat.{ℕ, _-_}
 use Prim.Native.String.{String}
 use mathlib.Core.Path.{_≡_}
 use mathlib.Core.List.{List, [], _∷_, _++_}
-use lib.ListN.{length, take, replicate}
+use lib.ListN.{take, replicate}
 use Rattle.base.specs.Text.{byte, ascii}
-use Rattle.base.specs.Bytes.{number-at, cleared}
-use Rattle.base.specs.Answers.{Said, answered, refused, make-said, verdict-said}
+use Rattle.base.specs.Bytes.{cleared}
+use Rattle.base.specs.Answers.{answered, refused, make-said, verdict-said}
 use Rattle.reading.specs.TableReading.{rows-of, steps-of}
 use Rattle.outcome.specs.Make.{MakeOutcome, make-outcome}
-use Rattle.outcome.specs.Check.{CheckOutcome, check-outcome}
+use Rattle.outcome.specs.Check.{check-outcome}
 
 -- the small tower, 34 bytes
 unfoldable pub small-tower : List ℕ

@@ -7,7 +7,7 @@ use mathlib.Core.List.{List, List·Memᴰ}
 use lib.ListN.{length, getD}
 use Rattle.logic.specs.Time.{position}
 use Rattle.logic.specs.Tower.{Tower}
-use Rattle.logic.specs.Book.{Formula, constant, proposition, and, or, next, always, until, nodes, Form, at-start, everywhere, Rule, Book}
+use Rattle.logic.specs.Book.{Formula, constant, proposition, and, or, next, always, until, nodes, everywhere, Rule, Book}
 use Rattle.logic.specs.Runs.{trace-from, Kept, KeptRule}
 use Rattle.logic.specs.declared.Tick.{Tick}
 use Rattle.pending.specs.Pending.{Pending}

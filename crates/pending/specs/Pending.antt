@@ -1,14 +1,14 @@
 -- 01, 'What is pending': obligations and their progression, by the equivalences E4, E5 and E7 of document 004 with whole ticks.
-use Prim.Native.Nat.{ℕ, zero, suc, _+_, _-_}
-use mathlib.Core.Bool.{Bool, true, false, _&&_, _||_, Bool·beq}
+use Prim.Native.Nat.{ℕ, suc, _+_, _-_}
+use mathlib.Core.Bool.{Bool, false, _&&_, _||_, Bool·beq}
 use mathlib.Core.Option.{Option, none, some, bind}
-use mathlib.Core.List.{List, [], _∷_, _++_, map}
+use mathlib.Core.List.{List, [], _∷_}
 use lib.ListN.{length, getD, set, replicate}
 use Rattle.base.specs.Choice.{pick}
 use Rattle.base.specs.Lists.{same-option, same-list}
 use Rattle.logic.specs.Time.{ticks, minus, at-most, same-ticks, longer, shorter}
 use Rattle.logic.specs.Tower.{Tower}
-use Rattle.logic.specs.Book.{Formula, constant, proposition, and, or, next, always, until, compares, timed, size, nodes, first-part, second-part, Form, at-start, everywhere, Rule, Book}
+use Rattle.logic.specs.Book.{Formula, constant, proposition, and, or, next, always, until, compares, timed, size, nodes, first-part, second-part, Form, at-start, everywhere, Book}
 use Rattle.logic.specs.declared.Tick.{Tick}
 unfoldable pub use Rattle.logic.specs.Book.{root}
 

@@ -1,12 +1,11 @@
--- Parts of an area: one is lent and comes back, one is cleared.
+-- Parts of an area: one is lent and comes back.
 use Prim.Native.Nat.{ℕ, _+_, _-_, _≤_, _<_}
 use native.Mathlib.Omega.{arith}
-use native.Mathlib.Numerals.{add-one}
 use mathlib.Core.Path.{_≡_, refl, sym, _∙_, ap}
 use mathlib.Core.Logic.{_⊎_, inl, inr}
-use mathlib.Core.List.{List, [], _∷_, _++_}
-use lib.ListN.{length, getD, set, take, drop, replicate, length-set, replicate-append-replicate}
-use lib.Seq.{length-take-le, take-all, take-suc-set, getD-take, getD-drop, ext-getD, take-at, drop-at}
+use mathlib.Core.List.{List, _++_}
+use lib.ListN.{length, getD, take, drop}
+use lib.Seq.{length-take-le, getD-take, getD-drop, ext-getD, take-at, drop-at}
 use borrow.Rule.Slice.PartMut.{putMid, postOf, same-len-mid, mid-len, take-put, drop-put}
 use Rattle.progression.specs.PendingBytes.{part}
 use Rattle.progression.specs.Contracts.{Parts, Beside}
@@ -81,31 +80,3 @@ module _ (area : List ℕ) (from to n : ℕ) (after : List ℕ) (parts : Parts (
 -- The area may have changed meanwhile.
 pub parts-still : (size n from to now : ℕ) → Parts size n from to → now ≡ size → Parts now n from to
 parts-still size n from to now was same = rw same was
-
--- ---- a part is cleared
-
--- The first i bytes are cleared.
-pub record Clearing (first : List ℕ) (n : ℕ) (cells : List ℕ) (i : ℕ) : Type 0 where
-  pub all : n ≡ length first
-  pub size : length cells ≡ length first
-  pub low : i ≤ n
-  pub done : take i cells ≡ replicate i 0
-
-pub clear-first : (cells : List ℕ) → Clearing cells (length cells) cells 0
-clear-first cells = record { all = refl; size = refl; low = omega arith; done = refl }
-
-module _ (first : List ℕ) (n : ℕ) (cells : List ℕ) (i : ℕ) (going : Clearing first n cells i) where
-  pub clear-next : i < n → Clearing first n (set cells i 0) (i + 1)
-  clear-next low =
-      record {
-        all = going .all;
-        size = length-set cells i 0 ∙ going .size;
-        low = omega arith;
-        done = rw add-one (take-suc-set cells i 0 (omega (arith, going .all, going .size)) ∙ ap (λ l. l ++ (0 ∷ [])) (going .done)
-            ∙ replicate-append-replicate i 1 0 ∙ rw add-one);
-      }
-
-  pub clear-end : n ≤ i → cells ≡ replicate (length first) 0
-  clear-end done =
-      let whole : i ≡ length first = omega (arith, going .all, going .low) in
-      sym (take-all i cells (omega (arith, going .size))) ∙ going .done ∙ ap (λ m. replicate m 0) whole

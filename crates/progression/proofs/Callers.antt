@@ -3,7 +3,7 @@
 use Prim.Native.Nat.{ℕ, _-_, _≤_}
 use native.Mathlib.Omega.{arith}
 use mathlib.Core.Path.{_≡_, refl}
-use mathlib.Core.Bool.{Bool, false}
+use mathlib.Core.Bool.{false}
 use mathlib.Core.List.{List, List·Memᴰ}
 use lib.ListN.{length}
 use borrow.Author.Tests.{leb-false, lt-leb}
@@ -12,14 +12,11 @@ use Rattle.base.specs.Answers.{give, _then_}
 use Rattle.base.proofs.Lists.{or-fails-left, or-fails-right, or-neither}
 use Rattle.logic.specs.Tower.{tower-of, mask-of, most-marks}
 use Rattle.logic.specs.Book.{Formula, constant, proposition, and, or, next, always, until, nodes, Rule, Book}
-use Rattle.logic.specs.declared.Tick.{Tick}
-use Rattle.pending.specs.Pending.{progressed, first-pending}
+use Rattle.pending.specs.Pending.{progressed}
 use Rattle.reading.specs.BookArea.{HoldsBook}
 use Rattle.reading.specs.BookReading.{over-mark, read-book}
 use Rattle.reading.proofs.BookLines.{each-rule, book-fit}
-use Rattle.progression.specs.PendingBytes.{pending-of, part, outcome}
-use Rattle.progression.specs.NodeBytes.{Held, IsHeld, Marked}
-use Rattle.progression.specs.Contracts.{Progressed, Begun}
+use Rattle.progression.specs.NodeBytes.{Held, Marked}
 use Rattle.progression.proofs.BookHeld.{Low}
 
 -- ---- a book that was read
@@ -61,25 +58,9 @@ held-read marks text area book few e holds =
       marks = λ rule m. book-low marks few text book e rule m .marks;
     }
 
--- It is some book.
-pub is-held : (bytes : List ℕ) (lines count : ℕ) (book : Book) → Held bytes lines count book → IsHeld bytes lines count
-is-held bytes lines count book held = record { book = book; held = held }
-
 -- ---- a state of a tower file
 
 -- A state's marks are the bits of its mask.
 unfoldable pub mask-marks : (tower : List ℕ) (x : ℕ) → Marked (mask-of tower x)
 unfolding tower-of
 mask-marks tower x = record { tower = tower-of tower; state = x; marks = λ k. refl }
-
--- What `progressed` answers, in the words of the definition.
-pub progressed-is : (tower : List ℕ) (x : ℕ) (b : Bool) (bytes : List ℕ) (lines count : ℕ) (d : Tick) (area : List ℕ) (from to : ℕ) (after : List ℕ) (book : Book)
-    → Progressed b bytes lines count (mask-of tower x) d area from to after → Held bytes lines count book
-    → progressed (tower-of tower) book x d (pending-of (part area from count)) ≡ outcome b (part after to count)
-unfolding mask-marks
-progressed-is tower x b bytes lines count d area from to after book done held = done .says book held (mask-marks tower x)
-
--- What `begin` has written.
-pub begun-is : (bytes : List ℕ) (lines count : ℕ) (area : List ℕ) (to : ℕ) (after : List ℕ) (book : Book) → Begun bytes lines count area to after
-    → Held bytes lines count book → pending-of (part after to count) ≡ first-pending book
-begun-is bytes lines count area to after book done held = done .says book held

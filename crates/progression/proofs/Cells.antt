@@ -2,11 +2,10 @@
 use Prim.Native.Nat.{ℕ, zero, suc, _+_, _-_}
 use native.Mathlib.Numerals.{add-one, sub-one}
 use mathlib.Core.Path.{_≡_, refl, sym, _∙_, ap}
-use mathlib.Core.Option.{Option, none, some}
+use mathlib.Core.Option.{none, some}
 use mathlib.Core.List.{List, [], _∷_, map}
 use lib.ListN.{length, getD, set, replicate, length-map, List·getD-map}
 use Rattle.logic.specs.Time.{ticks}
-use Rattle.logic.specs.declared.Tick.{Tick}
 use Rattle.pending.specs.Pending.{Pending}
 use Rattle.progression.specs.PendingBytes.{cell-of, cell-byte, pending-of}
 
@@ -15,11 +14,6 @@ pub byte-of-cell : (n : ℕ) → cell-byte (cell-of n) ≡ n
 unfolding cell-of cell-byte
 byte-of-cell zero = refl
 byte-of-cell (suc n) = refl
-
-pub cell-of-byte : (o : Option Tick) → cell-of (cell-byte o) ≡ o
-unfolding cell-of cell-byte
-cell-of-byte none = refl
-cell-of-byte (some r) = refl
 
 -- A byte that is not 0 says that its node is pending.
 pub cell-there : (n : ℕ) → (n ≡ 0 → ⊥) → cell-of n ≡ some (ticks (n - 1))

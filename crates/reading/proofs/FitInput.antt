@@ -32,17 +32,6 @@ tower-read bytes tower e =
     let (g, e6) = if-gives Mask (bad-masks bytes) _ e5 in
     (record { header = a; counts = b; size = c; actions = d; targets = f; masks = g }, give-one e6)
 
--- A fit file is read as its tower.
-pub fit-read : (bytes : List ℕ) → FitTower bytes → read-tower bytes ≡ give (tower-of bytes)
-unfolding read-tower
-fit-read bytes fit =
-    if-on TowerSize _ (fit .header)
-    ∙ if-on Range _ (fit .counts)
-    ∙ if-on TowerSize _ (fit .size)
-    ∙ if-on Action _ (fit .actions)
-    ∙ if-on Target _ (fit .targets)
-    ∙ if-on Mask _ (fit .masks)
-
 -- So its numbers are in range, and whatever is enabled is one of its actions.
 pub tower-fits : (bytes : List ℕ) (tower : Tower) → read-tower bytes ≡ give tower → TowerFits tower
 tower-fits bytes tower e = let (fit, same) = tower-read bytes tower e in subst TowerFits same (fit-tower bytes fit)

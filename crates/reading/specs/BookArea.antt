@@ -1,12 +1,10 @@
 -- A book that was read, as bytes in a lent area: its nodes and its lines. The crates above read them there and need no text.
-use Prim.Native.Nat.{ℕ, zero, suc, _+_, _-_, _*_, _≤_}
+use Prim.Native.Nat.{ℕ, suc, _+_, _-_, _*_}
 use mathlib.Core.Path.{_≡_}
-use mathlib.Core.Bool.{Bool, true, false}
 use mathlib.Core.List.{List, [], _∷_, _++_}
 use lib.ListN.{length, take, drop}
 use Rattle.base.specs.Choice.{pick}
-use Rattle.logic.specs.Book.{Comparison, no-more, less, no-less, more, Formula, constant, proposition, and, or, next, always, until, timed, size, nodes, root, first-part, second-part, Form, at-start, everywhere, Rule, Book}
-use Rattle.logic.specs.declared.Tick.{Tick}
+use Rattle.logic.specs.Book.{Comparison, no-more, less, no-less, more, Formula, constant, proposition, and, or, next, always, until, timed, size, nodes, root, first-part, second-part, Form, at-start, everywhere, Book}
 
 -- bytes of a node and of a line, and where the lines begin
 unfoldable pub node-size : ℕ

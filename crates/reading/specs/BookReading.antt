@@ -1,19 +1,17 @@
 -- 01, 'Rule book' and 'Why a call is turned down': lines, limits, and the book of a text or why there is none.
-use Prim.Native.Nat.{ℕ, zero, suc, _+_, _-_}
-use mathlib.Core.Bool.{Bool, true, false, _&&_, _||_, not}
-use mathlib.Core.Option.{Option, none, some}
+use Prim.Native.Nat.{ℕ, _+_, _-_}
+use mathlib.Core.Bool.{Bool, false, _||_, not}
+use mathlib.Core.Option.{none}
 use mathlib.Core.List.{List, [], _∷_, _++_}
 use lib.ListN.{length, drop}
-use lib.Dec.{leb, ltb, eqb}
+use lib.Dec.{leb, ltb}
 use Rattle.base.specs.Choice.{pick}
 use Rattle.base.specs.Lists.{begins}
 use Rattle.base.specs.Text.{byte, ascii}
 use Rattle.base.specs.Recursion.{run}
 use Rattle.base.specs.Answers.{Answer, refuse, give, _if_else_, _then_}
-use Rattle.base.specs.declared.Refusal.the-variants.{Range, Grammar, Number, Mark, Limit, Timed}
-use Rattle.logic.specs.Tower.{most-marks}
+use Rattle.base.specs.declared.Refusal.the-variants.{Grammar, Number, Mark, Limit, Timed}
 use Rattle.logic.specs.Book.{Formula, constant, proposition, and, or, next, always, until, timed-right, size, nodes, Form, at-start, everywhere, Rule, Book}
-use Rattle.logic.specs.declared.Tick.{Tick}
 use Rattle.reading.specs.Tokens.{stands, skip}
 use Rattle.reading.specs.Grammar.{Parsed, bad, got, formula-at}
 

@@ -2,16 +2,14 @@
 use Prim.Native.Nat.{ℕ, zero, suc, _+_, _-_, _*_}
 use mathlib.Core.Bool.{Bool, true, false, _&&_}
 use mathlib.Core.Option.{Option, none, some}
-use mathlib.Core.List.{List, [], _∷_}
+use mathlib.Core.List.{List}
 use lib.ListN.{drop}
 use lib.Dec.{leb, eqb}
 use Rattle.base.specs.Choice.{pick}
-use Rattle.base.specs.Lists.{leading, is-there}
+use Rattle.base.specs.Lists.{leading}
 use Rattle.base.specs.Text.{byte}
 use Rattle.base.specs.Bytes.{byte-at}
-use Rattle.logic.specs.Time.{ticks}
 use Rattle.logic.specs.Book.{Comparison, no-more, less, no-less, more, Formula, proposition}
-use Rattle.logic.specs.declared.Tick.{Tick}
 
 -- byte b stands at p
 unfoldable pub stands : List ℕ → ℕ → ℕ → Bool

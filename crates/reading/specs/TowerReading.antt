@@ -1,7 +1,7 @@
 -- 01, 'Tower file' and 'Why a call is turned down': the tower of a file, or why there is none.
 use Prim.Native.Nat.{ℕ}
 use mathlib.Core.List.{List}
-use Rattle.base.specs.Answers.{Answer, refuse, give, _if_else_}
+use Rattle.base.specs.Answers.{Answer, give, _if_else_}
 use Rattle.base.specs.declared.Refusal.the-variants.{TowerSize, Range, Action, Target, Mask}
 use Rattle.logic.specs.Tower.{Tower, tower-of, no-header, bad-counts, bad-size, bad-actions, bad-targets, bad-masks}
 

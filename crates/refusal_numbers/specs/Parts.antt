@@ -1,6 +1,6 @@
 -- The parts of what the papers say of an answer.
 use Prim.Native.Nat.{ℕ}
-use mathlib.Core.List.{List, [], _∷_}
+use mathlib.Core.List.{[], _∷_}
 use Rattle.base.specs.Answers.{Said, answered, refused}
 
 -- the number of a refusal; 0 is no refusal

@@ -2,18 +2,17 @@
 use Prim.Native.Nat.{ℕ, zero, suc, _+_, _-_, _*_, _%_, _≤_, _<_}
 use native.Mathlib.Omega.{arith}
 use native.Mathlib.Numerals.{add-one}
-use mathlib.Core.Path.{_≡_, refl, sym, ap, _∙_, subst}
+use mathlib.Core.Path.{_≡_, refl, sym, ap, _∙_}
 use mathlib.Core.Bool.{Bool, true, false}
 use mathlib.Core.List.{List}
 use lib.ListN.{length, getD}
 use lib.Dec.{eqb}
-use Rattle.base.specs.Choice.{pick}
 use Rattle.base.specs.Bytes.{number-at}
 use Rattle.base.proofs.Lists.{never-both}
-use Rattle.pair_graph.specs.Graph.{Move, not-enabled, broken, to, allowed-to}
+use Rattle.pair_graph.specs.Graph.{broken, to, allowed-to}
 use Rattle.pair_graph.specs.Steps.{action-room, move-of, cell, move-at, class-in, kept-in, state-in}
-use Rattle.row_classes.specs.View.{View, shown, shows-in, view-of, Alike, bucket-upto, bucket-of}
-use Rattle.row_classes.specs.Passes.{Small, Shows, Stepping, SameSteps, Readable, Tells}
+use Rattle.row_classes.specs.View.{View, shown, shows-in, view-of, bucket-upto, bucket-of}
+use Rattle.row_classes.specs.Passes.{Small, Shows, Stepping, SameSteps, Tells}
 use Rattle.row_classes.proofs.Turns.{one-more}
 
 -- The flag that is read.

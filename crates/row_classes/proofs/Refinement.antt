@@ -10,10 +10,10 @@ use lib.Dec.{eqb}
 use borrow.Author.Tests.{eq-eqb}
 use Rattle.base.specs.Choice.{pick}
 use Rattle.base.specs.Lists.{same-option}
-use Rattle.base.proofs.Lists.{never-both, whether}
+use Rattle.base.proofs.Lists.{never-both}
 use Rattle.pair_graph.specs.Graph.{Move, not-enabled, broken, to, Graph, allowed-to, AlikeNow, Kept, Classes}
 use Rattle.pair_graph.specs.Steps.{move-at, class-in, kept-in, state-in}
-use Rattle.row_classes.specs.View.{pairs-graph, shown, shows-in, view-of, Alike}
+use Rattle.row_classes.specs.View.{pairs-graph, shown, shows-in, view-of}
 use Rattle.row_classes.specs.Passes.{Numbered}
 
 -- What an allowed step leads to is kept.

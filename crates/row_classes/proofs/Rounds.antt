@@ -1,15 +1,13 @@
 -- Passes until one parts nothing: what each keeps, why there is a last one, and what it leaves.
-use Prim.Native.Nat.{ℕ, zero, suc, _+_, _-_, _*_, _≤_, _<_}
+use Prim.Native.Nat.{ℕ, _-_, _*_, _≤_, _<_}
 use native.Mathlib.Omega.{arith}
 use native.Mathlib.Nat.{zero-add}
-use mathlib.Core.Path.{_≡_, refl, sym, ap, _∙_, subst}
+use mathlib.Core.Path.{_≡_, refl, sym, ap, _∙_}
 use mathlib.Core.Bool.{Bool, true, false}
 use mathlib.Core.List.{List}
-use lib.ListN.{length}
 use Rattle.base.specs.Choice.{pick}
 use Rattle.base.specs.Bytes.{number-at}
 use Rattle.base.proofs.Lists.{whether, never-both}
-use Rattle.pair_graph.specs.Graph.{Classes}
 use Rattle.pair_graph.specs.Steps.{action-room, cell, class-in, kept-in}
 use Rattle.row_classes.specs.View.{old-part, new-in, pairs-graph, view-of}
 use Rattle.row_classes.specs.Passes.{Ready, Classified, Cleared, Given, Passed, Adopted}

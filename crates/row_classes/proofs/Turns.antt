@@ -1,9 +1,9 @@
 -- A pass over any view: looking the same is an equivalence that buckets respect; new classes and buckets, one pair after the other.
-use Prim.Native.Nat.{ℕ, zero, suc, _+_, _*_, _%_, _≤_, _<_}
+use Prim.Native.Nat.{ℕ, zero, suc, _+_, _≤_, _<_}
 use native.Mathlib.Omega.{arith}
 use native.Mathlib.Decide.{decLt, ℕ-discrete}
 use mathlib.Core.Path.{_≡_, refl, sym, ap, _∙_, subst}
-use mathlib.Core.Bool.{Bool, true, false}
+use mathlib.Core.Bool.{true, false}
 use Rattle.base.proofs.Lists.{never-both}
 use Rattle.row_classes.specs.View.{View, Alike, buckets, bucket-upto, bucket-of}
 use Rattle.row_classes.specs.Passes.{Member, Chained, Numbered, Found, earlier, first}

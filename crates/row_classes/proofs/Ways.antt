@@ -6,13 +6,13 @@ use native.Mathlib.Numerals.{add-one}
 use mathlib.Core.Path.{_≡_, refl, sym, ap, _∙_, subst}
 use mathlib.Core.Bool.{Bool, true, false}
 use mathlib.Core.List.{List}
-use lib.ListN.{length, take}
+use lib.ListN.{take}
 use lib.Seq.{take-take}
 use Rattle.base.specs.Bytes.{number-at}
 use Rattle.base.proofs.Lists.{never-both}
 use Rattle.pair_graph.specs.Steps.{class-in, kept-in}
-use Rattle.row_classes.specs.View.{old-part, new-in, link-in, head-in, View, view-of, Alike, buckets, bucket-of}
-use Rattle.row_classes.specs.Passes.{Small, Put, Cleared, Readable, Given, Tells, Numbered, Chained, Found, Passed, Entered}
+use Rattle.row_classes.specs.View.{old-part, new-in, link-in, head-in, View, view-of, buckets, bucket-of}
+use Rattle.row_classes.specs.Passes.{Small, Put, Cleared, Readable, Given, Tells, Found, Passed, Entered}
 use Rattle.row_classes.specs.Passes.{AdoptedOne, Adopted}
 use Rattle.row_classes.proofs.Turns.{one-more, Walking, walk-start, walk-on, walk-falls, walk-found, walk-end, found-most}
 use Rattle.row_classes.proofs.Turns.{numbered-start, numbered-more, numbered-skip, bucket-small}
@@ -47,9 +47,6 @@ module _ (steps flags entries : List ℕ) (actions : ℕ) (area : List ℕ) (i h
   -- the view, and the walk in it
   abbrev here : View
   here = view-of steps flags entries actions (old-part area)
-
-  abbrev Walk : ℕ → Type 0
-  Walk at = Walking here i h at
 
   -- The walk begins.
   pub begin-walk : (at : ℕ) → Small 65535 at (number-at 2 area (6000 + 2 * h)) → h < 1021

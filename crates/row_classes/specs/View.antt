@@ -5,8 +5,7 @@ use mathlib.Core.Bool.{Bool}
 use mathlib.Core.Option.{Option, none, some}
 use mathlib.Core.List.{List}
 use lib.ListN.{take}
-use lib.Dec.{eqb}
-use Rattle.base.specs.Bytes.{byte-at, number-at}
+use Rattle.base.specs.Bytes.{number-at}
 use Rattle.pair_graph.specs.Graph.{Graph, allowed-to}
 use Rattle.pair_graph.specs.Steps.{move-at, class-in, kept-in, state-in}
 

@@ -1,9 +1,8 @@
 // The first part of the checker (01, 'Good tables', a to d): whether the rows of a table are those of
 // the tower, row by row. The book has no part in it.
-ghost use Prim.Native.Nat.{_+_, _<_, _≤_};
+ghost use Prim.Native.Nat.{_+_, _<_};
 ghost use mathlib.Core.Path.{_≡_};
 ghost use Rattle.logic.specs.Tower.{controllable, goes-on, tower-of};
-ghost use Rattle.logic.specs.Tables.{row-at};
 ghost use Rattle.reading.specs.TableReading.{rows-of, row-first, row-count, step-of, table-of};
 ghost use Rattle.outcome.specs.Check.{wrong-start, withheld, wrong-step, stopped};
 ghost use Rattle.row_judge.specs.RowVerdict.{Judgeable, some-withheld, some-wrong-step, row-verdict, rows-verdict};

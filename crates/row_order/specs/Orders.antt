@@ -9,7 +9,7 @@ use lib.ListN.{length, getD, take}
 use lib.Dec.{eqb}
 use Rattle.base.specs.Choice.{pick}
 use Rattle.base.specs.Lists.{below, present, some-of, place-of}
-use Rattle.base.specs.Bytes.{byte-at, number-at}
+use Rattle.base.specs.Bytes.{number-at}
 use Rattle.base.specs.Search.{new-ones, search-from}
 use Rattle.base.proofs.Search.{Apart}
 use Rattle.pair_graph.specs.Graph.{to, allowed-to}

@@ -1,6 +1,6 @@
 -- What the papers say of an answer, as a caller in another language sees it.
 use Prim.Native.Nat.{ℕ}
-use mathlib.Core.List.{List, [], _∷_}
+use mathlib.Core.List.{List, []}
 use lib.ListN.{getD}
 use Rattle.base.specs.Answers.{Said, answered, refused}
 use Rattle.refusal_numbers.specs.Parts.{said-number, said-place, said-letter}

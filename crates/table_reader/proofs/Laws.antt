@@ -5,10 +5,10 @@ use mathlib.Core.Path.{_≡_, refl, sym, _∙_, ap}
 use mathlib.Core.Logic.{_⊎_, inl, inr}
 use mathlib.Core.Bool.{Bool, true, false, _&&_, not}
 use mathlib.Core.Option.{Option, none, some}
-use mathlib.Core.List.{List, [], map}
+use mathlib.Core.List.{List, map}
 use native.Mathlib.Omega.{arith}
 use native.Mathlib.Decide.{decLt, ℕ-discrete}
-use lib.ListN.{length, List·getD-eq-default}
+use lib.ListN.{length}
 use lib.Dec.{eqb}
 use borrow.Author.Tests.{eqb-true, eq-eqb, ne-eqb}
 use Rattle.base.specs.Lists.{count-from}
@@ -17,10 +17,10 @@ use Rattle.base.specs.declared.Refusal.the-variants.{Layout}
 use Rattle.base.proofs.Lists.{and-left, and-right, and-fails}
 use Rattle.base.proofs.Answers.{if-on, if-refuses}
 use Rattle.logic.specs.Tower.{Tower}
-use Rattle.logic.specs.Tables.{Step, row-at, step-to, move}
+use Rattle.logic.specs.Tables.{Step, step-to, move}
 use Rattle.reading.specs.TableReading.{rows-of, steps-of, table-states, table-actions, row-state, row-count, row-first, step-place, step-action, step-target, header-right, steps-right, rows-right, laid-out, step-of, row-of-table, table-of, read-table}
 use Rattle.reading.proofs.TableHeader.{HeaderFits, header-out}
-use Rattle.reading.proofs.LaidOut.{steps-right-out, rows-right-out, laid-out-rows, length-table-of, row-of-table-at}
+use Rattle.reading.proofs.LaidOut.{steps-right-out, rows-right-out, laid-out-rows, row-of-table-at}
 use Rattle.table_reader.specs.Layout.{laid-out-for}
 use Rattle.table_reader.specs.Moves.{target-read}
 use Rattle.table_reader.specs.declared.Target.{Target}
@@ -130,11 +130,6 @@ pub move-read : (bytes : List ℕ) (r a : ℕ) → r < rows-of bytes
 unfolding move row-of-table
 move-read bytes r a l = rw (row-of-table-at bytes r l)
 
--- From past the last row there is no move.
-pub move-past : (bytes : List ℕ) (r a : ℕ) → rows-of bytes ≤ r → move (table-of bytes) r a ≡ none
-unfolding move row-at step-to
-move-past bytes r a l = rw (List·getD-eq-default (table-of bytes) (record { state = 0; steps = [] }) {n = r} (rw (length-table-of bytes) l))
-
 -- A step with the action leads to its target row.
 pub step-to-here : (bytes : List ℕ) (i n a : ℕ) → step-action bytes i ≡ a
     → step-to (steps-from bytes i (suc n)) a ≡ some (step-target bytes i)
@@ -182,18 +177,6 @@ step-to-each bytes (suc n) low i h j l g =
           (omega (arith, s .above, k .0), step-to-next bytes i n (step-action bytes j) (λ e. omega (arith, k .0)) ∙ k .1)
       | no d ↦ let e : i ≡ j = omega arith in rw (← e) (s .above, step-to-here bytes i n (step-action bytes i) refl)
     ]
-
--- A move of the table is a step of the row with that action and that target.
-pub move-from : (bytes : List ℕ) (r a t : ℕ) → r < rows-of bytes → move (table-of bytes) r a ≡ some t
-    → Allowing bytes (row-first bytes r) (row-count bytes r) a t
-move-from bytes r a t l e = step-to-from bytes (row-count bytes r) (row-first bytes r) a t (sym (move-read bytes r a l) ∙ e)
-
--- Each step of a row of laid out bytes is a move of the table.
-pub move-each : (bytes : List ℕ) (r i : ℕ) → laid-out bytes ≡ true → r < rows-of bytes → row-first bytes r ≤ i
-    → i < row-first bytes r + row-count bytes r → move (table-of bytes) r (step-action bytes i) ≡ some (step-target bytes i)
-move-each bytes r i h l f g =
-    move-read bytes r (step-action bytes i) l
-    ∙ step-to-each bytes (row-count bytes r) 0 (row-first bytes r) (laid-out-known bytes h .row r l .steps) i f g .1
 
 -- ---- the reader's answer
 

@@ -1,5 +1,5 @@
 -- What callers may use: what the reader's answer means, and what a fit tower file gives.
-use Prim.Native.Nat.{ℕ, _+_, _*_, _^_, _≤_, _<_}
+use Prim.Native.Nat.{ℕ, _≤_, _<_}
 use native.Mathlib.Omega.{arith}
 use mathlib.Core.Path.{_≡_, refl, sym, _∙_, ap}
 use mathlib.Core.Logic.{⊎-elim}
@@ -8,11 +8,9 @@ use mathlib.Core.Option.{Option, none, some}
 use mathlib.Core.List.{List}
 use lib.ListN.{length}
 use lib.Dec.{leb, ltb, eqb}
-use borrow.Author.Tests.{ltb-true, ltb-false, leb-true, leb-false, eqb-true, eqb-false, not-false}
-use mir.Syntax.{w8}
-use mir.Val.{Fits}
+use borrow.Author.Tests.{ltb-true, ltb-false, leb-true, eqb-true, eqb-false, not-false}
 use Rattle.base.specs.Choice.{pick}
-use Rattle.base.specs.Bytes.{byte-at, number-at}
+use Rattle.base.specs.Bytes.{number-at}
 use Rattle.base.specs.Answers.{Answer, refuse, give, _if_else_}
 use Rattle.base.specs.Lists.{some-of, below}
 use Rattle.base.specs.declared.Refusal.{Refusal}
@@ -20,14 +18,12 @@ use Rattle.base.specs.declared.Refusal.the-variants.{TowerSize, Range, Action, 
 use Rattle.base.proofs.Lists.{never-both, and-left, and-right, or-cases, or-fails-left, or-fails-right, some-none, below-mem, none-some}
 use Rattle.base.proofs.Lists.{some-one}
 use Rattle.base.proofs.Answers.{if-gives}
-use Rattle.logic.specs.declared.Tick.{Tick}
-use Rattle.logic.specs.Time.{ticks}
 use Rattle.logic.specs.Tower.{Tower, Listed, FitTower, tower-of, in-range, most-states, most-actions, most-marks, not-enabled, last-kind}
-use Rattle.logic.specs.Tower.{header-size, states-of, actions-of, marks-of, start-of, states-at, state-at, length-of, kind-of, mask-of}
+use Rattle.logic.specs.Tower.{header-size, states-of, actions-of, marks-of, start-of, states-at, state-at, length-of, kind-of}
 use Rattle.logic.specs.Tower.{target-of, no-header, bad-counts, bad-size, bad-actions, bad-targets, bad-masks}
 use Rattle.reading.specs.TowerReading.{read-tower}
 use Rattle.tower_reader.specs.TowerRead.{tower-read, target-read}
-use Rattle.tower_reader.specs.Stages.{Ranges, Headed, Counted, Sized, bad-action, bad-target, bad-targets-of, bad-mask}
+use Rattle.tower_reader.specs.Stages.{Ranges, Headed, Counted, Sized, bad-action, bad-target, bad-targets-of}
 use Rattle.tower_reader.specs.declared.TowerRead.{TowerRead}
 use Rattle.tower_reader.specs.declared.TowerRead.the-variants.{Fit, Refused}
 use Rattle.tower_reader.specs.declared.Reached.{Reached}
@@ -83,10 +79,6 @@ size-length bytes e =
     eqb-true (length bytes) (state-at bytes (states-of bytes))
     (last-holds (not (eqb (number-at 2 bytes 4) header-size) || not (eqb (number-at 2 bytes 6) (states-at bytes)))
     (eqb (length bytes) (state-at bytes (states-of bytes))) e)
-
--- A fit file ends after the last state.
-pub fit-length : {bytes : List ℕ} → FitTower bytes → length bytes ≡ state-at bytes (states-of bytes)
-fit-length {bytes} fit = size-length bytes (fit .size)
 
 -- The header is whole: there are 8 bytes.
 pub header-whole : (bytes : List ℕ) → no-header bytes ≡ false → Headed bytes
@@ -174,12 +166,6 @@ fit-target {bytes} fit x a y k e =
         ⊎-elim (λ t. omega (arith, ltb-true (target-of bytes x a) (states-of bytes) t)) (λ t. never-both t q)
         (or-cases (ltb (target-of bytes x a) (states-of bytes)) (eqb (target-of bytes x a) not-enabled) (fit-written fit x a k l))
 
--- A mask of a fit file has no bit at or above P.
-pub fit-mask : {bytes : List ℕ} → FitTower bytes → (x : ℕ) → x < states-of bytes → mask-of bytes x < 2 ^ marks-of bytes
-unfolding bad-masks bad-mask
-fit-mask {bytes} fit x l =
-    leb-false (2 ^ marks-of bytes) (mask-of bytes x) (none-at (bad-mask bytes) (states-of bytes) x (fit .masks) l)
-
 -- ---- the tower of a fit file
 
 -- Its states are as many as the header says.
@@ -206,11 +192,6 @@ tower-start bytes = refl
 pub tower-kind : (bytes : List ℕ) (a : ℕ) → tower-of bytes .kind a ≡ kind-of bytes a
 unfolding tower-of
 tower-kind bytes a = refl
-
--- A step takes as long as its action.
-pub tower-length : (bytes : List ℕ) (x a : ℕ) → tower-of bytes .step-length x a ≡ ticks (length-of bytes a)
-unfolding tower-of
-tower-length bytes x a = refl
 
 -- What holds of the tower of a fit file.
 pub record TowerBounds (tower : Tower) : Type 0 where
@@ -246,12 +227,6 @@ fit-bounds {bytes} fit =
 -- A tower has at most 16 marks.
 pub marks-few : (tower : List ℕ) (marks : ℕ) → FitTower tower → marks ≡ tower-of tower .marks → marks ≤ 16
 marks-few tower marks fit e = omega (arith, fit-bounds fit .marks-most)
-
--- In a file of bytes a step takes at most 255 ticks.
-pub step-most : (bytes : List ℕ) (x a : ℕ) (d : Tick) → ((i : ℕ) → Fits w8 (byte-at bytes i)) → d ≡ tower-of bytes .step-length x a
-    → d .0 ≤ 255
-unfolding tower-of length-of
-step-most bytes x a d h e = omega (arith, h (header-size + 2 * a), ap (λ (t : Tick). t .0) e)
 
 -- The answer is a state: the action leads to it.
 pub state-reached : (o : Option ℕ) (r : Reached) (y : ℕ) → r ≡ target-read o → r ≡ State y → o ≡ some y

@@ -7,14 +7,5 @@ use Rattle.book_formula.proofs.formula.Tie as tie
 
 ruleset all = (needs, formula-read)
 
-or-level-requires : tie.Need-or-level-requires
-or-level-requires c κs = search all
-
-same-length : tie.Need-same-length
-same-length c = search all
-
-returns : tie.Need-returns
-returns c = search all
-
 pub formula-spec : {M : Type 1} → statement M
-formula-spec = tie.close (tie.spec or-level-requires same-length returns)
+formula-spec = tie.close (tie.spec (λ c κs. search all) (λ c. search all) (λ c. search all))

@@ -7,11 +7,5 @@ use Rattle.book_formula.proofs.one_code.Tie as tie
 
 ruleset all = (needs, code-always, code-other)
 
-returns : tie.Need-returns
-returns c = search all
-
-returns-2 : tie.Need-returns-2
-returns-2 c = search all
-
 pub one-code-spec : {M : Type 1} → statement M
-one-code-spec = tie.close (tie.spec returns returns-2)
+one-code-spec = tie.close (tie.spec (λ c. search all) (λ c. search all))

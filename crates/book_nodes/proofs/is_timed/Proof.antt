@@ -7,11 +7,5 @@ use Rattle.book_nodes.proofs.is_timed.Tie as tie
 
 ruleset all = (needs, timed-read)
 
-shared-slice-read-result : tie.Need-shared-slice-read-result
-shared-slice-read-result c = search all
-
-returns : tie.Need-returns
-returns c = search all
-
 pub is-timed-spec : {M : Type 1} → statement M
-is-timed-spec = tie.close (tie.spec shared-slice-read-result returns)
+is-timed-spec = tie.close (tie.spec (λ c. search all) (λ c. search all))

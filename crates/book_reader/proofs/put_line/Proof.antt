@@ -8,31 +8,10 @@ use Rattle.book_reader.proofs.put_line.Tie as tie
 
 ruleset all = (needs, line-put)
 
-last-node-requires : tie.Need-last-node-requires
-last-node-requires c κs = search all
-
-mul-at : tie.Need-mul-at
-mul-at c = search all
-
-add-at : tie.Need-add-at
-add-at c = search all
-
-slice-write-area : tie.Need-slice-write-area
-slice-write-area c = search all
-
-add-area : tie.Need-add-area
-add-area c = search all
-
 slice-write-area-2 : tie.Need-slice-write-area-2
 slice-write-area-2 c = simp length-set (omega arith)
-
-same-length : tie.Need-same-length
-same-length c = search all
-
-returns : tie.Need-returns
-returns c = search all
 
 pub put-line-spec : {M : Type 1} → statement M
 put-line-spec =
     tie.close
-    (tie.spec last-node-requires mul-at add-at slice-write-area add-area slice-write-area-2 same-length returns)
+    (tie.spec (λ c κs. search all) (λ c. search all) (λ c. search all) (λ c. search all) (λ c. search all) slice-write-area-2 (λ c. search all) (λ c. search all))

@@ -6,21 +6,6 @@ use Rattle.book_reader.proofs.read_book.Tie as tie
 
 ruleset all = (needs, outcome-short, outcome-whole)
 
-returns : tie.Need-returns
-returns c = search all
-
-read-under-requires : tie.Need-read-under-requires
-read-under-requires c κs = search all
-
-clear-requires : tie.Need-clear-requires
-clear-requires c κs = search all
-
-same-length : tie.Need-same-length
-same-length c = search all
-
-returns-2 : tie.Need-returns-2
-returns-2 c = search all
-
 pub read-book-spec : {M : Type 1} → statement M
 read-book-spec =
-    tie.close (tie.spec returns read-under-requires clear-requires same-length returns-2)
+    tie.close (tie.spec (λ c. search all) (λ c κs. search all) (λ c κs. search all) (λ c. search all) (λ c. search all))

@@ -8,25 +8,13 @@ use Rattle.book_reader.proofs.start.Tie as tie
 
 ruleset all = (needs, started)
 
-slice-write-area : tie.Need-slice-write-area
-slice-write-area c = search all
-
 slice-write-area-2 : tie.Need-slice-write-area-2
 slice-write-area-2 c = simp length-set (omega arith)
-
-cast-area : tie.Need-cast-area
-cast-area c = search all
 
 slice-write-area-3 : tie.Need-slice-write-area-3
 slice-write-area-3 c = simp length-set (omega arith)
 
-same-length : tie.Need-same-length
-same-length c = search all
-
-returns : tie.Need-returns
-returns c = search all
-
 pub start-spec : {M : Type 1} → statement M
 start-spec =
     tie.close
-    (tie.spec slice-write-area slice-write-area-2 cast-area slice-write-area-3 same-length returns)
+    (tie.spec (λ c. search all) slice-write-area-2 (λ c. search all) slice-write-area-3 (λ c. search all) (λ c. search all))

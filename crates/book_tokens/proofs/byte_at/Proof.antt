@@ -6,14 +6,5 @@ use Rattle.book_tokens.proofs.byte_at.Tie as tie
 
 ruleset all = (needs, byte-past)
 
-shared-slice-read-result : tie.Need-shared-slice-read-result
-shared-slice-read-result c = search all
-
-returns : tie.Need-returns
-returns c = search all
-
-returns-2 : tie.Need-returns-2
-returns-2 c = search all
-
 pub byte-at-spec : {M : Type 1} → statement M
-byte-at-spec = tie.close (tie.spec shared-slice-read-result returns returns-2)
+byte-at-spec = tie.close (tie.spec (λ c. search all) (λ c. search all) (λ c. search all))

@@ -6,11 +6,5 @@ use Rattle.book_tokens.proofs.is_digit.Tie as tie
 
 ruleset all = (needs, digit-below, digit-above)
 
-returns : tie.Need-returns
-returns c = search all
-
-returns-2 : tie.Need-returns-2
-returns-2 c = search all
-
 pub is-digit-spec : {M : Type 1} → statement M
-is-digit-spec = tie.close (tie.spec returns returns-2)
+is-digit-spec = tie.close (tie.spec (λ c. search all) (λ c. search all))

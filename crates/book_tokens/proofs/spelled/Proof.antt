@@ -6,11 +6,5 @@ use Rattle.book_tokens.proofs.spelled.Tie as tie
 
 ruleset all = (needs, spelled-none, spelled-some)
 
-returns : tie.Need-returns
-returns c = search all
-
-returns-2 : tie.Need-returns-2
-returns-2 c = search all
-
 pub spelled-spec : {M : Type 1} → statement M
-spelled-spec = tie.close (tie.spec returns returns-2)
+spelled-spec = tie.close (tie.spec (λ c. search all) (λ c. search all))

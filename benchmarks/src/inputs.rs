@@ -1,0 +1,322 @@
+//! Towers, books and tables of stated sizes, the same in every run.
+
+use crate::plain::check::Checker;
+use crate::plain::make::{Maker, Size};
+use crate::vectors;
+
+/// The most bytes of a table file: 1,000 rows of 16 steps.
+pub const MOST_TABLE: usize = 52_012;
+
+/// The most bytes of a book.
+const MOST_BOOK: usize = 4_096;
+
+const NOT_ENABLED: u8 = 255;
+
+/// Numbers by xorshift.
+struct Random(u64);
+
+impl Random {
+    /// Numbers that depend on all of the seed, which is not 0.
+    fn new(seed: u64) -> Self {
+        let mut random = Random(seed.wrapping_mul(0x9E37_79B9_7F4A_7C15));
+        for _ in 0..8 {
+            random.below(1);
+        }
+        random
+    }
+
+    fn below(&mut self, limit: usize) -> usize {
+        self.0 ^= self.0 << 13;
+        self.0 ^= self.0 >> 7;
+        self.0 ^= self.0 << 17;
+        (self.0 >> 32) as usize % limit
+    }
+
+    fn once_in(&mut self, times: usize) -> bool {
+        self.below(times) == 0
+    }
+}
+
+/// A tower file whose start is state 0: actions as length and kind, states as mask and targets.
+fn tower_file(marks: u8, actions: &[[u8; 2]], states: &[(u16, Vec<u8>)]) -> Vec<u8> {
+    let states_at = 8 + 2 * actions.len() as u8;
+    let mut file = vec![states.len() as u8, actions.len() as u8, marks, 0];
+    file.extend([8, 0, states_at, 0]);
+    file.extend(actions.concat());
+    for (mask, targets) in states {
+        file.extend(mask.to_le_bytes());
+        file.extend(targets);
+    }
+    file
+}
+
+/// The stages of a round, each with a mark of its own.
+const STAGES: usize = 8;
+
+/// A tower of rounds: every action leads from a stage to the next, to one of its states at random.
+/// An action takes 2 or 3 ticks; the first is the player's; one in eight is not enabled. Where there
+/// are `clashes`, a step can break a rule by the state that it leads to.
+fn round_tower(states: usize, seed: u64, clashes: bool) -> Vec<u8> {
+    let mut random = Random::new(seed);
+    let actions: Vec<[u8; 2]> = (0..16)
+        .map(|action| {
+            [
+                2 + u8::from(action >= 2 && action % 2 == 1),
+                u8::from(action > 0),
+            ]
+        })
+        .collect();
+    let state = |x: usize| {
+        let mut mask = 1 << (x % STAGES);
+        for mark in STAGES..STAGES + 3 {
+            mask |= u16::from(random.once_in(4)) << mark;
+        }
+        match random.below(6) {
+            0 => mask |= 1 << 11,
+            1 if clashes => mask |= 1 << 12,
+            _ => {}
+        }
+        let target = |_| {
+            if random.once_in(8) {
+                return NOT_ENABLED;
+            }
+            ((x + 1 + STAGES * random.below(states / STAGES)) % states) as u8
+        };
+        (mask, (0..16).map(target).collect())
+    };
+    let states: Vec<(u16, Vec<u8>)> = (0..states).map(state).collect();
+    tower_file(16, &actions, &states)
+}
+
+/// A book of 60 nodes for towers of rounds. Up to five of them are pending at one time.
+pub const ROUND_BOOK: &str = "\
+always !p0 | E 8 p3
+always !p1 | E 8 p4
+always !p2 | E 5 (p4 | p5)
+always !p3 | U 8 (!p1, p6)
+always !p4 | A 4 (!p8 | !p0)
+always !p5 | (A 3 !p2 & E 5 p7)
+always !p6 | N <= 3 N <= 3 !p4
+always !p7 | A 3 (!p9 | N <= 2 N <= 3 T)
+always !p10 | A 3 T
+always !p11 | A 2 !p12
+start E 9 p3
+";
+
+/// A tower and a book.
+pub struct Ruled {
+    pub tower: Vec<u8>,
+    pub book: Vec<u8>,
+    pub size: Size,
+    /// The table that they make.
+    pub table: Vec<u8>,
+    /// How many rows with what is pending the checker meets in it.
+    pub items: usize,
+}
+
+impl Ruled {
+    /// Where a table can be made of them.
+    fn of(tower: Vec<u8>, book: Vec<u8>) -> Option<Self> {
+        let mut table = vec![0; MOST_TABLE];
+        let mut maker = Maker::new();
+        let length = maker.make(&tower, &book, &mut table).ok()?;
+        table.truncate(length);
+        let mut checker = Checker::new();
+        checker.check(&tower, &book, &table).ok()?;
+        Some(Ruled {
+            size: maker.size(&tower).ok()?,
+            items: checker.met(),
+            tower,
+            book,
+            table,
+        })
+    }
+
+    pub fn states(&self) -> usize {
+        usize::from(self.tower[0])
+    }
+}
+
+/// How many seeds are tried before a search fails.
+const MOST_SEEDS: u64 = 2_000;
+
+/// The first tower of rounds about as large as `wanted`, by a search over the seeds from `from` on,
+/// that is `right`.
+fn search(wanted: usize, clashes: bool, from: u64, right: impl Fn(&Ruled) -> bool) -> Ruled {
+    for seed in from..from + MOST_SEEDS {
+        for states in (wanted / 16..=wanted / 10).filter(|states| states % STAGES == 0) {
+            let tower = round_tower(states, seed, clashes);
+            let ruled = Ruled::of(tower, ROUND_BOOK.into());
+            if let Some(ruled) = ruled.filter(&right) {
+                return ruled;
+            }
+        }
+    }
+    panic!("no seed gives a tower of size {wanted}")
+}
+
+/// A seed to begin the search with, so that it is short.
+fn first_seed(seeds: [(usize, u64); 3], count: usize) -> u64 {
+    let seed = seeds.into_iter().find(|(size, _)| *size == count);
+    seed.map_or(1, |(_, seed)| seed)
+}
+
+/// A tower and a book with so many rows with what is pending, for the checker.
+pub fn with_items(count: usize) -> Ruled {
+    let from = first_seed([(250, 46), (500, 34), (1_000, 4)], count);
+    search(count, false, from, |ruled| ruled.items == count)
+}
+
+/// A tower and a book with so many pairs, for the maker. From a tenth to a quarter are removed.
+pub fn with_pairs(count: usize) -> Ruled {
+    let from = first_seed([(250, 46), (500, 103), (1_000, 1_647)], count);
+    let kept = count - count / 4..=count - count / 10;
+    search(count, true, from, |ruled| {
+        ruled.size.pairs == count && kept.contains(&ruled.size.kept)
+    })
+}
+
+/// The tower of the vectors whose 500 rows only time tells apart.
+pub fn chain() -> Ruled {
+    let mut lines = vectors::lines("make.txt").into_iter();
+    let ruled = lines.find_map(|line| {
+        let [tower, book, _] = &line.inputs[..] else {
+            return None;
+        };
+        // The counts stand first: 500 rows, and 2 states.
+        let found = line.answer.starts_with("made f401") && tower.starts_with("02");
+        found.then(|| Ruled::of(vectors::bytes(tower), vectors::bytes(book)))?
+    });
+    ruled.expect("a vector with 500 rows of 2 states")
+}
+
+/// Segments of the tower of `removed_one_by_one`, and the parts that each has.
+const SEGMENTS: usize = 12;
+const PARTS: usize = 8;
+
+/// A tower and a book most of whose pairs are removed one after the other, each of them only after
+/// one that was met before it.
+///
+/// A segment is a ring of eight states that its last action goes round, a tick each. Mark 1 has to
+/// come within 65 ticks, and is not to be had there; but one state has a way out, to a state with
+/// mark 1 and on to the segment before, unless that is removed. Each segment is entered from the
+/// start by two steps of 2 to 65 ticks together, so that a pair with fewer ticks left is met before
+/// one with more.
+pub fn removed_one_by_one() -> Ruled {
+    let long = (0..PARTS).map(|i| [1 + (PARTS * (PARTS - 1 - i)) as u8, 1]);
+    let short = (0..PARTS).map(|i| [(PARTS - i) as u8, 1]);
+    let actions: Vec<[u8; 2]> = long.chain(short).collect();
+    let (way_out, round) = (PARTS - 1, 2 * PARTS - 1);
+
+    // The states: the start, and for each segment its two entries, its ring and its way out.
+    let size = 2 + PARTS + 1;
+    let first_entry = |segment: usize| (1 + size * segment) as u8;
+    let second_entry = |segment: usize| first_entry(segment) + 1;
+    let ring = |segment: usize, part: usize| second_entry(segment) + 1 + (part % PARTS) as u8;
+    let outside = |segment: usize| ring(segment, 0) + PARTS as u8;
+    let mut states = vec![(0, vec![NOT_ENABLED; 2 * PARTS]); 1 + size * SEGMENTS];
+    let mut lead = |from: u8, action: usize, to: u8| states[usize::from(from)].1[action] = to;
+    lead(0, round, 0);
+    for segment in 0..SEGMENTS {
+        lead(0, segment, first_entry(segment));
+        for i in 0..PARTS {
+            lead(first_entry(segment), i, second_entry(segment));
+            lead(second_entry(segment), PARTS + i, ring(segment, i));
+            lead(ring(segment, i + 1), round, ring(segment, i));
+        }
+        if segment > 0 {
+            lead(ring(segment, 1), way_out, outside(segment));
+            lead(outside(segment), round, ring(segment - 1, 1));
+        }
+    }
+    states[0].0 = 2;
+    for segment in 0..SEGMENTS {
+        states[usize::from(outside(segment))].0 = 2;
+    }
+    let tower = tower_file(2, &actions, &states);
+    let book = format!("always E {} p1\n", PARTS * PARTS + 1);
+    Ruled::of(tower, book.into()).expect("the start alone makes a table")
+}
+
+/// The book of rounds with so many spaces between its tokens that it has 4,096 bytes.
+pub fn spaced_book() -> Vec<u8> {
+    fill(ROUND_BOOK)
+}
+
+/// A book of 60 nodes, each a line with 16 brackets open, with as many spaces.
+pub fn bracketed_book() -> Vec<u8> {
+    let line = |number: usize| {
+        let mark = number % 16;
+        format!("always {}p{mark}{}\n", "( ".repeat(16), ")".repeat(16))
+    };
+    fill(&(0..60).map(line).collect::<String>())
+}
+
+/// Repeats the spaces of a book in turn until it has 4,096 bytes.
+fn fill(text: &str) -> Vec<u8> {
+    let spaces = text.bytes().filter(|byte| *byte == b' ').count();
+    let missing = MOST_BOOK - text.len();
+    let mut book = Vec::new();
+    let mut space = 0;
+    for byte in text.bytes() {
+        book.push(byte);
+        if byte == b' ' {
+            let more = missing / spaces + usize::from(space < missing % spaces);
+            book.extend(std::iter::repeat_n(b' ', more));
+            space += 1;
+        }
+    }
+    book
+}
+
+/// The two-byte number at `at`.
+fn two_bytes(bytes: &[u8], at: usize) -> usize {
+    usize::from(u16::from_le_bytes([bytes[at], bytes[at + 1]]))
+}
+
+/// The rows and the steps of a table file.
+pub fn table_counts(table: &[u8]) -> [usize; 2] {
+    [0, 2].map(|at| two_bytes(table, at))
+}
+
+/// The table of the small tower under its book 1.
+pub fn small_table() -> Vec<u8> {
+    let line = vectors::lines("make.txt").into_iter().next();
+    let table = line.expect("a first vector").answer;
+    vectors::bytes(table.strip_prefix("made ").expect("a table"))
+}
+
+/// A table of 1,000 rows for 200 states and 16 actions, with so many steps in each row.
+pub fn table_file(steps_of_row: usize) -> Vec<u8> {
+    let rows = 1_000;
+    let steps = rows * steps_of_row;
+    let mut random = Random::new(1);
+    let mut file = Vec::new();
+    for number in [rows, steps, 12, 12 + 4 * rows, 200, 16] {
+        file.extend((number as u16).to_le_bytes());
+    }
+    for row in 0..rows {
+        file.extend([(row % 200) as u8, steps_of_row as u8]);
+        file.extend(((row * steps_of_row) as u16).to_le_bytes());
+    }
+    for step in 0..steps {
+        file.push((step % steps_of_row) as u8);
+        file.extend((random.below(rows) as u16).to_le_bytes());
+    }
+    file
+}
+
+/// Actions that a table allows one after the other from row 0 on.
+pub fn walk(table: &[u8], length: usize) -> Vec<usize> {
+    let mut random = Random::new(2);
+    let mut row = 0;
+    let steps_at = two_bytes(table, 6);
+    let step = |_| {
+        let at = 12 + 4 * row;
+        let step = two_bytes(table, at + 2) + random.below(usize::from(table[at + 1]));
+        let at = steps_at + 3 * step;
+        row = two_bytes(table, at + 1);
+        usize::from(table[at])
+    };
+    (0..length).map(step).collect()
+}

@@ -1,0 +1,122 @@
+//! Judges a table.
+
+use super::book::Book;
+use super::hash::Fast;
+use super::pending::{self, Pending};
+use super::table::Table;
+use super::tower::Tower;
+use super::{Refusal, MOST_PAIRS};
+use std::collections::HashSet;
+
+/// A row with what is pending there.
+#[derive(Clone, Copy, PartialEq, Eq, Hash)]
+struct Item {
+    row: u16,
+    pending: Pending,
+}
+
+/// The room of a checker, kept from call to call.
+pub struct Checker {
+    known: HashSet<Item, Fast>,
+    met: Vec<Item>,
+}
+
+impl Checker {
+    pub fn new() -> Self {
+        Checker {
+            known: HashSet::with_capacity_and_hasher(MOST_PAIRS + 1, Fast::default()),
+            met: Vec::with_capacity(MOST_PAIRS + 1),
+        }
+    }
+
+    /// How many rows with what is pending the last call has met.
+    pub fn met(&self) -> usize {
+        self.met.len()
+    }
+
+    /// Whether the table is good for the tower and the book.
+    pub fn check(&mut self, tower: &[u8], book: &[u8], table: &[u8]) -> Result<(), Refusal> {
+        let tower = Tower::read(tower)?;
+        let book = Book::read(tower.marks, book)?;
+        let table = Table::read(table)?;
+        if table.states != tower.states || table.actions != tower.actions {
+            return Err(Refusal::new(13));
+        }
+        if table.state(0) != tower.start {
+            return Err(Refusal::not_good(b'a', 0));
+        }
+        for row in 0..table.rows {
+            judge_row(&tower, &table, row)?;
+        }
+        if self.allows_a_broken_run(&tower, &book, &table)? {
+            return Err(Refusal::not_good(b'e', 0));
+        }
+        Ok(())
+    }
+
+    /// Whether some allowed run is broken; 11 where there is too much to count. Counting goes on
+    /// after a broken step.
+    fn allows_a_broken_run(
+        &mut self,
+        tower: &Tower,
+        book: &Book,
+        table: &Table,
+    ) -> Result<bool, Refusal> {
+        self.known.clear();
+        self.met.clear();
+        let first = Item {
+            row: 0,
+            pending: pending::at_first(book),
+        };
+        self.known.insert(first);
+        self.met.push(first);
+        let mut broken = false;
+        let mut next = 0;
+        while let Some(&item) = self.met.get(next) {
+            next += 1;
+            let row = usize::from(item.row);
+            let marks = tower.mask(table.state(row));
+            for step in table.steps(row) {
+                let length = tower.length(step.action);
+                let Some(pending) = pending::after(book, &item.pending, marks, length) else {
+                    broken = true;
+                    continue;
+                };
+                let reached = Item {
+                    row: step.target as u16,
+                    pending,
+                };
+                if self.known.insert(reached) {
+                    if self.met.len() == MOST_PAIRS {
+                        return Err(Refusal::new(11));
+                    }
+                    self.met.push(reached);
+                }
+            }
+        }
+        Ok(broken)
+    }
+}
+
+/// The reasons b, c and d.
+fn judge_row(tower: &Tower, table: &Table, row: usize) -> Result<(), Refusal> {
+    let state = table.state(row);
+    let mut allowed = 0u16;
+    let mut led_astray = false;
+    for step in table.steps(row) {
+        allowed |= 1 << step.action;
+        led_astray |= tower.target(state, step.action) != Some(table.state(step.target));
+    }
+    for (action, target) in tower.targets(state).enumerate() {
+        if target.is_some() && allowed >> action & 1 == 0 && tower.is_players(action) {
+            return Err(Refusal::not_good(b'b', row));
+        }
+    }
+    if led_astray {
+        return Err(Refusal::not_good(b'c', row));
+    }
+    if allowed == 0 {
+        return Err(Refusal::not_good(b'd', row));
+    }
+    Ok(())
+}

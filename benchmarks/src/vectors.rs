@@ -1,0 +1,86 @@
+//! The vectors of `tests/vectors`.
+
+use crate::answer::Answer;
+use crate::inputs::MOST_TABLE;
+use crate::plain::book::Book;
+use crate::plain::check::Checker;
+use crate::plain::follow::follow;
+use crate::plain::make::Maker;
+use std::fs;
+use std::path::Path;
+
+pub struct Line {
+    pub inputs: Vec<String>,
+    pub answer: String,
+}
+
+/// The lines of a file of vectors.
+pub fn lines(file: &str) -> Vec<Line> {
+    let folder = Path::new(env!("CARGO_MANIFEST_DIR")).join("../tests/vectors");
+    let text = fs::read_to_string(folder.join(file)).expect("a file of vectors");
+    let line = |line: &str| {
+        let (inputs, answer) = line.split_once(" = ").expect("inputs and an answer");
+        Line {
+            inputs: inputs.split(' ').map(str::to_string).collect(),
+            answer: answer.to_string(),
+        }
+    };
+    text.lines().map(line).collect()
+}
+
+/// Bytes in hexadecimal; `-` is no bytes.
+pub fn bytes(hexadecimal: &str) -> Vec<u8> {
+    let pairs = hexadecimal.trim_matches('-').as_bytes().chunks_exact(2);
+    let byte = |pair| u8::from_str_radix(std::str::from_utf8(pair).ok()?, 16).ok();
+    pairs.map(|pair| byte(pair).expect("two digits")).collect()
+}
+
+/// Compares the answers of the plain side with those of the vectors, and answers how many lines
+/// there are.
+pub fn compare() -> usize {
+    let mut maker = Maker::new();
+    let mut checker = Checker::new();
+    let mut count = 0;
+    let mut each = |file: &str, answer: &mut dyn FnMut(&[String]) -> String| {
+        for line in lines(file) {
+            let answer = answer(&line.inputs);
+            assert_eq!(answer, line.answer, "{file}: {}", line.inputs.join(" "));
+            count += 1;
+        }
+    };
+    let number = |text: &str| text.parse::<usize>().expect("a number");
+    each(
+        "book.txt",
+        &mut |inputs| match Book::read(number(&inputs[0]), &bytes(&inputs[1])) {
+            Ok(book) => format!("ok {} {}", book.line_count(), book.node_count),
+            Err(refusal) => Answer::of(Err(refusal)).to_string(),
+        },
+    );
+    each("make.txt", &mut |inputs| {
+        let mut out = vec![0; number(&inputs[2]).min(MOST_TABLE)];
+        match maker.make(&bytes(&inputs[0]), &bytes(&inputs[1]), &mut out) {
+            Ok(length) => {
+                let byte = |byte: &u8| format!("{byte:02x}");
+                let table: String = out[..length].iter().map(byte).collect();
+                format!("made {table}")
+            }
+            Err(refusal) => Answer::of(Err(refusal)).to_string(),
+        }
+    });
+    each("check.txt", &mut |inputs| {
+        let [tower, book, table] = [0, 1, 2].map(|i| bytes(&inputs[i]));
+        match checker.check(&tower, &book, &table) {
+            Ok(()) => "good".to_string(),
+            Err(refusal) => Answer::of(Err(refusal)).to_string(),
+        }
+    });
+    each("follow.txt", &mut |inputs| match follow(
+        &bytes(&inputs[0]),
+        number(&inputs[1]),
+        number(&inputs[2]),
+    ) {
+        Ok(row) => format!("row {row}"),
+        Err(refusal) => Answer::of(Err(refusal)).to_string(),
+    });
+    count
+}
