@@ -1,5 +1,5 @@
 -- What callers may use: entries and their bytes, the answer of a search for one, and when an index is one of the entries.
-use Prim.Native.Nat.{ℕ, zero, suc, _+_, _*_, _%_, _≤_, _<_}
+use Prim.Native.Nat.{ℕ, zero, suc, _+_, _*_, _≤_, _<_}
 use native.Mathlib.Omega.{arith}
 use native.Mathlib.Nat.{add-zero, zero-add}
 use native.Mathlib.Numerals.{add-one}
@@ -17,7 +17,7 @@ use Rattle.base.specs.Bytes.{byte-at, number-at}
 use Rattle.base.specs.Lists.{count-from, below, place-of}
 use Rattle.base.proofs.Lists.{never-both, same-list-eq, eq-same-list, length-below, getD-below}
 use Rattle.base.proofs.Lists.{place-of-le, place-of-at, place-of-before, place-of-first}
-use Rattle.entry_index.specs.Entries.{entry-size, buckets, entry-at, entries-of, same-entry, hash-from, hash-of, last-with, head-of}
+use Rattle.entry_index.specs.Entries.{entry-size, buckets, entry-at, entries-of, same-entry, hash-of, last-with, head-of}
 use Rattle.entry_index.specs.Entries.{Indexed}
 
 -- ---- entries
@@ -147,15 +147,10 @@ found-none entries n none = go (decLt r n)
 
 -- ---- hashes
 
-hash-small : (h : ℕ) (bytes : List ℕ) → h < buckets → hash-from h bytes < buckets
-unfolding hash-from
-hash-small h [] l = l
-hash-small h (b ∷ bs) l = hash-small ((h * 257 + b) % 1021) bs (omega arith)
-
 -- A hash is below the number of buckets.
 pub hash-below : (entry : List ℕ) → hash-of entry < buckets
 unfolding hash-of
-hash-below entry = hash-small 0 entry (omega arith)
+hash-below entry = omega arith
 
 module _ (entries : List ℕ) (h : ℕ) where
   -- The last of n is one of them.

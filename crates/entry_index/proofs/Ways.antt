@@ -17,7 +17,7 @@ use Rattle.base.specs.Lists.{same-list, place-of}
 use Rattle.base.proofs.Lists.{false-by}
 use Rattle.lent_bytes.proofs.Numbers.{stored, stored-read, byte-beside}
 use Rattle.entry_index.specs.Entries.{entry-size, most-entries, index-size, links-at, buckets, entry-at, entries-of, same-entry}
-use Rattle.entry_index.specs.Entries.{hash-from, hash-of, last-with, head-of, link-of, Indexed}
+use Rattle.entry_index.specs.Entries.{entry-words, hash-upto, hash-of, last-with, head-of, link-of, Indexed}
 use Rattle.entry_index.proofs.Laws.{entry-byte, entry-length, same-entry-out, found-at, found-none, hash-below}
 use Rattle.entry_index.proofs.Laws.{last-most, last-has, last-behind, last-new, last-old}
 
@@ -30,41 +30,45 @@ written-elsewhere l p q n a b c = rw (byte-beside l p n q a (λ e. b (omega arit
 
 -- ---- the hash
 
--- The loop over the bytes of entry i, k of which have gone into h.
+-- The loop over the two-byte numbers of entry i, k of which have gone into h.
 pub record Hashing (entries : List ℕ) (i h k : ℕ) : Type 0 where
-  pub small : h < buckets
-  pub most : k ≤ entry-size
-  pub rest : hash-from h (drop k (entry-at entries i)) ≡ hash-of (entry-at entries i)
+  pub small : h < 4294967296
+  pub most : k ≤ entry-words
+  pub so-far : h ≡ hash-upto (entry-at entries i) k
 
--- Before the first byte.
+-- Before the first number.
 pub hash-start : (entries : List ℕ) (i : ℕ) → Hashing entries i 0 0
+unfolding hash-upto
+hash-start entries i = record { small = omega arith; most = omega arith; so-far = refl }
+
+-- A number of an entry is one of the area.
+entry-word : (entries : List ℕ) (i k : ℕ) → k < entry-words → number-at 2 (entry-at entries i) (2 * k) ≡ number-at 2 entries (62 * i + 2 * k)
+unfolding number-at
+entry-word entries i k l =
+    let low = entry-byte entries i (2 * k) (omega arith) in
+    let high = entry-byte entries i (2 * k + 1) (omega arith) in
+    let place : 62 * i + (2 * k + 1) ≡ 62 * i + 2 * k + 1 = omega arith in
+    rw (low, high, place)
+
+-- One number more.
+pub hash-more : (entries : List ℕ) (i h k w : ℕ) → Hashing entries i h k → k < 31 → w ≡ number-at 2 entries (62 * i + 2 * k)
+    → Hashing entries i ((h * 48271 + w) % 4294967296) (k + 1)
+unfolding hash-upto
+hash-more entries i h k w g l e =
+    record { small = omega arith; most = omega arith; so-far = rw (add-one k, entry-word entries i k l, ← e, ← (g .so-far)) }
+
+-- All numbers.
+pub hash-end : (entries : List ℕ) (i h k : ℕ) → Hashing entries i h k → 31 ≤ k → h % 1021 ≡ hash-of (entry-at entries i)
 unfolding hash-of
-hash-start entries i = record { small = omega arith; most = omega arith; rest = refl }
-
--- One byte more.
-pub hash-more : (entries : List ℕ) (i h k : ℕ) → Hashing entries i h k → entry-size * i + entry-size ≤ length entries → k < 62
-    → Hashing entries i ((h * 257 + getD entries (62 * i + k) 0) % 1021) (k + 1)
-unfolding hash-from
-hash-more entries i h k g room l =
-    let entry = entry-at entries i in
-    let long = entry-length entries i room in
-    let next = drop-cons entry k 0 (omega arith) in
-    let byte = entry-byte entries i k l in
-    let r = g .rest in
-    record { small = omega arith; most = omega arith; rest = rw (← byte, add-one k) (ap (hash-from h) (sym next) ∙ r) }
-
--- All bytes.
-pub hash-end : (entries : List ℕ) (i h k : ℕ) → Hashing entries i h k → entry-size * i + entry-size ≤ length entries → 62 ≤ k
-    → h ≡ hash-of (entry-at entries i)
-unfolding hash-from
-hash-end entries i h k g room l =
-    let long = entry-length entries i room in
-    ap (hash-from h) (sym (drop-of-length-le (entry-at entries i) {i = k} (omega arith))) ∙ g .rest
+hash-end entries i h k g l =
+    let all : k ≡ 31 = omega (arith, g .most) in
+    ap (λ n. n % 1021) (g .so-far ∙ ap (hash-upto (entry-at entries i)) all)
 
 -- The sum before the remainder is taken fits.
-pub hash-fits : (entries : List ℕ) (i h k p : ℕ) → Hashing entries i h k → ((j : ℕ) → Fits w8 (getD entries j 0))
-    → Fits w64 (h * 257 + getD entries p 0)
-hash-fits entries i h k p g bytes = omega (arith, bytes p, g .small)
+pub hash-fits : (entries : List ℕ) (i h k w p : ℕ) → Hashing entries i h k → w ≡ number-at 2 entries p → ((j : ℕ) → Fits w8 (getD entries j 0))
+    → Fits w64 (h * 48271 + w)
+unfolding number-at
+hash-fits entries i h k w p g e bytes = omega (arith, bytes p, bytes (p + 1), g .small)
 
 -- ---- equal entries
 

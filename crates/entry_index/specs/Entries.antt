@@ -2,7 +2,7 @@
 use Prim.Native.Nat.{ℕ, zero, suc, _+_, _*_, _%_, _<_}
 use mathlib.Core.Path.{_≡_}
 use mathlib.Core.Bool.{Bool}
-use mathlib.Core.List.{List, [], _∷_, map}
+use mathlib.Core.List.{List, map}
 use lib.ListN.{take, drop}
 use lib.Dec.{eqb}
 use Rattle.base.specs.Choice.{pick}
@@ -41,14 +41,18 @@ same-entry x y = same-list eqb x y
 abbrev pub buckets : ℕ
 buckets = 1021
 
--- the hash of bytes that come behind others with the hash h
-unfoldable pub hash-from : ℕ → List ℕ → ℕ
-hash-from h [] = h
-hash-from h (b ∷ bs) = hash-from ((h * 257 + b) % buckets) bs
+-- how many two-byte numbers an entry has
+abbrev pub entry-words : ℕ
+entry-words = 31
+
+-- the hash of the first k two-byte numbers of an entry, before it is brought below the number of hashes
+unfoldable pub hash-upto : List ℕ → ℕ → ℕ
+hash-upto entry zero = 0
+hash-upto entry (suc k) = (hash-upto entry k * 48271 + number-at 2 entry (2 * k)) % 4294967296
 
 -- the hash of an entry
 unfoldable pub hash-of : List ℕ → ℕ
-hash-of entry = hash-from 0 entry
+hash-of entry = hash-upto entry entry-words % buckets
 
 -- of the first n entries the last with the hash h: its number plus one, or 0 if there is none
 unfoldable pub last-with : List ℕ → ℕ → ℕ → ℕ

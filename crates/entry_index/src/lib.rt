@@ -10,8 +10,13 @@ ghost use Rattle.entry_index.specs.Entries.{entry-at, entries-of, same-e
 // The bytes of an entry.
 const ENTRY_SIZE: usize = 62;
 
-// The hash of an entry: each byte is added to the multiple of what came before it, modulo a prime.
-const MULTIPLIER: usize = 257;
+// The hash of an entry: each of its two-byte numbers is added to the multiple of what came before it,
+// and the sum is brought below the number of buckets, a prime.
+const ENTRY_WORDS: usize = 31;
+
+const MULTIPLIER: usize = 48271;
+
+const MODULUS: usize = 4294967296;
 
 const BUCKETS: usize = 1021;
 
@@ -28,11 +33,12 @@ pub fn hash(entries: &[u8], i: usize) -> usize
     let start = ENTRY_SIZE * i;
     let mut h = 0;
     let mut k = 0;
-    while k < ENTRY_SIZE {
-        h = (h * MULTIPLIER + entries[start + k] as usize) % BUCKETS;
+    while k < ENTRY_WORDS {
+        let word = lent_bytes::two_bytes(entries, start + 2 * k);
+        h = (h * MULTIPLIER + word) % MODULUS;
         k += 1;
     }
-    h
+    h % BUCKETS
 }
 
 // Whether entries i and j are equal.

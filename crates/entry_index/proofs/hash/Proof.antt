@@ -1,22 +1,21 @@
 -- `entry_index::hash` meets its contract.
--- The invariant: the hash so far, with the bytes that are left, gives the hash of the entry. The measure: how many bytes are left.
+-- The invariant: h is the hash of the first k numbers of the entry. The measure: how many are left.
 use Prim.Native.Nat.{_-_}
 use borrow.Author.Needs.{needs}
 use Rattle.entry_index.proofs.Ways.{Hashing, hash-start, hash-more, hash-end, hash-fits}
-use Rattle.lent_bytes.proofs.Numbers.{cast-byte}
 use Rattle.entry_index.proofs.hash.Statement.{statement}
 use Rattle.entry_index.proofs.hash.Tie as tie
 
-ruleset all = (needs, hash-start, hash-more, hash-end, hash-fits, cast-byte)
+ruleset all = (needs, hash-start, hash-more, hash-end, hash-fits)
 
 abbrev Inv-loop : tie.InvT-loop
 Inv-loop entries i start h₀ k₀ h k = Hashing entries i h k
 
 abbrev μ-loop : tie.MeasureT-loop
-μ-loop entries i start h₀ k₀ h k = 62 - k
+μ-loop entries i start h₀ k₀ h k = 31 - k
 
 pub hash-spec : {M : Type 1} → statement M
 hash-spec =
     tie.close
-    (tie.spec Inv-loop μ-loop (λ c. search all) (λ c. search all) (λ c. search all) (λ c. search all) (λ c. search all) (λ c. search all)
+    (tie.spec Inv-loop μ-loop (λ c. search all) (λ c. search all) (λ c. search all) (λ c. search all) (λ c κs. search all) (λ c. search all)
     (λ c. search all) (λ c. search all) (λ c. search all) (λ c. search all) (λ c. search all))
