@@ -1,0 +1,89 @@
+// check_table [TOWER BOOK TABLE]: prints `good`, or `refused` with number and place, and the reason's
+// letter inside a 14 (docs/PROGRAMS.md). Without names they are tower.bin, book.txt and table.bin.
+ghost use mathlib.Core.Path.{_≡_};
+ghost use Rattle.outcome.specs.Check.{verdict, checked-file};
+use base::Refusal;
+use base::Verdict;
+use files::Contents;
+
+// Prints the answer.
+fn tell(answer: Verdict, tower: &[u8], book: &[u8], length: usize, table: &[u8]) {
+    match answer {
+        Verdict::Good => {
+            files::print(b"good\n");
+        }
+        Verdict::NotGood(reason) => {
+            files::refuse(Refusal::NotGood(reason), tower, book, length, table);
+        }
+        Verdict::Refused(why) => {
+            files::refuse(why, tower, book, length, table);
+        }
+    }
+}
+
+// The answer of the definition. The work areas are long enough (docs/WORK-AREAS.md): 15 never comes.
+fn check(tower: &[u8], text: &[u8], table: &[u8]) -> Verdict
+    ensures { λ r. ⌜ r ≡ verdict (checked-file (now (tower .entry)) (now (text .entry)) (now (table .entry))) ⌝ }
+{
+    let mut nodes = [0u8; 512];
+    let mut items = [0u8; 62062];
+    let mut index = [0u8; 8192];
+    checker::check(tower, text, table, &mut nodes, &mut items, &mut index)
+}
+
+// Reads the table and checks it. In each area there is room for one byte more than the longest file
+// that is fit, so that a longer one is refused for its length.
+fn check_from(tower_bytes: &[u8], text: &[u8], tower: &[u8], book: &[u8], table: &[u8]) {
+    let mut table_bytes = [0u8; file_limits::TABLE];
+    let Contents::Bytes(n) = files::read_file(table, &mut table_bytes) else {
+        return;
+    };
+    let answer = check(tower_bytes, text, &table_bytes[..n]);
+    tell(answer, tower, book, text.len(), table);
+}
+
+// Reads the tower and the book first.
+fn run(tower: &[u8], book: &[u8], table: &[u8]) {
+    let mut tower_bytes = [0u8; file_limits::TOWER];
+    let Contents::Bytes(t) = files::read_file(tower, &mut tower_bytes) else {
+        return;
+    };
+    let mut text = [0u8; file_limits::BOOK];
+    let Contents::Bytes(b) = files::read_file(book, &mut text) else {
+        return;
+    };
+    check_from(&tower_bytes[..t], &text[..b], tower, book, table);
+}
+
+// The names are the arguments.
+fn run_named() {
+    let mut tower = [0u8; 4096];
+    let Contents::Bytes(t) = files::argument(1, b"TOWER", &mut tower) else {
+        return;
+    };
+    let mut book = [0u8; 4096];
+    let Contents::Bytes(b) = files::argument(2, b"BOOK", &mut book) else {
+        return;
+    };
+    let mut table = [0u8; 4096];
+    let Contents::Bytes(n) = files::argument(3, b"TABLE", &mut table) else {
+        return;
+    };
+    run(&tower[..t], &book[..b], &table[..n]);
+}
+
+fn main() {
+    let count = os::arg_count();
+    if count == 1 {
+        run(b"tower.bin", b"book.txt", b"table.bin");
+        return;
+    }
+    if count == 4 {
+        run_named();
+        return;
+    }
+    io::write_all(
+        libc::STDERR_FILENO,
+        b"usage: check_table [TOWER BOOK TABLE]\n",
+    );
+}

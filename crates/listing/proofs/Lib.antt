@@ -1,0 +1,3 @@
+mod Instances
+mod Lengths
+mod Ways

@@ -1,0 +1,2 @@
+mod MadeFiles
+mod Ways

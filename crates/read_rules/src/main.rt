@@ -1,0 +1,76 @@
+// read_rules [TOWER BOOK]: reads a rule book under the number of marks of a tower, and prints `lines L
+// nodes N`, or `refused` with number and place (docs/PROGRAMS.md). Without names they are tower.bin
+// and book.txt.
+ghost use mathlib.Core.Path.{_≡_};
+ghost use Rattle.read_rules.specs.Rules.{rules-answer};
+use base::BookAnswer;
+use files::Contents;
+use tower_reader::TowerRead;
+
+// Prints the answer.
+fn tell(answer: BookAnswer, tower: &[u8], book: &[u8], length: usize) {
+    match answer {
+        BookAnswer::Read { lines, nodes } => {
+            let mut line = [0u8; 4096];
+            let n = listing::sizes(lines, nodes, &mut line);
+            files::print(&line[..n]);
+        }
+        BookAnswer::Refused(why) => {
+            files::refuse(why, tower, book, length, b"table.bin");
+        }
+    }
+}
+
+// The answer: the tower's refusal, or the book's answer under its marks. The work area is long enough
+// (docs/WORK-AREAS.md): 15 never comes.
+fn read(tower: &[u8], text: &[u8]) -> BookAnswer
+    ensures { λ r. ⌜ r ≡ rules-answer (now (tower .entry)) (now (text .entry)) ⌝ }
+{
+    let fit = tower_reader::read_tower(tower);
+    if let TowerRead::Refused(why) = fit {
+        return BookAnswer::Refused(why);
+    }
+    let mut nodes = [0u8; 512];
+    book_reader::read_book(tower_reader::marks(tower), text, &mut nodes)
+}
+
+// Reads the files. Each area has room for one byte more than the longest file that is fit, so that a
+// longer one is refused for its length.
+fn run(tower: &[u8], book: &[u8]) {
+    let mut tower_bytes = [0u8; file_limits::TOWER];
+    let Contents::Bytes(t) = files::read_file(tower, &mut tower_bytes) else {
+        return;
+    };
+    let mut text = [0u8; file_limits::BOOK];
+    let Contents::Bytes(b) = files::read_file(book, &mut text) else {
+        return;
+    };
+    let answer = read(&tower_bytes[..t], &text[..b]);
+    tell(answer, tower, book, b);
+}
+
+// The names are the arguments.
+fn run_named() {
+    let mut tower = [0u8; 4096];
+    let Contents::Bytes(t) = files::argument(1, b"TOWER", &mut tower) else {
+        return;
+    };
+    let mut book = [0u8; 4096];
+    let Contents::Bytes(b) = files::argument(2, b"BOOK", &mut book) else {
+        return;
+    };
+    run(&tower[..t], &book[..b]);
+}
+
+fn main() {
+    let count = os::arg_count();
+    if count == 1 {
+        run(b"tower.bin", b"book.txt");
+        return;
+    }
+    if count == 3 {
+        run_named();
+        return;
+    }
+    io::write_all(libc::STDERR_FILENO, b"usage: read_rules [TOWER BOOK]\n");
+}

@@ -1,0 +1,3 @@
+pub mod Decimals
+pub mod Fitting
+pub mod Ways
