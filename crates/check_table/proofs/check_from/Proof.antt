@@ -8,13 +8,5 @@ ruleset all = (needs, contents-within, contents-taken)
 
 pub check-from-spec : {M : Type 1} → statement M
 check-from-spec = tie.close (tie.spec
-    (λ c. search all)
-    (λ c κs. search all)
-    (λ c. search all)
-    (λ c. search all)
-    (λ c. search all)
-    (λ c. search all)
-    (λ c. search all)
-    (λ c κs. search all)
-    (λ c κs. search all)
-    (λ c. search all))
+    (λ c. search all) (λ c κs. search all) (λ c. search all) (λ c. search all) (λ c. search all) (λ c. search all) (λ c. search all)
+    (λ c κs. search all) (λ c κs. search all) (λ c. search all))

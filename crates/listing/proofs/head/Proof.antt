@@ -8,11 +8,6 @@ use Rattle.listing.proofs.head.Tie as tie
 pub head-spec : {M : Type 1} → statement M
 unfolding ascii
 head-spec = tie.close (tie.spec
-    (λ c. search needs)
-    (λ c κs. search needs)
-    (λ c κs. search needs)
-    (λ c. search needs)
-    (λ c κs. search needs)
-    (λ c κs. search needs)
+    (λ c. search needs) (λ c κs. search needs) (λ c κs. search needs) (λ c. search needs) (λ c κs. search needs) (λ c κs. search needs)
     (λ c κs. search needs)
     (λ c. search head-way))

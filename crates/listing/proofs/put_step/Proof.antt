@@ -6,9 +6,5 @@ use Rattle.listing.proofs.put_step.Tie as tie
 
 pub put-step-spec : {M : Type 1} → statement M
 put-step-spec = tie.close (tie.spec
-    (λ c κs. search needs)
-    (λ c κs. search needs)
-    (λ c κs. search needs)
-    (λ c κs. search needs)
-    (λ c. search needs)
+    (λ c κs. search needs) (λ c κs. search needs) (λ c κs. search needs) (λ c κs. search needs) (λ c. search needs)
     (λ c. search step-way))

@@ -18,15 +18,5 @@ pub put-steps-spec : {M : Type 1} → statement M
 put-steps-spec = tie.close (tie.spec
     Inv-loop
     μ-loop
-    (λ c κs. search all)
-    (λ c κs. search all)
-    (λ c. search all)
-    (λ c. search all)
-    (λ c κs. search all)
-    (λ c κs. search all)
-    (λ c κs. search all)
-    (λ c. search all)
-    (λ c. search all)
-    (λ c. search all)
-    (λ c. search all)
-    (λ c. search all))
+    (λ c κs. search all) (λ c κs. search all) (λ c. search all) (λ c. search all) (λ c κs. search all) (λ c κs. search all)
+    (λ c κs. search all) (λ c. search all) (λ c. search all) (λ c. search all) (λ c. search all) (λ c. search all))

@@ -8,11 +8,6 @@ use Rattle.listing.proofs.refused.Tie as tie
 pub refused-spec : {M : Type 1} → statement M
 unfolding ascii
 refused-spec = tie.close (tie.spec
-    (λ c. search needs)
-    (λ c κs. search needs)
-    (λ c κs. search needs)
-    (λ c κs. search needs)
-    (λ c κs. search needs)
-    (λ c κs. search needs)
+    (λ c. search needs) (λ c κs. search needs) (λ c κs. search needs) (λ c κs. search needs) (λ c κs. search needs) (λ c κs. search needs)
     (λ c κs. search needs)
     (λ c. search refused-way))

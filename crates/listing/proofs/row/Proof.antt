@@ -9,10 +9,5 @@ ruleset all = (needs, header-of, row-way)
 
 pub row-spec : {M : Type 1} → statement M
 row-spec = tie.close (tie.spec
-    (λ c κs. search all)
-    (λ c κs. search all)
-    (λ c κs. search all)
-    (λ c κs. search all)
-    (λ c κs. search all)
-    (λ c κs. search all)
+    (λ c κs. search all) (λ c κs. search all) (λ c κs. search all) (λ c κs. search all) (λ c κs. search all) (λ c κs. search all)
     (λ c. search all))

@@ -8,11 +8,6 @@ use Rattle.listing.proofs.sizes.Tie as tie
 pub sizes-spec : {M : Type 1} → statement M
 unfolding ascii
 sizes-spec = tie.close (tie.spec
-    (λ c. search needs)
-    (λ c κs. search needs)
-    (λ c κs. search needs)
-    (λ c. search needs)
-    (λ c κs. search needs)
-    (λ c κs. search needs)
+    (λ c. search needs) (λ c κs. search needs) (λ c κs. search needs) (λ c. search needs) (λ c κs. search needs) (λ c κs. search needs)
     (λ c κs. search needs)
     (λ c. search sizes-way))

@@ -8,10 +8,5 @@ ruleset all = (needs, header-of)
 
 pub print-head-spec : {M : Type 1} → statement M
 print-head-spec = tie.close (tie.spec
-    (λ c κs. search all)
-    (λ c κs. search all)
-    (λ c κs. search all)
-    (λ c. search all)
-    (λ c. search all)
-    (λ c κs. search all)
+    (λ c κs. search all) (λ c κs. search all) (λ c κs. search all) (λ c. search all) (λ c. search all) (λ c κs. search all)
     (λ c. search all))

@@ -19,11 +19,5 @@ pub print-rows-spec : {M : Type 1} → statement M
 print-rows-spec = tie.close (tie.spec
     Inv-loop
     μ-loop
-    (λ c κs. search all)
-    (λ c. search all)
-    (λ c κs. search all)
-    (λ c. search all)
-    (λ c. search all)
-    (λ c. search all)
-    (λ c. search all)
+    (λ c κs. search all) (λ c. search all) (λ c κs. search all) (λ c. search all) (λ c. search all) (λ c. search all) (λ c. search all)
     (λ c. search all))

@@ -30,8 +30,7 @@ progress-below t =
 
 pub +progress-spec : {M : Type 1} → statement M
 +progress-spec = close μ-progress λ t. progress-lts.spec (code-reads.Asked, code-reads.Learnt, holds-reads.Asked, holds-reads.Learnt, second-reads.Asked, second-reads.Learnt, fresh-reads.Asked, fresh-reads.Learnt, progress-below t, progress.Post, stay-reads.Asked, stay-reads.Learnt, first-reads.Asked, first-reads.Learnt, progress-next-reads.Asked, progress-next-reads.Learnt) (progress-at t) progress.Post
-    (λ c κs. search needs)
-    (λ c κs. search needs)
+    (λ c κs. search needs) (λ c κs. search needs)
     (λ c. search (needs, progress-leaf))
     (λ c κs. search needs)
     (λ c κs. second-node _ _ _ _ (c .before .second .ensures) (c .before .before .before .code .ensures) (search needs) (search needs))

@@ -7,14 +7,9 @@ use Rattle.progression.proofs.begin_line.Tie as tie
 
 pub begin-line-spec : {M : Type 1} → statement M
 begin-line-spec = tie.close (tie.spec
-    (λ c. search needs)
-    (λ c. search needs)
-    (λ c. search needs)
+    (λ c. search needs) (λ c. search needs) (λ c. search needs)
     (λ c. search (needs, line-waits))
-    (λ c. search needs)
-    (λ c. search needs)
-    (λ c. search needs)
-    (λ c. search needs)
+    (λ c. search needs) (λ c. search needs) (λ c. search needs) (λ c. search needs)
     (λ c. search (needs, cast-byte))
     (λ c κs. search (needs, line-node))
     (λ c κs. search (needs, line-ready))

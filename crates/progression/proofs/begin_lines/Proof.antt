@@ -16,8 +16,7 @@ pub begin-lines-spec : {M : Type 1} → statement M
 begin-lines-spec = tie.close (tie.spec Inv-loop μ-loop
     (λ c. search (needs, begin-first))
     (λ c κs. search (needs, is-line))
-    (λ c. search needs)
-    (λ c. search needs)
+    (λ c. search needs) (λ c. search needs)
     (λ c. search (needs, begin-next))
     (λ c. search needs)
     (λ c. search (needs, begin-end)))

@@ -7,8 +7,7 @@ use Rattle.progression.proofs.merged.Tie as tie
 pub merged-spec : {M : Type 1} → statement M
 merged-spec = tie.close (tie.spec
     (λ c. search (needs, merged-none))
-    (λ c. search needs)
-    (λ c κs. search needs)
+    (λ c. search needs) (λ c κs. search needs)
     (λ c. search (needs, merged-always-new))
     (λ c. search (needs, merged-always-old))
     (λ c. search (needs, merged-until-new))

@@ -9,14 +9,9 @@ use Rattle.progression.proofs.progress_line.Tie as tie
 
 pub progress-line-spec : {M : Type 1} → statement M
 progress-line-spec = tie.close (tie.spec
-    (λ c. search needs)
-    (λ c. search needs)
-    (λ c. search needs)
+    (λ c. search needs) (λ c. search needs) (λ c. search needs)
     (λ c. search (needs, line-starts))
-    (λ c. search needs)
-    (λ c. search needs)
-    (λ c. search needs)
-    (λ c. search needs)
+    (λ c. search needs) (λ c. search needs) (λ c. search needs) (λ c. search needs)
     (λ c. search (needs, cast-byte))
     (λ c κs. line-node _ (c .before .before .before .before .before .args .i) _ (length (now (c .before .before .before .before .before .args .cells))) (search needs) (search needs))
     (λ c κs. line-ready _ (c .before .before .before .before .before .before .before .args .i) _ _ _ (search needs) (search needs) (search needs))

@@ -6,10 +6,7 @@ use Rattle.progression.proofs.progress_next.Tie as tie
 
 pub progress-next-spec : {M : Type 1} → statement M
 progress-next-spec = tie.close (tie.spec
-    (λ c κs. search needs)
-    (λ c. search needs)
-    (λ c κs. search needs)
-    (λ c κs. search needs)
+    (λ c κs. search needs) (λ c. search needs) (λ c κs. search needs) (λ c κs. search needs)
     (λ c. search (needs, next-broken))
     (λ c κs. search needs)
     (λ c κs. search (needs, next-node))

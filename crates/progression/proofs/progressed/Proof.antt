@@ -8,18 +8,11 @@ use Rattle.progression.proofs.progressed.Tie as tie
 
 pub progressed-spec : {M : Type 1} → statement M
 progressed-spec = tie.close (tie.spec
-    (λ c. search needs)
-    (λ c. search needs)
-    (λ c. search needs)
-    (λ c. search needs)
-    (λ c κs. search needs)
+    (λ c. search needs) (λ c. search needs) (λ c. search needs) (λ c. search needs) (λ c κs. search needs)
     (λ c κs. (search (needs, has-nodes), search (needs, parts-still)))
     (λ c. search needs)
     (λ c. search (needs, progressed-broken))
-    (λ c. search needs)
-    (λ c. search needs)
-    (λ c. search needs)
-    (λ c. search needs)
+    (λ c. search needs) (λ c. search needs) (λ c. search needs) (λ c. search needs)
     (λ c κs. held-lent _ _ (c .before .before .before .before .before .before .before .before .before .before .before .before .args .count) (c .before .before .before .before .progress-nodes .last .1 .1 .1 .1 .0) (c .before .before .before .before .before .before .before .before .before .before .before .before .args .to) (search needs) (search needs))
     (λ c. search needs)
     (λ c. search (needs, progressed-whole)))

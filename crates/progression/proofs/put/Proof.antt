@@ -6,10 +6,5 @@ use Rattle.progression.proofs.put.Tie as tie
 
 pub put-spec : {M : Type 1} → statement M
 put-spec = tie.close (tie.spec
-    (λ c. search needs)
-    (λ c κs. search needs)
-    (λ c. search needs)
-    (λ c. search needs)
-    (λ c. search needs)
-    (λ c. search needs)
+    (λ c. search needs) (λ c κs. search needs) (λ c. search needs) (λ c. search needs) (λ c. search needs) (λ c. search needs)
     (λ c. search (needs, put-stored)))

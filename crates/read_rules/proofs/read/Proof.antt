@@ -9,11 +9,5 @@ ruleset all = (needs, fit-of, tower-refused, book-read)
 
 pub read-spec : {M : Type 1} → statement M
 read-spec = tie.close (tie.spec
-    (λ c κs. search all)
-    (λ c. search all)
-    (λ c. search all)
-    (λ c. search all)
-    (λ c κs. search all)
-    (λ c. search all)
-    (λ c κs. search all)
+    (λ c κs. search all) (λ c. search all) (λ c. search all) (λ c. search all) (λ c κs. search all) (λ c. search all) (λ c κs. search all)
     (λ c. search all))

@@ -12,12 +12,5 @@ ruleset all = (needs, not-true, not-false, rows-out-of-range, states-out-of-rang
 pub counts-right-spec : {M : Type 1} → statement M
 unfolding most-rows most-states most-actions rows-at
 counts-right-spec = tie.close (tie.spec
-    (λ c κs. search all)
-    (λ c κs. search all)
-    (λ c. search all)
-    (λ c κs. search all)
-    (λ c κs. search all)
-    (λ c. search all)
-    (λ c κs. search all)
-    (λ c κs. search all)
-    (λ c. search all))
+    (λ c κs. search all) (λ c κs. search all) (λ c. search all) (λ c κs. search all) (λ c κs. search all) (λ c. search all)
+    (λ c κs. search all) (λ c κs. search all) (λ c. search all))

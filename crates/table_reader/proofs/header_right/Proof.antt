@@ -11,8 +11,4 @@ ruleset all = (needs, not-true, not-false, header-short, counts-wrong, places-le
 pub header-right-spec : {M : Type 1} → statement M
 unfolding rows-at
 header-right-spec = tie.close (tie.spec
-    (λ c. search all)
-    (λ c κs. search all)
-    (λ c. search all)
-    (λ c κs. search all)
-    (λ c. search all))
+    (λ c. search all) (λ c κs. search all) (λ c. search all) (λ c κs. search all) (λ c. search all))

@@ -8,5 +8,4 @@ ruleset all = (needs, range-none, range-some)
 
 pub in-range-spec : {M : Type 1} → statement M
 in-range-spec = tie.close (tie.spec
-    (λ c. search all)
-    (λ c. search all))
+    (λ c. search all) (λ c. search all))

@@ -10,7 +10,4 @@ ruleset all = (needs, not-true, not-false, holds-by, header-wrong, header-then-r
 
 pub laid-out-spec : {M : Type 1} → statement M
 laid-out-spec = tie.close (tie.spec
-    (λ c κs. search all)
-    (λ c. search all)
-    (λ c κs. search all)
-    (λ c. search all))
+    (λ c κs. search all) (λ c. search all) (λ c κs. search all) (λ c. search all))

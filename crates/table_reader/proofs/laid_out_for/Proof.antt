@@ -10,9 +10,4 @@ ruleset all = (needs, not-true, not-false, holds-by, header-of, not-laid-for, ot
 
 pub laid-out-for-spec : {M : Type 1} → statement M
 laid-out-for-spec = tie.close (tie.spec
-    (λ c κs. search all)
-    (λ c. search all)
-    (λ c κs. search all)
-    (λ c. search all)
-    (λ c κs. search all)
-    (λ c. search all))
+    (λ c κs. search all) (λ c. search all) (λ c κs. search all) (λ c. search all) (λ c κs. search all) (λ c. search all))

@@ -11,16 +11,8 @@ ruleset all = (needs, rows-offset-wrong, steps-offset-wrong, rows-fit, steps-at-
 pub places-right-spec : {M : Type 1} → statement M
 unfolding rows-at row-size state-width step-size
 places-right-spec = tie.close (tie.spec
-    (λ c κs. search all)
-    (λ c. search all)
-    (λ c κs. search all)
-    (λ c. search all)
-    (λ c. search all)
-    (λ c κs. search all)
-    (λ c. search all)
-    (λ c κs. search all)
-    (λ c. search all)
-    (λ c. search all)
+    (λ c κs. search all) (λ c. search all) (λ c κs. search all) (λ c. search all) (λ c. search all) (λ c κs. search all) (λ c. search all)
+    (λ c κs. search all) (λ c. search all) (λ c. search all)
     (λ c.
     size-left _ _ _ _ _
     (c .before .before .before .before .before .two-bytes .ensures)

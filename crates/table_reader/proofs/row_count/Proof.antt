@@ -17,5 +17,4 @@ row-count-spec = tie.close (tie.spec
     (λ c. omega inside)
     (λ c. omega inside)
     (λ c. omega inside)
-    (λ c. search all)
-    (λ c. search all))
+    (λ c. search all) (λ c. search all))

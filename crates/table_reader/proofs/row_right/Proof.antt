@@ -8,10 +8,5 @@ ruleset all = (needs, row-state-high, row-not-packed, row-steps-left)
 
 pub row-right-spec : {M : Type 1} → statement M
 row-right-spec = tie.close (tie.spec
-    (λ c κs. search needs)
-    (λ c κs. search needs)
-    (λ c. search all)
-    (λ c κs. search needs)
-    (λ c. search all)
-    (λ c κs. search needs)
+    (λ c κs. search needs) (λ c κs. search needs) (λ c. search all) (λ c κs. search needs) (λ c. search all) (λ c κs. search needs)
     (λ c. search all))

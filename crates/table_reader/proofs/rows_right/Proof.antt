@@ -23,16 +23,7 @@ unfolding step-place rows-at row-size state-width step-size steps-at
 rows-right-spec = tie.close (tie.spec
     Inv-loop
     μ-loop
-    (λ c κs. search needs)
-    (λ c κs. search needs)
-    (λ c. search all)
-    (λ c. search all)
-    (λ c κs. search needs)
-    (λ c. search all)
-    (λ c. search all)
-    (λ c κs. search all)
-    (λ c. search all)
+    (λ c κs. search needs) (λ c κs. search needs) (λ c. search all) (λ c. search all) (λ c κs. search needs) (λ c. search all)
+    (λ c. search all) (λ c κs. search all) (λ c. search all)
     (λ c. omega inside)
-    (λ c. search all)
-    (λ c. search all)
-    (λ c. search all))
+    (λ c. search all) (λ c. search all) (λ c. search all))

@@ -10,6 +10,4 @@ ruleset all = (needs, byte-fits, state-read)
 pub state-number-spec : {M : Type 1} → statement M
 unfolding state-width
 state-number-spec = tie.close (tie.spec
-    (λ c. search needs)
-    (λ c. search all)
-    (λ c. search all))
+    (λ c. search needs) (λ c. search all) (λ c. search all))

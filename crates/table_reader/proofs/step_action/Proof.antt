@@ -16,5 +16,4 @@ unfolding step-place rows-at row-size state-width step-size steps-at
 step-action-spec = tie.close (tie.spec
     (λ c κs. search needs)
     (λ c. omega inside)
-    (λ c. search all)
-    (λ c. search all))
+    (λ c. search all) (λ c. search all))

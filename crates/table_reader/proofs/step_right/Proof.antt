@@ -8,10 +8,5 @@ ruleset all = (needs, step-too-low, step-too-high, step-target-left)
 
 pub step-right-spec : {M : Type 1} → statement M
 step-right-spec = tie.close (tie.spec
-    (λ c κs. search needs)
-    (λ c. search all)
-    (λ c κs. search needs)
-    (λ c. search all)
-    (λ c κs. search needs)
-    (λ c κs. search needs)
+    (λ c κs. search needs) (λ c. search all) (λ c κs. search needs) (λ c. search all) (λ c κs. search needs) (λ c κs. search needs)
     (λ c. search all))

@@ -18,14 +18,5 @@ pub step-to-spec : {M : Type 1} → statement M
 step-to-spec = tie.close (tie.spec
     Inv-loop
     μ-loop
-    (λ c κs. search all)
-    (λ c κs. search all)
-    (λ c. search all)
-    (λ c. search all)
-    (λ c. search all)
-    (λ c κs. search all)
-    (λ c κs. search all)
-    (λ c. search all)
-    (λ c. search all)
-    (λ c. search all)
-    (λ c. search all))
+    (λ c κs. search all) (λ c κs. search all) (λ c. search all) (λ c. search all) (λ c. search all) (λ c κs. search all)
+    (λ c κs. search all) (λ c. search all) (λ c. search all) (λ c. search all) (λ c. search all))

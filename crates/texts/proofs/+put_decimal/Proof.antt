@@ -25,12 +25,6 @@ put-decimal-below t = and 1 put-decimal-kinds.ps (falls 1 put-decimal-kinds.ps _
 
 pub +put-decimal-spec : {M : Type 1} → statement M
 +put-decimal-spec = close μ-put-decimal λ t. put-decimal-lts.spec (digit-reads.Asked, digit-reads.Learnt, put-byte-reads.Asked, put-byte-reads.Learnt, put-decimal-below t, put-decimal.Post) (put-decimal-at t) put-decimal.Post
-    (λ c κs. search all)
-    (λ c κs. search all)
-    (λ c. search all)
-    (λ c. search all)
+    (λ c κs. search all) (λ c κs. search all) (λ c. search all) (λ c. search all)
     (λ c κs. (search all, search all))
-    (λ c κs. search all)
-    (λ c κs. search all)
-    (λ c. search all)
-    (λ c. search all)
+    (λ c κs. search all) (λ c κs. search all) (λ c. search all) (λ c. search all)

@@ -18,11 +18,5 @@ pub put-bytes-spec : {M : Type 1} → statement M
 put-bytes-spec = tie.close (tie.spec
     Inv-loop
     μ-loop
-    (λ c. search all)
-    (λ c. search all)
-    (λ c κs. search all)
-    (λ c. search all)
-    (λ c. search all)
-    (λ c. search all)
-    (λ c. search all)
+    (λ c. search all) (λ c. search all) (λ c κs. search all) (λ c. search all) (λ c. search all) (λ c. search all) (λ c. search all)
     (λ c. search all))

@@ -18,11 +18,5 @@ pub folder-end-spec : {M : Type 1} → statement M
 folder-end-spec = tie.close (tie.spec
     Inv-loop
     μ-loop
-    (λ c. search all)
-    (λ c. search all)
-    (λ c. search all)
-    (λ c. search all)
-    (λ c. search all)
-    (λ c. search all)
-    (λ c. search all)
+    (λ c. search all) (λ c. search all) (λ c. search all) (λ c. search all) (λ c. search all) (λ c. search all) (λ c. search all)
     (λ c. search all))

@@ -8,10 +8,5 @@ use Rattle.files.proofs.naming.temporary.Tie as tie
 pub temporary-spec : {M : Type 1} → statement M
 unfolding ascii
 temporary-spec = tie.close (tie.spec
-    (λ c κs. search needs)
-    (λ c κs. search needs)
-    (λ c κs. search needs)
-    (λ c κs. search needs)
-    (λ c. search needs)
-    (λ c κs. search needs)
+    (λ c κs. search needs) (λ c κs. search needs) (λ c κs. search needs) (λ c κs. search needs) (λ c. search needs) (λ c κs. search needs)
     (λ c. search temporary-way))

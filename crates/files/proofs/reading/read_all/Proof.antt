@@ -16,19 +16,6 @@ pub read-all-spec : {M : Type 1} → statement M
 read-all-spec = tie.close (tie.spec
     Inv-loop
     μ-loop
-    (λ c. search all)
-    (λ c. search all)
-    (λ c κs. search all)
-    (λ c. search all)
-    (λ c. search all)
-    (λ c. search all)
-    (λ c. search all)
-    (λ c. search all)
-    (λ c. search all)
-    (λ c. search all)
-    (λ c. search all)
-    (λ c. search all)
-    (λ c. search all)
-    (λ c. search all)
-    (λ c. search all)
-    (λ c. search all))
+    (λ c. search all) (λ c. search all) (λ c κs. search all) (λ c. search all) (λ c. search all) (λ c. search all) (λ c. search all)
+    (λ c. search all) (λ c. search all) (λ c. search all) (λ c. search all) (λ c. search all) (λ c. search all) (λ c. search all)
+    (λ c. search all) (λ c. search all))

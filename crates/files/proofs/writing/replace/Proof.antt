@@ -8,14 +8,5 @@ ruleset all = (needs, folder-taken)
 
 pub replace-spec : {M : Type 1} → statement M
 replace-spec = tie.close (tie.spec
-    (λ c κs. search all)
-    (λ c κs. search all)
-    (λ c κs. search all)
-    (λ c. search all)
-    (λ c κs. search all)
-    (λ c. search all)
-    (λ c κs. search all)
-    (λ c. search all)
-    (λ c. search all)
-    (λ c κs. search all)
-    (λ c. search all))
+    (λ c κs. search all) (λ c κs. search all) (λ c κs. search all) (λ c. search all) (λ c κs. search all) (λ c. search all)
+    (λ c κs. search all) (λ c. search all) (λ c. search all) (λ c κs. search all) (λ c. search all))

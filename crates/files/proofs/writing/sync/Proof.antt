@@ -15,12 +15,5 @@ pub sync-spec : {M : Type 1} → statement M
 sync-spec = tie.close (tie.spec
     Inv-loop
     μ-loop
-    (λ c. search all)
-    (λ c. search all)
-    (λ c κs. search all)
-    (λ c. search all)
-    (λ c κs. search all)
-    (λ c. search all)
-    (λ c. search all)
-    (λ c. search all)
-    (λ c. search all))
+    (λ c. search all) (λ c. search all) (λ c κs. search all) (λ c. search all) (λ c κs. search all) (λ c. search all) (λ c. search all)
+    (λ c. search all) (λ c. search all))

@@ -18,12 +18,5 @@ pub write-whole-spec : {M : Type 1} → statement M
 write-whole-spec = tie.close (tie.spec
     Inv-loop
     μ-loop
-    (λ c. search all)
-    (λ c. search all)
-    (λ c κs. search all)
-    (λ c. search all)
-    (λ c. search all)
-    (λ c. search all)
-    (λ c. search all)
-    (λ c. search all)
-    (λ c. search all))
+    (λ c. search all) (λ c. search all) (λ c κs. search all) (λ c. search all) (λ c. search all) (λ c. search all) (λ c. search all)
+    (λ c. search all) (λ c. search all))
