@@ -190,52 +190,96 @@ pub fn chain() -> Ruled {
     ruled.expect("a vector with 500 rows of 2 states")
 }
 
-/// Segments of the tower of `removed_one_by_one`, and the parts that each has.
-const SEGMENTS: usize = 12;
-const PARTS: usize = 8;
-
 /// A tower and a book most of whose pairs are removed one after the other, each of them only after
-/// one that was met before it.
+/// the one with a tick less left.
 ///
-/// A segment is a ring of eight states that its last action goes round, a tick each. Mark 1 has to
-/// come within 65 ticks, and is not to be had there; but one state has a way out, to a state with
-/// mark 1 and on to the segment before, unless that is removed. Each segment is entered from the
-/// start by two steps of 2 to 65 ticks together, so that a pair with fewer ticks left is met before
-/// one with more.
-pub fn removed_one_by_one() -> Ruled {
-    let long = (0..PARTS).map(|i| [1 + (PARTS * (PARTS - 1 - i)) as u8, 1]);
-    let short = (0..PARTS).map(|i| [(PARTS - i) as u8, 1]);
-    let actions: Vec<[u8; 2]> = long.chain(short).collect();
-    let (way_out, round) = (PARTS - 1, 2 * PARTS - 1);
+/// A segment is a ring of states that the last action goes round, a tick each. Mark 1 has to come
+/// within some ticks, and is not to be had there; but one state has a way out, to a state with mark 1
+/// and on to the segment before, unless that is removed. Each segment is entered from the start by a
+/// long and a short step.
+struct Rings {
+    segments: usize,
+    states: usize,
+    ticks: usize,
+    /// The actions for long steps, and those for short ones.
+    long: usize,
+    short: usize,
+    /// Entered are states so far apart. Those with fewer ticks left are met before those with more,
+    /// and the states between them afterwards.
+    apart: usize,
+}
 
-    // The states: the start, and for each segment its two entries, its ring and its way out.
-    let size = 2 + PARTS + 1;
-    let first_entry = |segment: usize| (1 + size * segment) as u8;
-    let second_entry = |segment: usize| first_entry(segment) + 1;
-    let ring = |segment: usize, part: usize| second_entry(segment) + 1 + (part % PARTS) as u8;
-    let outside = |segment: usize| ring(segment, 0) + PARTS as u8;
-    let mut states = vec![(0, vec![NOT_ENABLED; 2 * PARTS]); 1 + size * SEGMENTS];
-    let mut lead = |from: u8, action: usize, to: u8| states[usize::from(from)].1[action] = to;
-    lead(0, round, 0);
-    for segment in 0..SEGMENTS {
-        lead(0, segment, first_entry(segment));
-        for i in 0..PARTS {
-            lead(first_entry(segment), i, second_entry(segment));
-            lead(second_entry(segment), PARTS + i, ring(segment, i));
-            lead(ring(segment, i + 1), round, ring(segment, i));
+impl Rings {
+    fn ruled(&self) -> Ruled {
+        let &Rings { long, short, .. } = self;
+        let length_of_long = |i: usize| 1 + self.apart * short * (long - 1 - i);
+        let length_of_short = |i: usize| 1 + self.apart * (short - 1 - i);
+        let lengths = (0..long).map(length_of_long);
+        let lengths = lengths.chain((0..short).map(length_of_short));
+        let actions: Vec<[u8; 2]> = lengths.map(|length| [length as u8, 1]).collect();
+        let (way_out, round) = (long - 1, long + short - 1);
+
+        // The states: the start, and for each segment its two entries, its ring and its way out.
+        let size = 2 + self.states + 1;
+        let first_entry = |segment: usize| 1 + size * segment;
+        let second_entry = |segment: usize| first_entry(segment) + 1;
+        let ring = |segment: usize, i: usize| second_entry(segment) + 1 + i % self.states;
+        let outside = |segment: usize| ring(segment, 0) + self.states;
+        let mut states = vec![(0, vec![NOT_ENABLED; actions.len()]); 1 + size * self.segments];
+        let mut lead = |from: usize, action: usize, to: usize| states[from].1[action] = to as u8;
+        lead(0, round, 0);
+        for segment in 0..self.segments {
+            lead(0, segment, first_entry(segment));
+            for i in 0..long {
+                lead(first_entry(segment), i, second_entry(segment));
+            }
+            for i in 0..short {
+                let entered = ring(segment, self.apart * (i + 1) - 1);
+                lead(second_entry(segment), long + i, entered);
+            }
+            for i in 0..self.states {
+                lead(ring(segment, i + 1), round, ring(segment, i));
+            }
+            if segment > 0 {
+                lead(ring(segment, 1), way_out, outside(segment));
+                lead(outside(segment), round, ring(segment - 1, 1));
+            }
         }
-        if segment > 0 {
-            lead(ring(segment, 1), way_out, outside(segment));
-            lead(outside(segment), round, ring(segment - 1, 1));
+        states[0].0 = 2;
+        for segment in 0..self.segments {
+            states[outside(segment)].0 = 2;
         }
+        let tower = tower_file(2, &actions, &states);
+        let book = format!("always E {} p1\n", self.ticks);
+        Ruled::of(tower, book.into()).expect("the start alone makes a table")
     }
-    states[0].0 = 2;
-    for segment in 0..SEGMENTS {
-        states[usize::from(outside(segment))].0 = 2;
-    }
-    let tower = tower_file(2, &actions, &states);
-    let book = format!("always E {} p1\n", PARTS * PARTS + 1);
-    Ruled::of(tower, book.into()).expect("the start alone makes a table")
+}
+
+/// Rings in which nearly every pair is removed only after one that was met before it.
+pub fn removed_upwards() -> Ruled {
+    let rings = Rings {
+        segments: 12,
+        states: 8,
+        ticks: 65,
+        long: 8,
+        short: 8,
+        apart: 1,
+    };
+    rings.ruled()
+}
+
+/// Rings in which a pair is removed only after one that was met before it, and the next only after
+/// one that was met later, in turn.
+pub fn removed_to_and_fro() -> Ruled {
+    let rings = Rings {
+        segments: 7,
+        states: 12,
+        ticks: 121,
+        long: 10,
+        short: 6,
+        apart: 2,
+    };
+    rings.ruled()
 }
 
 /// The book of rounds with so many spaces between its tokens that it has 4,096 bytes.

@@ -250,7 +250,8 @@ fn make_tables(report: &mut Report) {
     };
     let times = SIZES.map(|size| measure("rounds", inputs::with_pairs(size)));
     measure("told apart by time alone", inputs::chain());
-    measure("removed one by one", inputs::removed_one_by_one());
+    measure("removed upwards", inputs::removed_upwards());
+    measure("removed to and fro", inputs::removed_to_and_fro());
     report.judge_growth(&times);
 }
 

@@ -124,15 +124,17 @@ impl Maker {
         })
     }
 
-    /// How many passes over all pairs, from the last to the first, find those that are kept: the
-    /// proved code makes them, and stops after one that removes nothing.
+    /// How many passes over all pairs find those that are kept. The proved code makes them from the
+    /// last pair to the first and back in turn, and stops after one that removes nothing.
     fn removal_passes(&self, tower: &Tower) -> usize {
         let mut kept = vec![true; self.pairs.len()];
         let mut passes = 0;
         loop {
             passes += 1;
             let mut gone = false;
-            for pair in (0..kept.len()).rev() {
+            for place in 0..kept.len() {
+                let down = passes % 2 == 1;
+                let pair = if down { kept.len() - 1 - place } else { place };
                 if !kept[pair] {
                     continue;
                 }

@@ -92,11 +92,47 @@ kept-not-fine tower steps i flags r h e f =
 
 -- ---- One pass
 
--- The pairs from i on have been looked at, and so many had to go.
-pub record Passing (tower : Tower) (n : ℕ) (steps old flags : List ℕ) (gone i : ℕ) : Type 0 where
+-- A pass has cleared so many flags up to now, only of pairs that had to go.
+pub record Cleared (tower : Tower) (n : ℕ) (steps old flags : List ℕ) (gone : ℕ) : Type 0 where
   pub holds : HoldsAll tower n steps old → HoldsAll tower n steps flags
   pub beyond : SameBeyond n old flags
   pub counted : total flags + gone ≡ total old
+
+-- at first none
+none-cleared : (tower : Tower) (n : ℕ) (steps flags : List ℕ) → Cleared tower n steps flags flags 0
+none-cleared tower n steps flags = record { holds = λ h. h; beyond = same-beyond n flags; counted = omega arith }
+
+-- one more
+one-cleared : {tower : Tower} {n : ℕ} {steps : List ℕ} {old : List ℕ} (flags : List ℕ) {gone : ℕ} (i : ℕ) → HoldsGraph tower n steps
+    → Cleared tower n steps old flags gone → i < n → has-to-go tower steps flags i ≡ true
+    → Cleared tower n steps old (set flags i 0) (gone + 1)
+one-cleared {tower} {n} {steps} {old} flags i graph h l goes =
+    record {
+      holds = λ all. goer-holds tower n steps flags i graph l goes (h .holds all);
+      beyond = set-beyond n flags old i 0 l (h .beyond);
+      counted = omega (arith, h .counted, total-clear flags i, kept-one flags i (goer-kept tower steps flags i goes));
+    }
+
+-- the flags that a visit left
+left-as : {r : Bool} {tower : Tower} {steps flags exit : List ℕ} {i : ℕ} (b : Bool) → Visited r tower steps i flags exit → r ≡ b
+    → exit ≡ pick b (λ _. set flags i 0) (λ _. flags)
+left-as {flags = flags} {i = i} b v e = v .flags-left ∙ ap (λ (c : Bool). pick c (λ _. set flags i 0) (λ _. flags)) e
+
+-- pair i is one of those given
+judged : {tower : List ℕ} {n : ℕ} {steps old : List ℕ} (flags : List ℕ) (i : ℕ) → Ready tower n steps old → length flags ≡ length old
+    → i < n → Judged tower steps flags i
+judged {n = n} flags i given long l =
+    record {
+      pairs = n;
+      ready = record { fit = given .fit; graph = given .graph; flags-there = omega (arith, given .flags-there, long) };
+      there = l;
+    }
+
+-- ---- A pass down
+
+-- The pairs from i on have been looked at, and so many had to go.
+pub record Passing (tower : Tower) (n : ℕ) (steps old flags : List ℕ) (gone i : ℕ) : Type 0 where
+  pub cleared : Cleared tower n steps old flags gone
   pub long : length flags ≡ length old
   pub at-most : gone + i ≤ n
   pub rest-fine : gone ≡ 0 → (k : ℕ) → i ≤ k → k < n → kept-in flags k ≡ true → fine-at tower steps (kept-in flags) k ≡ true
@@ -105,9 +141,7 @@ pub record Passing (tower : Tower) (n : ℕ) (steps old flags : List ℕ) (gone 
 pub passing-start : (tower : Tower) (n : ℕ) (steps flags : List ℕ) → Passing tower n steps flags flags 0 n
 passing-start tower n steps flags =
     record {
-      holds = λ h. h;
-      beyond = same-beyond n flags;
-      counted = omega arith;
+      cleared = none-cleared tower n steps flags;
       long = refl;
       at-most = omega arith;
       rest-fine = λ e k l m. absurd (omega arith);
@@ -116,34 +150,7 @@ passing-start tower n steps flags =
 -- The next pair is one of those given. Some number is below i, so that there is one.
 pub passing-judged : (tower : List ℕ) (n : ℕ) (steps old flags : List ℕ) (gone i m : ℕ) → Ready tower n steps old
     → Passing (tower-of tower) n steps old flags gone i → m < i → Judged tower steps flags (i - 1)
-passing-judged tower n steps old flags gone i m given h l =
-    record {
-      pairs = n;
-      ready = record { fit = given .fit; graph = given .graph; flags-there = omega (arith, given .flags-there, h .long) };
-      there = omega (arith, h .at-most);
-    }
-
--- a pass over what a visit left
-left-as : {r : Bool} {tower : Tower} {steps flags exit : List ℕ} {i : ℕ} (b : Bool) → Visited r tower steps i flags exit → r ≡ b
-    → exit ≡ pick b (λ _. set flags i 0) (λ _. flags)
-left-as {flags = flags} {i = i} b v e = v .flags-left ∙ ap (λ (c : Bool). pick c (λ _. set flags i 0) (λ _. flags)) e
-
--- a pair that had to go
-gone-set : (tower : Tower) (n : ℕ) (steps old flags : List ℕ) (gone i : ℕ) → HoldsGraph tower n steps
-    → Passing tower n steps old flags gone i → 0 < i → has-to-go tower steps flags (i - 1) ≡ true
-    → Passing tower n steps old (set flags (i - 1) 0) (gone + 1) (i - 1)
-gone-set tower n steps old flags gone i graph h l goes =
-    let there : i - 1 < n = omega (arith, h .at-most) in
-    record {
-      holds = λ all. goer-holds tower n steps flags (i - 1) graph there goes (h .holds all);
-      beyond = set-beyond n flags old (i - 1) 0 there (h .beyond);
-      counted =
-          omega
-          (arith, h .counted, total-clear flags (i - 1), kept-one flags (i - 1) (goer-kept tower steps flags (i - 1) goes));
-      long = length-set flags (i - 1) 0 ∙ h .long;
-      at-most = omega (arith, h .at-most);
-      rest-fine = λ e. absurd (omega arith);
-    }
+passing-judged tower n steps old flags gone i m given h l = judged flags (i - 1) given (h .long) (omega (arith, h .at-most))
 
 -- The next pair had to go.
 pub passing-gone : (tower : List ℕ) (n : ℕ) (steps first old flags exit : List ℕ) (gone i m : ℕ) (r : Bool) → Ready tower n steps first
@@ -151,20 +158,18 @@ pub passing-gone : (tower : List ℕ) (n : ℕ) (steps first old flags exit : Li
     → Passing (tower-of tower) n steps old exit (gone + 1) (i - 1)
 passing-gone tower n steps first old flags exit gone i m r given h l v e =
     subst (λ (z : List ℕ). Passing (tower-of tower) n steps old z (gone + 1) (i - 1)) (sym (left-as true v e))
-    (gone-set (tower-of tower) n steps old flags gone i (given .graph) h (omega arith) (sym (v .answer) ∙ e))
+    record {
+      cleared = one-cleared flags (i - 1) (given .graph) (h .cleared) (omega (arith, h .at-most)) (sym (v .answer) ∙ e);
+      long = length-set flags (i - 1) 0 ∙ h .long;
+      at-most = omega (arith, h .at-most);
+      rest-fine = λ e. absurd (omega arith);
+    }
 
 -- a pair that stays
 stays-same : (tower : Tower) (n : ℕ) (steps old flags : List ℕ) (gone i : ℕ) → Passing tower n steps old flags gone i
     → has-to-go tower steps flags (i - 1) ≡ false → Passing tower n steps old flags gone (i - 1)
 stays-same tower n steps old flags gone i h stays =
-    record {
-      holds = h .holds;
-      beyond = h .beyond;
-      counted = h .counted;
-      long = h .long;
-      at-most = omega (arith, h .at-most);
-      rest-fine = fine;
-    }
+    record { cleared = h .cleared; long = h .long; at-most = omega (arith, h .at-most); rest-fine = fine }
   where
     fine : gone ≡ 0 → (k : ℕ) → i - 1 ≤ k → k < n → kept-in flags k ≡ true → fine-at tower steps (kept-in flags) k ≡ true
     fine e k m o kept =
@@ -187,10 +192,89 @@ pub passing-end : (tower : Tower) (n : ℕ) (steps old flags : List ℕ) (gone i
     → Passed gone tower n steps old flags
 passing-end tower n steps old flags gone i h l =
     record {
-      holds = h .holds;
-      beyond = h .beyond;
-      counted = h .counted;
+      holds = h .cleared .holds;
+      beyond = h .cleared .beyond;
+      counted = h .cleared .counted;
       all-fine = λ e k m. h .rest-fine e k (omega arith) m;
+    }
+
+-- ---- A pass up
+
+-- The pairs below i have been looked at, and so many had to go.
+pub record Rising (tower : Tower) (n : ℕ) (steps old flags : List ℕ) (gone i : ℕ) : Type 0 where
+  pub cleared : Cleared tower n steps old flags gone
+  pub long : length flags ≡ length old
+  pub gone-most : gone ≤ i
+  pub at-most : i ≤ n
+  pub below-fine : gone ≡ 0 → (k : ℕ) → k < i → kept-in flags k ≡ true → fine-at tower steps (kept-in flags) k ≡ true
+
+-- At first none has.
+pub rising-start : (tower : Tower) (n : ℕ) (steps flags : List ℕ) → Rising tower n steps flags flags 0 0
+rising-start tower n steps flags =
+    record {
+      cleared = none-cleared tower n steps flags;
+      long = refl;
+      gone-most = omega arith;
+      at-most = omega arith;
+      below-fine = λ e k l. absurd (omega arith);
+    }
+
+-- The next pair is one of those given.
+pub rising-judged : (tower : List ℕ) (n : ℕ) (steps old flags : List ℕ) (gone i : ℕ) → Ready tower n steps old
+    → Rising (tower-of tower) n steps old flags gone i → i < n → Judged tower steps flags i
+rising-judged tower n steps old flags gone i given h l = judged flags i given (h .long) l
+
+-- It had to go.
+pub rising-gone : (tower : List ℕ) (n : ℕ) (steps first old flags exit : List ℕ) (gone i : ℕ) (r : Bool) → Ready tower n steps first
+    → Rising (tower-of tower) n steps old flags gone i → i < n → Visited r (tower-of tower) steps i flags exit → r ≡ true
+    → Rising (tower-of tower) n steps old exit (gone + 1) (i + 1)
+rising-gone tower n steps first old flags exit gone i r given h l v e =
+    subst (λ (z : List ℕ). Rising (tower-of tower) n steps old z (gone + 1) (i + 1)) (sym (left-as true v e))
+    record {
+      cleared = one-cleared flags i (given .graph) (h .cleared) l (sym (v .answer) ∙ e);
+      long = length-set flags i 0 ∙ h .long;
+      gone-most = omega (arith, h .gone-most);
+      at-most = omega arith;
+      below-fine = λ e. absurd (omega arith);
+    }
+
+-- a pair that stays
+stays-below : (tower : Tower) (n : ℕ) (steps old flags : List ℕ) (gone i : ℕ) → Rising tower n steps old flags gone i → i < n
+    → has-to-go tower steps flags i ≡ false → Rising tower n steps old flags gone (i + 1)
+stays-below tower n steps old flags gone i h l stays =
+    record {
+      cleared = h .cleared;
+      long = h .long;
+      gone-most = omega (arith, h .gone-most);
+      at-most = omega arith;
+      below-fine = fine;
+    }
+  where
+    fine : gone ≡ 0 → (k : ℕ) → k < i + 1 → kept-in flags k ≡ true → fine-at tower steps (kept-in flags) k ≡ true
+    fine e k m kept =
+        elim (decLt k i) [
+          | yes below ↦ h .below-fine e k below kept
+          | no above ↦ (let same : i ≡ k = omega arith in
+              stayer-fine tower steps flags k (subst (λ (x : ℕ). has-to-go tower steps flags x ≡ false) same stays) kept)
+        ]
+
+-- It stays.
+pub rising-stays : (tower : Tower) (n : ℕ) (steps old flags exit : List ℕ) (gone i : ℕ) (r : Bool)
+    → Rising tower n steps old flags gone i → i < n → Visited r tower steps i flags exit → r ≡ false
+    → Rising tower n steps old exit gone (i + 1)
+rising-stays tower n steps old flags exit gone i r h l v e =
+    subst (λ (z : List ℕ). Rising tower n steps old z gone (i + 1)) (sym (left-as false v e))
+    (stays-below tower n steps old flags gone i h l (sym (v .answer) ∙ e))
+
+-- All have been looked at.
+pub rising-end : (tower : Tower) (n : ℕ) (steps old flags : List ℕ) (gone i : ℕ) → Rising tower n steps old flags gone i → n ≤ i
+    → Passed gone tower n steps old flags
+rising-end tower n steps old flags gone i h l =
+    record {
+      holds = h .cleared .holds;
+      beyond = h .cleared .beyond;
+      counted = h .cleared .counted;
+      all-fine = λ e k m. h .below-fine e k (omega arith);
     }
 
 -- ---- All passes
@@ -209,14 +293,14 @@ pub holding-ready : (tower : List ℕ) (n : ℕ) (steps old flags : List ℕ) �
 holding-ready tower n steps old flags given h =
     record { fit = given .fit; graph = given .graph; flags-there = omega (arith, given .flags-there, h .long) }
 
--- Some had to go: fewer flags are set.
-pub holding-less : (tower : Tower) (n : ℕ) (steps flags exit : List ℕ) (gone : ℕ) → Passed gone tower n steps flags exit
-    → (gone ≡ 0 → ⊥) → total exit < total flags
-holding-less tower n steps flags exit gone p some = go gone (p .counted) some
+-- Some had to go, down and then up: fewer flags are set.
+pub holding-less : (tower : Tower) (n : ℕ) (steps flags middle exit : List ℕ) (down up : ℕ) → Passed down tower n steps flags middle
+    → (down ≡ 0 → ⊥) → Passed up tower n steps middle exit → total exit < total flags
+holding-less tower n steps flags middle exit down up p some q = go down (p .counted) some
   where
-    go : (g : ℕ) → total exit + g ≡ total flags → (g ≡ 0 → ⊥) → total exit < total flags
+    go : (g : ℕ) → total middle + g ≡ total flags → (g ≡ 0 → ⊥) → total exit < total flags
     go zero e f = absurd (f refl)
-    go (suc g) e f = omega arith
+    go (suc g) e f = omega (arith, q .counted)
 
 pub holding-more : (tower : Tower) (n : ℕ) (steps old flags exit : List ℕ) (gone : ℕ) → Holding tower n steps old flags
     → Passed gone tower n steps flags exit → length exit ≡ length flags → Holding tower n steps old exit
@@ -228,6 +312,13 @@ pub holding-end : (tower : Tower) (n : ℕ) (steps old flags exit : List ℕ) (g
     → Passed gone tower n steps flags exit → gone ≡ 0 → Removed tower n steps old exit
 holding-end tower n steps old flags exit gone h p e =
     record { largest = largest tower n steps exit (p .holds (h .holds)) (p .all-fine e); beyond = beyond-beyond (h .beyond) (p .beyond) }
+
+-- None had to go, but on the way down some had.
+pub holding-end-up : (tower : Tower) (n : ℕ) (steps old flags middle exit : List ℕ) (down up : ℕ) → Holding tower n steps old flags
+    → Passed down tower n steps flags middle → length middle ≡ length flags → Passed up tower n steps middle exit → up ≡ 0
+    → Removed tower n steps old exit
+holding-end-up tower n steps old flags middle exit down up h p l q e =
+    holding-end tower n steps old middle exit up (holding-more tower n steps old flags middle down h p l) q e
 
 -- ---- The whole
 

@@ -37,15 +37,19 @@ fn keep_all(n: usize, flags: &mut [u8])
     }
 }
 
-// Passes over the pairs until one finds all the kept ones fine.
+// Passes over the pairs, down and up in turn, until one finds all the kept ones fine.
 fn passes(tower: &[u8], steps: &[u8], n: usize, flags: &mut [u8])
     requires { ⌜ Ready (now tower) n (now steps) (now flags) ⌝ }
     requires { ⌜ HoldsAll (tower-of (now tower)) n (now steps) (now flags) ⌝ }
     ensures { λ r. ⌜ Removed (tower-of (now (tower .entry))) n (now (steps .entry)) (now (flags .entry)) (now (flags .exit)) ⌝ }
 {
     loop {
-        let gone = pass(tower, steps, n, flags);
-        if gone == 0 {
+        let down = pass_down(tower, steps, n, flags);
+        if down == 0 {
+            return;
+        }
+        let up = pass_up(tower, steps, n, flags);
+        if up == 0 {
             return;
         }
     }
@@ -53,7 +57,7 @@ fn passes(tower: &[u8], steps: &[u8], n: usize, flags: &mut [u8])
 
 // Looks at each pair once, and answers how many had to go. It goes from the last pair to the first,
 // so that a removal runs backwards along the way that the pairs were met.
-fn pass(tower: &[u8], steps: &[u8], n: usize, flags: &mut [u8]) -> usize
+fn pass_down(tower: &[u8], steps: &[u8], n: usize, flags: &mut [u8]) -> usize
     requires { ⌜ Ready (now tower) n (now steps) (now flags) ⌝ }
     ensures { λ r. ⌜ Passed r (tower-of (now (tower .entry))) n (now (steps .entry)) (now (flags .entry)) (now (flags .exit)) ⌝ }
 {
@@ -61,6 +65,23 @@ fn pass(tower: &[u8], steps: &[u8], n: usize, flags: &mut [u8]) -> usize
     let mut i = n;
     while 0 < i {
         i -= 1;
+        if visit(tower, steps, i, flags) {
+            gone += 1;
+        }
+    }
+    gone
+}
+
+// The same from the first pair to the last, for steps that lead back to pairs met before.
+fn pass_up(tower: &[u8], steps: &[u8], n: usize, flags: &mut [u8]) -> usize
+    requires { ⌜ Ready (now tower) n (now steps) (now flags) ⌝ }
+    ensures { λ r. ⌜ Passed r (tower-of (now (tower .entry))) n (now (steps .entry)) (now (flags .entry)) (now (flags .exit)) ⌝ }
+{
+    let mut gone = 0;
+    let mut next = 0;
+    while next < n {
+        let i = next;
+        next += 1;
         if visit(tower, steps, i, flags) {
             gone += 1;
         }

@@ -1,10 +1,10 @@
--- `removal::pass` meets its contract.
+-- `removal::pass_down` meets its contract.
 -- The invariant: the pairs from the counter on have been looked at. The measure: how many are left.
 use Rattle.logic.specs.Tower.{tower-of}
 use borrow.Author.Needs.{needs}
 use Rattle.removal.proofs.Turns.{Passing, passing-start, passing-judged, passing-gone, passing-stays, passing-end}
-use Rattle.removal.proofs.pass.Statement.{statement}
-use Rattle.removal.proofs.pass.Tie as tie
+use Rattle.removal.proofs.pass_down.Statement.{statement}
+use Rattle.removal.proofs.pass_down.Tie as tie
 
 ruleset all = (needs, passing-start, passing-judged, passing-gone, passing-stays, passing-end)
 
@@ -14,8 +14,8 @@ Inv-loop tower steps n flags₀ gone₀ i₀ flags gone i = Passing (tower-of to
 abbrev μ-loop : tie.MeasureT-loop
 μ-loop tower steps n flags₀ gone₀ i₀ flags gone i = i
 
-pub pass-spec : {M : Type 1} → statement M
-pass-spec =
+pub pass-down-spec : {M : Type 1} → statement M
+pass-down-spec =
     tie.close
     (tie.spec Inv-loop μ-loop (λ c. search all) (λ c. search all) (λ c κs. search all) (λ c. search all) (λ c. search all)
     (λ c. search all) (λ c. search all) (λ c. search all) (λ c. search all) (λ c. search all))
