@@ -1,24 +1,26 @@
 -- A law for each way through the code.
-use Prim.Native.Nat.{ℕ, suc, _+_, _-_, _*_, _%_, _≤_, _<_}
+use Prim.Native.Nat.{ℕ, zero, suc, _+_, _-_, _*_, _%_, _^_, _≤_, _<_}
 use native.Mathlib.Omega.{arith}
+use native.Mathlib.Nat.{add-zero}
 use native.Mathlib.Numerals.{add-one}
 use native.Mathlib.Decide.{decLt, ℕ-discrete}
-use mathlib.Core.Path.{_≡_, refl, sym, _∙_, ap, ap₂}
-use mathlib.Core.Bool.{Bool, true, false, _&&_}
+use mathlib.Core.Path.{_≡_, refl, sym, _∙_, ap}
+use mathlib.Core.Bool.{Bool, true, false}
 use mathlib.Core.List.{List}
-use lib.ListN.{length, getD, drop, drop-of-length-le}
-use lib.Seq.{sets, length-sets, drop-cons}
+use lib.ListN.{length, getD}
+use lib.Seq.{sets, length-sets, ext-getD}
 use lib.Dec.{eqb}
 use borrow.Author.Tests.{eq-eqb, ne-eqb}
 use mir.Syntax.{w8, w64}
 use mir.Val.{Fits}
 use Rattle.base.specs.Bytes.{number-at, number-bytes}
-use Rattle.base.specs.Lists.{same-list, place-of}
+use Rattle.base.specs.Lists.{place-of}
+use Rattle.base.proofs.Bytes.{number-fits}
 use Rattle.base.proofs.Lists.{false-by}
 use Rattle.lent_bytes.proofs.Numbers.{stored, stored-read, byte-beside}
 use Rattle.entry_index.specs.Entries.{entry-size, most-entries, index-size, links-at, buckets, entry-at, entries-of, same-entry}
-use Rattle.entry_index.specs.Entries.{entry-words, hash-upto, hash-of, last-with, head-of, link-of, Indexed}
-use Rattle.entry_index.proofs.Laws.{entry-byte, entry-length, same-entry-out, found-at, found-none, hash-below}
+use Rattle.entry_index.specs.Entries.{entry-eights, mix, hash-upto, hash-of, last-with, head-of, link-of, Indexed}
+use Rattle.entry_index.proofs.Laws.{entry-byte, entry-length, same-entry-out, same-entry-in, found-at, found-none, hash-below}
 use Rattle.entry_index.proofs.Laws.{last-most, last-has, last-behind, last-new, last-old}
 
 -- ---- two-byte numbers
@@ -28,100 +30,186 @@ written-elsewhere : (l : List ℕ) (p q n : ℕ) → (q ≡ p → ⊥) → (q �
 unfolding number-at
 written-elsewhere l p q n a b c = rw (byte-beside l p n q a (λ e. b (omega arith)), byte-beside l p n (q + 1) c (λ e. a (omega arith)))
 
+-- ---- numbers of four and of eight bytes
+
+-- A number in bytes is below the power of its width.
+bound : (width : ℕ) (l : List ℕ) (p : ℕ) → ((j : ℕ) → Fits w8 (getD l j 0)) → number-at width l p < 256 ^ width
+bound width l p bytes = number-fits width l p (record { at = λ i. omega (arith, bytes i) })
+
+-- A two-byte number is small,
+pub two-small : (l : List ℕ) (p w : ℕ) → w ≡ number-at 2 l p → ((j : ℕ) → Fits w8 (getD l j 0)) → w < 4294967296
+two-small l p w e bytes = omega (arith, bound 2 l p bytes)
+
+-- and a four-byte number.
+pub four-small : (l : List ℕ) (p w : ℕ) → w ≡ number-at 4 l p → ((j : ℕ) → Fits w8 (getD l j 0)) → w < 4294967296
+four-small l p w e bytes = omega (arith, bound 4 l p bytes)
+
+-- A four-byte number of two two-byte ones: the upper one, and their sum.
+pub four-upper : (l : List ℕ) (p w : ℕ) → w ≡ number-at 2 l p → ((j : ℕ) → Fits w8 (getD l j 0)) → Fits w64 (65536 * w)
+four-upper l p w e bytes = omega (arith, bound 2 l p bytes)
+
+pub four-sum : (l : List ℕ) (p q v w : ℕ) → v ≡ number-at 2 l p → w ≡ number-at 2 l q → ((j : ℕ) → Fits w8 (getD l j 0))
+    → Fits w64 (v + 65536 * w)
+four-sum l p q v w e f bytes = omega (arith, bound 2 l p bytes, bound 2 l q bytes)
+
+-- What it is.
+pub four-read : (l : List ℕ) (p v w : ℕ) → v ≡ number-at 2 l p → w ≡ number-at 2 l (p + 2) → v + 65536 * w ≡ number-at 4 l p
+unfolding number-at
+four-read l p v w e f =
+    let second : p + 1 + 1 ≡ p + 2 = omega arith in
+    rw second (omega arith)
+
+-- An eight-byte number of two four-byte ones: the upper one, and their sum.
+pub eight-upper : (l : List ℕ) (p w : ℕ) → w ≡ number-at 4 l p → ((j : ℕ) → Fits w8 (getD l j 0)) → Fits w64 (4294967296 * w)
+eight-upper l p w e bytes = omega (arith, bound 4 l p bytes)
+
+pub eight-sum : (l : List ℕ) (p q v w : ℕ) → v ≡ number-at 4 l p → w ≡ number-at 4 l q → ((j : ℕ) → Fits w8 (getD l j 0))
+    → Fits w64 (v + 4294967296 * w)
+eight-sum l p q v w e f bytes = omega (arith, bound 4 l p bytes, bound 4 l q bytes)
+
+-- What it is.
+pub eight-read : (l : List ℕ) (p v w : ℕ) → v ≡ number-at 4 l p → w ≡ number-at 4 l (p + 4) → v + 4294967296 * w ≡ number-at 8 l p
+unfolding number-at
+eight-read l p v w e f =
+    let fourth : p + 1 + 1 + 1 + 1 ≡ p + 4 = omega arith in
+    rw fourth (omega arith)
+
+-- A number of an entry is one of the area.
+entry-number : (width : ℕ) (entries : List ℕ) (i k : ℕ) → k + width ≤ entry-size
+    → number-at width (entry-at entries i) k ≡ number-at width entries (62 * i + k)
+unfolding number-at
+entry-number zero entries i k l = refl
+entry-number (suc width) entries i k l =
+    let here = entry-byte entries i k (omega arith) in
+    let behind = entry-number width entries i (k + 1) (omega arith) in
+    let place : 62 * i + (k + 1) ≡ 62 * i + k + 1 = omega arith in
+    rw (here, behind, place)
+
+-- Equal numbers have equal bytes.
+same-bytes : (width : ℕ) (l : List ℕ) (p q : ℕ) → ((j : ℕ) → Fits w8 (getD l j 0)) → number-at width l p ≡ number-at width l q → (m : ℕ)
+    → m < width → getD l (p + m) 0 ≡ getD l (q + m) 0
+unfolding number-at
+same-bytes zero l p q bytes e m less = absurd (omega arith)
+same-bytes (suc width) l p q bytes e zero less = rw (add-zero p, add-zero q) (omega (arith, bytes p, bytes q))
+same-bytes (suc width) l p q bytes e (suc m) less =
+    let upper : number-at width l (p + 1) ≡ number-at width l (q + 1) = omega (arith, bytes p, bytes q) in
+    let place : p + 1 + m ≡ p + suc m = omega arith in
+    let place′ : q + 1 + m ≡ q + suc m = omega arith in
+    rw (← place, ← place′) (same-bytes width l (p + 1) (q + 1) bytes upper m (omega arith))
+
 -- ---- the hash
 
--- The loop over the two-byte numbers of entry i, k of which have gone into h.
+-- What goes into a hash.
+pub mix-read : (h low high : ℕ) → (h * 48271 + low + 521288629 * high) % 281474976710656 ≡ mix h low high
+unfolding mix
+mix-read h low high = refl
+
+-- a hash is small
+mix-small : (h low high : ℕ) → mix h low high < 281474976710656
+unfolding mix
+mix-small h low high = omega arith
+
+-- The loop over the bytes of entry i, k times eight of which have gone into h.
 pub record Hashing (entries : List ℕ) (i h k : ℕ) : Type 0 where
-  pub small : h < 4294967296
-  pub most : k ≤ entry-words
+  pub small : h < 281474976710656
+  pub most : k ≤ entry-eights
   pub so-far : h ≡ hash-upto (entry-at entries i) k
 
--- Before the first number.
+-- Before the first bytes.
 pub hash-start : (entries : List ℕ) (i : ℕ) → Hashing entries i 0 0
 unfolding hash-upto
 hash-start entries i = record { small = omega arith; most = omega arith; so-far = refl }
 
--- A number of an entry is one of the area.
-entry-word : (entries : List ℕ) (i k : ℕ) → k < entry-words → number-at 2 (entry-at entries i) (2 * k) ≡ number-at 2 entries (62 * i + 2 * k)
-unfolding number-at
-entry-word entries i k l =
-    let low = entry-byte entries i (2 * k) (omega arith) in
-    let high = entry-byte entries i (2 * k + 1) (omega arith) in
-    let place : 62 * i + (2 * k + 1) ≡ 62 * i + 2 * k + 1 = omega arith in
-    rw (low, high, place)
-
--- One number more.
-pub hash-more : (entries : List ℕ) (i h k w : ℕ) → Hashing entries i h k → k < 31 → w ≡ number-at 2 entries (62 * i + 2 * k)
-    → Hashing entries i ((h * 48271 + w) % 4294967296) (k + 1)
+-- Eight bytes more.
+pub hash-more : (entries : List ℕ) (i h k low high r : ℕ) → Hashing entries i h k → k < 7 → low ≡ number-at 4 entries (62 * i + 8 * k)
+    → high ≡ number-at 4 entries (62 * i + 8 * k + 4) → r ≡ mix h low high → Hashing entries i r (k + 1)
 unfolding hash-upto
-hash-more entries i h k w g l e =
-    record { small = omega arith; most = omega arith; so-far = rw (add-one k, entry-word entries i k l, ← e, ← (g .so-far)) }
+hash-more entries i h k low high r g l e f d =
+    let place : 62 * i + (8 * k + 4) ≡ 62 * i + 8 * k + 4 = omega arith in
+    let first = entry-number 4 entries i (8 * k) (omega arith) in
+    let second = entry-number 4 entries i (8 * k + 4) (omega arith) in
+    record {
+      small = rw d (mix-small h low high);
+      most = omega arith;
+      so-far = rw (add-one k, first, second, place, ← e, ← f, ← (g .so-far)) d;
+    }
 
--- All numbers.
-pub hash-end : (entries : List ℕ) (i h k : ℕ) → Hashing entries i h k → 31 ≤ k → h % 1021 ≡ hash-of (entry-at entries i)
+-- The last six bytes.
+pub hash-end : (entries : List ℕ) (i h k low high r : ℕ) → Hashing entries i h k → 7 ≤ k → low ≡ number-at 4 entries (62 * i + 56)
+    → high ≡ number-at 2 entries (62 * i + 60) → r ≡ mix h low high → r % 1021 ≡ hash-of (entry-at entries i)
 unfolding hash-of
-hash-end entries i h k g l =
-    let all : k ≡ 31 = omega (arith, g .most) in
-    ap (λ n. n % 1021) (g .so-far ∙ ap (hash-upto (entry-at entries i)) all)
-
--- The sum before the remainder is taken fits.
-pub hash-fits : (entries : List ℕ) (i h k w p : ℕ) → Hashing entries i h k → w ≡ number-at 2 entries p → ((j : ℕ) → Fits w8 (getD entries j 0))
-    → Fits w64 (h * 48271 + w)
-unfolding number-at
-hash-fits entries i h k w p g e bytes = omega (arith, bytes p, bytes (p + 1), g .small)
+hash-end entries i h k low high r g l e f d =
+    let all : k ≡ 7 = omega (arith, g .most) in
+    let so-far : h ≡ hash-upto (entry-at entries i) 7 = g .so-far ∙ ap (hash-upto (entry-at entries i)) all in
+    let first = entry-number 4 entries i 56 (omega arith) in
+    let second = entry-number 2 entries i 60 (omega arith) in
+    rw (first, second, ← e, ← f, ← so-far, d)
 
 -- ---- equal entries
 
 -- The loop over the bytes of entries i and j, the first k of which are equal.
 pub record Comparing (entries : List ℕ) (i j k : ℕ) : Type 0 where
   pub most : k ≤ entry-size
-  pub rest : same-list eqb (drop k (entry-at entries i)) (drop k (entry-at entries j))
-      ≡ same-entry (entry-at entries i) (entry-at entries j)
+  pub equal : (m : ℕ) → m < k → getD entries (62 * i + m) 0 ≡ getD entries (62 * j + m) 0
 
 -- Before the first bytes.
 pub same-start : (entries : List ℕ) (i j : ℕ) → Comparing entries i j 0
-unfolding same-entry
-same-start entries i j = record { most = omega arith; rest = refl }
+same-start entries i j = record { most = omega arith; equal = λ m l. absurd (omega arith) }
 
--- the next bytes decide, or those behind them
-same-next : (entries : List ℕ) (i j k : ℕ) → entry-size * i + entry-size ≤ length entries → entry-size * j + entry-size ≤ length entries
-    → k < 62 → (b : Bool) → eqb (getD entries (62 * i + k) 0) (getD entries (62 * j + k) 0) ≡ b
-    → same-list eqb (drop k (entry-at entries i)) (drop k (entry-at entries j))
-    ≡ (b && same-list eqb (drop (suc k) (entry-at entries i)) (drop (suc k) (entry-at entries j)))
-unfolding same-list
-same-next entries i j k room room′ l b e =
-    let long = entry-length entries i room in
-    let long′ = entry-length entries j room′ in
-    let next = drop-cons (entry-at entries i) k 0 (omega arith) in
-    let next′ = drop-cons (entry-at entries j) k 0 (omega arith) in
-    rw (next, next′, entry-byte entries i k l, entry-byte entries j k l, e)
-
--- The next bytes are equal.
-pub same-more : (entries : List ℕ) (i j k m : ℕ) → Comparing entries i j k → entry-size * i + entry-size ≤ length entries
-    → entry-size * j + entry-size ≤ length entries → k < m → m ≤ entry-size → getD entries (62 * i + k) 0 ≡ getD entries (62 * j + k) 0
-    → Comparing entries i j (k + 1)
-same-more entries i j k m g room room′ l most e =
+-- the next eight bytes are equal
+same-next : (entries : List ℕ) (i j k last x y : ℕ) → Comparing entries i j k → last ≤ k → last + 8 ≤ entry-size
+    → x ≡ number-at 8 entries (62 * i + last) → y ≡ number-at 8 entries (62 * j + last) → x ≡ y
+    → ((n : ℕ) → Fits w8 (getD entries n 0)) → Comparing entries i j (last + 8)
+same-next entries i j k last x y g less most e f same bytes =
     record {
-      most = omega arith;
-      rest = rw (add-one k) (sym (same-next entries i j k room room′ (omega arith) true (eq-eqb _ _ e)) ∙ g .rest);
+      most = most;
+      equal = λ m l. elim (decLt m k) [
+        | yes before ↦ g .equal m before
+        | no not-before ↦ (
+            let p : 62 * i + last + (m - last) ≡ 62 * i + m = omega arith in
+            let q : 62 * j + last + (m - last) ≡ 62 * j + m = omega arith in
+            rw (← p, ← q) (same-bytes 8 entries (62 * i + last) (62 * j + last) bytes (sym e ∙ same ∙ f) (m - last) (omega arith)))
+      ];
     }
 
--- The next bytes are not equal.
-pub same-differ : (entries : List ℕ) (i j k m : ℕ) → Comparing entries i j k → entry-size * i + entry-size ≤ length entries
-    → entry-size * j + entry-size ≤ length entries → k < m → m ≤ entry-size → (getD entries (62 * i + k) 0 ≡ getD entries (62 * j + k) 0 → ⊥)
-    → false ≡ same-entry (entry-at entries i) (entry-at entries j)
-same-differ entries i j k m g room room′ l most e = sym (same-next entries i j k room room′ (omega arith) false (ne-eqb _ _ e)) ∙ g .rest
+-- The next eight bytes are equal.
+pub same-more : (entries : List ℕ) (i j k x y : ℕ) → Comparing entries i j k → k < 54 → x ≡ number-at 8 entries (62 * i + k)
+    → y ≡ number-at 8 entries (62 * j + k) → x ≡ y → ((n : ℕ) → Fits w8 (getD entries n 0)) → Comparing entries i j (k + 8)
+same-more entries i j k x y g l e f same bytes = same-next entries i j k k x y g (omega arith) (omega arith) e f same bytes
 
--- All bytes are equal.
-pub same-end : (entries : List ℕ) (i j k : ℕ) → Comparing entries i j k → entry-size * i + entry-size ≤ length entries
-    → entry-size * j + entry-size ≤ length entries → 62 ≤ k → true ≡ same-entry (entry-at entries i) (entry-at entries j)
-unfolding same-list
-same-end entries i j k g room room′ l =
+-- eight bytes that are not equal
+differ-at : (entries : List ℕ) (i j k x y : ℕ) → k ≤ 54 → x ≡ number-at 8 entries (62 * i + k) → y ≡ number-at 8 entries (62 * j + k)
+    → (x ≡ y → ⊥) → same-entry (entry-at entries i) (entry-at entries j) ≡ false
+differ-at entries i j k x y l e f apart =
+    false-by (same-entry (entry-at entries i) (entry-at entries j)) (λ same. apart
+    (e ∙ sym (entry-number 8 entries i k (omega arith))
+    ∙ ap (λ (entry : List ℕ). number-at 8 entry k) (same-entry-out (entry-at entries i) (entry-at entries j) same)
+    ∙ entry-number 8 entries j k (omega arith) ∙ sym f))
+
+-- The next eight bytes are not equal.
+pub same-differ : (entries : List ℕ) (i j k x y : ℕ) → k < 54 → x ≡ number-at 8 entries (62 * i + k)
+    → y ≡ number-at 8 entries (62 * j + k) → (x ≡ y → ⊥) → false ≡ same-entry (entry-at entries i) (entry-at entries j)
+same-differ entries i j k x y l e f apart = sym (differ-at entries i j k x y (omega arith) e f apart)
+
+-- all bytes are equal
+same-all : (entries : List ℕ) (i j : ℕ) → Comparing entries i j entry-size → entry-size * i + entry-size ≤ length entries
+    → entry-size * j + entry-size ≤ length entries → same-entry (entry-at entries i) (entry-at entries j) ≡ true
+same-all entries i j g room room′ =
     let long = entry-length entries i room in
     let long′ = entry-length entries j room′ in
-    ap₂ (λ (x y : List ℕ). same-list eqb x y) (sym (drop-of-length-le (entry-at entries i) {i = k} (omega arith)))
-    (sym (drop-of-length-le (entry-at entries j) {i = k} (omega arith)))
-    ∙ g .rest
+    same-entry-in (entry-at entries i) (entry-at entries j)
+    (ext-getD 0 (entry-at entries i) (entry-at entries j) (omega arith) (λ m l.
+    let small : m < 62 = omega arith in
+    entry-byte entries i m small ∙ g .equal m small ∙ sym (entry-byte entries j m small)))
+
+-- The last eight bytes decide.
+pub same-end : (entries : List ℕ) (i j k x y : ℕ) → Comparing entries i j k → 54 ≤ k → entry-size * i + entry-size ≤ length entries
+    → entry-size * j + entry-size ≤ length entries → x ≡ number-at 8 entries (62 * i + 54) → y ≡ number-at 8 entries (62 * j + 54)
+    → ((n : ℕ) → Fits w8 (getD entries n 0)) → eqb x y ≡ same-entry (entry-at entries i) (entry-at entries j)
+same-end entries i j k x y g l room room′ e f bytes = elim (ℕ-discrete x y) [
+  | yes same ↦ eq-eqb x y same ∙ sym (same-all entries i j (same-next entries i j k 54 x y g l (omega arith) e f same bytes) room room′)
+  | no apart ↦ ne-eqb x y apart ∙ sym (differ-at entries i j 54 x y (omega arith) e f apart)
+]
 
 -- ---- heads and links
 

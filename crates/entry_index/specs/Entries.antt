@@ -41,18 +41,22 @@ same-entry x y = same-list eqb x y
 abbrev pub buckets : ℕ
 buckets = 1021
 
--- how many two-byte numbers an entry has
-abbrev pub entry-words : ℕ
-entry-words = 31
+-- how many times eight bytes an entry has; six are left
+abbrev pub entry-eights : ℕ
+entry-eights = 7
 
--- the hash of the first k two-byte numbers of an entry, before it is brought below the number of hashes
+-- Two numbers of at most four bytes go into a hash. It has six bytes, so that the high bytes of the numbers spread as well.
+unfoldable pub mix : ℕ → ℕ → ℕ → ℕ
+mix h low high = (h * 48271 + low + 521288629 * high) % 281474976710656
+
+-- the hash of the first k times eight bytes of an entry, before it is brought below the number of hashes
 unfoldable pub hash-upto : List ℕ → ℕ → ℕ
 hash-upto entry zero = 0
-hash-upto entry (suc k) = (hash-upto entry k * 48271 + number-at 2 entry (2 * k)) % 4294967296
+hash-upto entry (suc k) = mix (hash-upto entry k) (number-at 4 entry (8 * k)) (number-at 4 entry (8 * k + 4))
 
 -- the hash of an entry
 unfoldable pub hash-of : List ℕ → ℕ
-hash-of entry = hash-upto entry entry-words % buckets
+hash-of entry = mix (hash-upto entry entry-eights) (number-at 4 entry 56) (number-at 2 entry 60) % buckets
 
 -- of the first n entries the last with the hash h: its number plus one, or 0 if there is none
 unfoldable pub last-with : List ℕ → ℕ → ℕ → ℕ

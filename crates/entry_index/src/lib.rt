@@ -3,20 +3,27 @@
 ghost use Prim.Native.Nat.{_+_, _*_, _<_, _≤_};
 ghost use mathlib.Core.Path.{_≡_};
 ghost use lib.ListN.{length};
+ghost use Rattle.base.specs.Bytes.{number-at};
 ghost use Rattle.base.specs.Lists.{place-of};
 ghost use Rattle.entry_index.specs.Entries.{entry-size, most-entries, entries-size, index-size};
-ghost use Rattle.entry_index.specs.Entries.{entry-at, entries-of, same-entry, hash-of, head-of, link-of, Indexed};
+ghost use Rattle.entry_index.specs.Entries.{entry-at, entries-of, same-entry, mix, hash-of, head-of, link-of, Indexed};
 
 // The bytes of an entry.
 const ENTRY_SIZE: usize = 62;
 
-// The hash of an entry: each of its two-byte numbers is added to the multiple of what came before it,
-// and the sum is brought below the number of buckets, a prime.
-const ENTRY_WORDS: usize = 31;
+// Where the last eight bytes of an entry begin.
+const LAST_EIGHT: usize = 54;
+
+// The hash of an entry: seven times eight of its bytes are added, as two four-byte numbers, to the
+// multiple of what came before them, then the six that are left; the sum is brought below the number of
+// buckets, a prime.
+const ENTRY_EIGHTS: usize = 7;
 
 const MULTIPLIER: usize = 48271;
 
-const MODULUS: usize = 4294967296;
+const HIGH_MULTIPLIER: usize = 521288629;
+
+const MODULUS: usize = 281474976710656;
 
 const BUCKETS: usize = 1021;
 
@@ -24,6 +31,32 @@ const BUCKETS: usize = 1021;
 const HEADS_AT: usize = 0;
 
 const LINKS_AT: usize = 2048;
+
+// The four-byte number at p.
+fn four_bytes(bytes: &[u8], p: usize) -> usize
+    requires { ⌜ p + 3 < length (now bytes) ⌝ }
+    ensures { λ r. ⌜ r ≡ number-at 4 (now (bytes .entry)) p ⌝ }
+{
+    lent_bytes::two_bytes(bytes, p) + 65536 * lent_bytes::two_bytes(bytes, p + 2)
+}
+
+// The eight-byte number at p.
+fn eight_bytes(bytes: &[u8], p: usize) -> usize
+    requires { ⌜ p + 7 < length (now bytes) ⌝ }
+    ensures { λ r. ⌜ r ≡ number-at 8 (now (bytes .entry)) p ⌝ }
+{
+    four_bytes(bytes, p) + 4294967296 * four_bytes(bytes, p + 4)
+}
+
+// Two numbers more go into a hash.
+fn mixed(h: usize, low: usize, high: usize) -> usize
+    requires { ⌜ h < 281474976710656 ⌝ }
+    requires { ⌜ low < 4294967296 ⌝ }
+    requires { ⌜ high < 4294967296 ⌝ }
+    ensures { λ r. ⌜ r ≡ mix h low high ⌝ }
+{
+    (h * MULTIPLIER + low + HIGH_MULTIPLIER * high) % MODULUS
+}
 
 // The hash of entry i.
 pub fn hash(entries: &[u8], i: usize) -> usize
@@ -33,15 +66,18 @@ pub fn hash(entries: &[u8], i: usize) -> usize
     let start = ENTRY_SIZE * i;
     let mut h = 0;
     let mut k = 0;
-    while k < ENTRY_WORDS {
-        let word = lent_bytes::two_bytes(entries, start + 2 * k);
-        h = (h * MULTIPLIER + word) % MODULUS;
+    while k < ENTRY_EIGHTS {
+        let low = four_bytes(entries, start + 8 * k);
+        let high = four_bytes(entries, start + 8 * k + 4);
+        h = mixed(h, low, high);
         k += 1;
     }
-    h % BUCKETS
+    let low = four_bytes(entries, start + 56);
+    let high = lent_bytes::two_bytes(entries, start + 60);
+    mixed(h, low, high) % BUCKETS
 }
 
-// Whether entries i and j are equal.
+// Whether entries i and j are equal: eight bytes at a time, and the last eight, some of them again.
 pub fn same(entries: &[u8], i: usize, j: usize) -> bool
     requires { ⌜ entry-size * i + entry-size ≤ length (now entries) ⌝ }
     requires { ⌜ entry-size * j + entry-size ≤ length (now entries) ⌝ }
@@ -50,13 +86,13 @@ pub fn same(entries: &[u8], i: usize, j: usize) -> bool
     let one = ENTRY_SIZE * i;
     let other = ENTRY_SIZE * j;
     let mut offset = 0;
-    while offset < ENTRY_SIZE {
-        if entries[one + offset] != entries[other + offset] {
+    while offset < LAST_EIGHT {
+        if eight_bytes(entries, one + offset) != eight_bytes(entries, other + offset) {
             return false;
         }
-        offset += 1;
+        offset += 8;
     }
-    true
+    eight_bytes(entries, one + LAST_EIGHT) == eight_bytes(entries, other + LAST_EIGHT)
 }
 
 // The head of the bucket of entry n: the last entry before n with the same hash, plus one, or 0.

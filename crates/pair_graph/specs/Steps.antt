@@ -26,10 +26,13 @@ cell i a = 2 * (action-room * i + a)
 unfoldable pub move-at : List ℕ → ℕ → ℕ → Move
 move-at steps i a = move-of (number-at 2 steps (cell i a))
 
--- The graph of n pairs that the bytes hold; states are those of the pairs, and kinds those of the tower.
+-- The graph of n pairs that the bytes hold, with so many actions, these states and these kinds.
+abbrev pub graph-with : ℕ → ℕ → (ℕ → ℕ) → (ℕ → ℕ) → List ℕ → Graph
+graph-with n actions state kind steps = record { pairs = n; actions = actions; state = state; kind = kind; move = move-at steps }
+
+-- The same with the actions and kinds of a tower.
 unfoldable pub graph-of : Tower → ℕ → (ℕ → ℕ) → List ℕ → Graph
-graph-of tower n state steps =
-    record { pairs = n; actions = tower .actions; state = state; kind = tower .kind; move = move-at steps }
+graph-of tower n state steps = graph-with n (tower .actions) state (tower .kind) steps
 
 -- The bytes are those of a graph of n pairs: every move leads to one of them.
 pub record HoldsGraph (tower : Tower) (n : ℕ) (steps : List ℕ) : Type 0 where

@@ -7,7 +7,7 @@ use mathlib.Core.List.{List}
 use lib.ListN.{take}
 use Rattle.base.specs.Bytes.{number-at}
 use Rattle.pair_graph.specs.Graph.{Graph, allowed-to}
-use Rattle.pair_graph.specs.Steps.{move-at, class-in, kept-in, state-in}
+use Rattle.pair_graph.specs.Steps.{move-at, class-in, kept-in, state-in, graph-with}
 
 -- ---- the parts of the area in which a pass works
 
@@ -31,8 +31,7 @@ head-in area h = number-at 2 area (6000 + 2 * h)
 
 -- The graph of n pairs in the bytes.
 abbrev pub pairs-graph : List ℕ → List ℕ → ℕ → ℕ → (ℕ → ℕ) → Graph
-pairs-graph steps entries actions n kind =
-    record { pairs = n; actions = actions; state = state-in entries; kind = kind; move = move-at steps }
+pairs-graph steps entries actions n kind = graph-with n actions (state-in entries) kind steps
 
 -- What is seen of the pairs.
 pub record View : Type 0 where

@@ -13,7 +13,7 @@ use Rattle.base.specs.Search.{search-from}
 use Rattle.logic.specs.Tables.{Step, Row, Table}
 use Rattle.logic.specs.TableFile.{step-bytes, row-bytes, table-file}
 use Rattle.pair_graph.specs.Graph.{Graph, to}
-use Rattle.pair_graph.specs.Steps.{cell, move-at, class-in, kept-in, state-in}
+use Rattle.pair_graph.specs.Steps.{cell, move-at, class-in, kept-in, state-in, graph-with}
 use Rattle.pair_graph.specs.GraphTable.{graph-table}
 use Rattle.row_order.specs.Orders.{led-to, followers, classes-part, same-in, order-of, Moves, Numbered}
 use Rattle.table_writer.specs.declared.Written.{Written}
@@ -23,8 +23,7 @@ use Rattle.table_writer.specs.declared.Written.the-variants.{Made, NoRoo
 
 -- the graph of n pairs that the areas hold; the kinds of actions do not matter to its table
 unfoldable pub graph-in : (steps entries : List ℕ) → ℕ → ℕ → Graph
-graph-in steps entries n actions =
-    record { pairs = n; actions = actions; state = state-in entries; kind = λ a. 0; move = move-at steps }
+graph-in steps entries n actions = graph-with n actions (state-in entries) (λ a. 0) steps
 
 -- the table of that graph with its kept pairs and their classes
 unfoldable pub table-in : (steps flags entries classes : List ℕ) → ℕ → ℕ → Table

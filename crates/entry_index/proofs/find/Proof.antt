@@ -5,7 +5,7 @@ use Rattle.entry_index.proofs.Ways.{Searching, find-start, find-less, f
 use Rattle.entry_index.proofs.find.Statement.{statement}
 use Rattle.entry_index.proofs.find.Tie as tie
 
-ruleset all = (needs, find-start, find-less, find-hit, find-miss, find-end)
+ruleset all = (needs, find-start, find-less, find-miss, find-end)
 
 abbrev Inv-loop : tie.InvT-loop
 Inv-loop entries index n found₀ at₀ found at = Searching entries n found at
@@ -17,4 +17,7 @@ pub find-spec : {M : Type 1} → statement M
 find-spec =
     tie.close
     (tie.spec Inv-loop μ-loop (λ c κs. search all) (λ c. search all) (λ c. search all) (λ c κs. search all) (λ c κs. search all)
-    (λ c. search all) (λ c. search all) (λ c. search all) (λ c. search all) (λ c. search all))
+    (λ c. search all) (λ c.
+    let turn = c .before .before .before .before in
+    find-hit _ _ _ _ _ _ _ (turn .before .before .before .before .pre .0) (turn .loop .inv) (c .before .before .before .loop-test .taken)
+    (c .before .before .link .ensures) (c .before .same .ensures) (c .if1 .taken)) (λ c. search all) (λ c. search all) (λ c. search all))

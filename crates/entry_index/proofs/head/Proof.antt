@@ -4,7 +4,10 @@ use Rattle.entry_index.proofs.Ways.{bucket-fits, bucket-place, bucket-t
 use Rattle.entry_index.proofs.head.Statement.{statement}
 use Rattle.entry_index.proofs.head.Tie as tie
 
-ruleset all = (needs, bucket-fits, bucket-place, bucket-there, head-read)
+ruleset all = (needs, bucket-fits, bucket-place, bucket-there)
 
 pub head-spec : {M : Type 1} → statement M
-head-spec = tie.close (tie.spec (λ c κs. search all) (λ c. search all) (λ c. search all) (λ c κs. search all) (λ c. search all))
+head-spec =
+    tie.close
+    (tie.spec (λ c κs. search all) (λ c. search all) (λ c. search all) (λ c κs. search all)
+    (λ c. head-read _ _ _ _ (c .before .hash .ensures) (c .two-bytes .ensures)))
