@@ -1,27 +1,27 @@
 -- A file that is read up to one byte past the longest fit one gets the answer of the whole file.
 use Prim.Native.Nat.{ℕ, _+_, _*_, _≤_, _<_}
 use mathlib.Core.Path.{_≡_, sym, _∙_, ap, fun-ext}
-use mathlib.Core.Bool.{Bool, true, false, _&&_, _||_, not}
+use mathlib.Core.Bool.{true, false, _||_, not}
 use mathlib.Core.List.{List}
 use native.Mathlib.Omega.{arith}
 use native.Mathlib.Nat.{mul-le-mul-right}
 use native.Mathlib.Decide.{decLt}
-use lib.ListN.{length, take, getD, length-take}
+use lib.ListN.{length, take, length-take}
 use lib.Seq.{take-all, getD-take}
 use lib.Dec.{eqb, ltb, leb}
 use borrow.Author.Tests.{lt-ltb, le-ltb, eqb-true, not-false}
-use Rattle.base.specs.Bytes.{byte-at, number-at}
-use Rattle.base.specs.Answers.{Answer, give, refuse, _if_else_, _then_}
-use Rattle.base.specs.declared.Refusal.the-variants.{TowerSize, Range, Action, Target, Mask, Limit, Layout}
+use Rattle.base.specs.Bytes.{number-at}
+use Rattle.base.specs.Answers.{give, refuse, _if_else_, _then_}
+use Rattle.base.specs.declared.Refusal.the-variants.{TowerSize, Range, Limit, Layout}
 use Rattle.base.proofs.Lists.{whether, and-left, or-fails-left, or-fails-right}
 use Rattle.base.proofs.Answers.{if-on, if-refuses}
-use Rattle.logic.specs.Tower.{Tower, header-size, state-width, most-states, most-actions, most-marks, in-range, states-of, actions-of, marks-of, start-of, states-at, state-size, state-at, no-header, bad-counts, bad-size, bad-actions, bad-targets, bad-masks, tower-of}
+use Rattle.logic.specs.Tower.{Tower, header-size, state-width, most-states, most-actions, most-marks, in-range, states-of, actions-of, marks-of, start-of, states-at, state-size, state-at, no-header, bad-counts, bad-size}
 use Rattle.logic.specs.TableFile.{most-rows, rows-at, row-size, step-size, steps-at, table-file}
 use Rattle.logic.proofs.TowerFile.{range-out}
 use Rattle.logic.proofs.TableFile.{fits-few-steps}
 use Rattle.reading.specs.TowerReading.{read-tower}
-use Rattle.reading.specs.BookReading.{most-bytes, read-book, read-lines}
-use Rattle.reading.specs.TableReading.{rows-of, steps-of, table-states, table-actions, step-place, header-right, rows-right, laid-out, table-of, read-table}
+use Rattle.reading.specs.BookReading.{most-bytes, read-book}
+use Rattle.reading.specs.TableReading.{rows-of, table-states, table-actions, step-place, header-right, rows-right, laid-out, table-of, read-table}
 use Rattle.reading.proofs.LaidOut.{length-laid-out-steps}
 use Rattle.reading.proofs.TableReading.{laid-out-fits}
 use Rattle.reading.proofs.TableHeader.{header-out}

@@ -1,13 +1,12 @@
 -- A law for each way through the code.
-use Prim.Native.Nat.{ℕ, zero, suc, _+_, _*_, _≤_, _<_}
-use mathlib.Core.Path.{_≡_, refl, sym, _∙_, ap, subst}
+use Prim.Native.Nat.{ℕ, suc, _+_, _*_, _≤_, _<_}
+use mathlib.Core.Path.{_≡_, refl, sym, _∙_, ap}
 use mathlib.Core.List.{List, [], _∷_}
 use native.Mathlib.Omega.{arith}
 use native.Mathlib.Decide.{decLt}
 use lib.ListN.{length, getD, take}
 use lib.Seq.{length-take-le}
 use Rattle.io.specs.Counts as Io
-use Rattle.base.specs.Lists.{joined}
 use Rattle.base.specs.Text.{byte, ascii}
 use Rattle.base.specs.Bytes.{number-at}
 use Rattle.texts.specs.Decimal.{decimal}

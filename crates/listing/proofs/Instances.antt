@@ -1,8 +1,8 @@
 -- The paper's listing of the small tower's table 1, and lines of refusals, computed from the definitions.
 use mathlib.Core.Path.{_≡_, refl}
-use mathlib.Core.List.{List, [], _∷_, map, _++_}
+use mathlib.Core.List.{List, [], _∷_}
 use Prim.Native.Nat.{ℕ}
-use Rattle.base.specs.Lists.{joined, count-from}
+use Rattle.base.specs.Lists.{joined}
 use Rattle.base.specs.Text.{byte, ascii}
 use Rattle.base.specs.Recursion.{within, run}
 use Rattle.base.specs.Answers.{refused}

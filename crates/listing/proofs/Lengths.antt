@@ -2,7 +2,7 @@
 use Prim.Native.Nat.{ℕ, zero, suc, _+_, _*_, _^_, _≤_, _<_}
 use mathlib.Core.Path.{_≡_}
 use mathlib.Core.Bool.{true}
-use mathlib.Core.List.{List, [], _∷_, _++_, map}
+use mathlib.Core.List.{List, [], _∷_, map}
 use native.Mathlib.Omega.{arith}
 use native.Mathlib.Decide.{ℕ-discrete}
 use lib.ListN.{length, length-append}
@@ -10,7 +10,6 @@ use borrow.Author.Tests.{eq-eqb, ne-eqb}
 use Rattle.base.specs.Lists.{joined, count-from, total}
 use Rattle.base.proofs.Lists.{length-joined}
 use Rattle.base.specs.Text.{ascii}
-use Rattle.base.specs.Answers.{Said}
 use Rattle.logic.specs.Tower.{most-states, most-actions}
 use Rattle.logic.specs.Tables.{row-at}
 use Rattle.logic.specs.TableFile.{most-rows}

@@ -2,18 +2,16 @@
 use Prim.Native.Nat.{ℕ, suc, _+_, _-_, _^_, _≤_, _<_}
 use mathlib.Core.Path.{_≡_, refl, sym, _∙_, ap}
 use mathlib.Core.Bool.{true}
-use mathlib.Core.List.{List, [], _∷_, _++_, map, append-nil}
+use mathlib.Core.List.{List, [], _∷_, _++_, map}
 use native.Mathlib.Omega.{arith}
 use native.Mathlib.Numerals.{add-one}
 use lib.ListN.{length}
-use lib.Dec.{eqb}
 use borrow.Author.Tests.{eq-eqb, ne-eqb}
 use mir.Syntax.{w64}
 use mir.Val.{Fits}
 use Rattle.base.specs.Lists.{joined, count-from}
-use Rattle.base.specs.Text.{byte, ascii}
-use Rattle.base.specs.Answers.{refusal-said, row-of, letter-of}
-use Rattle.base.specs.declared.Reason.{Reason}
+use Rattle.base.specs.Text.{ascii}
+use Rattle.base.specs.Answers.{refusal-said, letter-of}
 use Rattle.base.specs.declared.Reason.the-variants.{Start, Withheld, Step, Stopped, Broken}
 use Rattle.base.specs.declared.Refusal.{Refusal}
 use Rattle.base.specs.declared.Refusal.the-variants.{TowerSize, Range, Action, Target, Mask, Grammar, Number, Mark, Limit, Timed, Pairs, NoTable, Layout, NotGood, Area, Output, Outside, NotAllowed}
@@ -27,7 +25,7 @@ use Rattle.texts.specs.Decimal.{decimal}
 use Rattle.texts.specs.Putting.{filled, put, Puts, Line}
 use Rattle.texts.proofs.Fitting.{put-append, puts-then, puts-nothing, more, last, line-whole}
 use Rattle.listing.specs.Lines.{line-end, head-line, step-text, steps-text, row-line, sizes-line, letter-text, inside-text, refusal-line, refused-line}
-use Rattle.listing.proofs.Lengths.{number-short, head-short, sizes-short, row-short, refusal-short}
+use Rattle.listing.proofs.Lengths.{head-short, sizes-short, row-short, refusal-short}
 
 -- ---- texts one behind the other
 

@@ -5,7 +5,7 @@ ghost use Prim.Native.Nat.{_<_};
 ghost use mathlib.Core.Path.{_≡_};
 ghost use mathlib.Core.Bool.{true};
 ghost use Rattle.base.specs.Answers.{refusal-said};
-ghost use Rattle.logic.specs.Tables.{Step, row-at};
+ghost use Rattle.logic.specs.Tables.{row-at};
 ghost use Rattle.reading.specs.TableReading.{rows-of, laid-out, table-of};
 ghost use Rattle.texts.specs.Putting.{Puts, Line};
 ghost use Rattle.listing.specs.Lines.{head-line, step-text, steps-text, row-line, sizes-line, letter-text, refusal-line, refused-line};

@@ -1,6 +1,6 @@
 -- The file of a made table is laid out as a table file, and has at most 52,012 bytes.
-use Prim.Native.Nat.{ℕ, _+_, _*_, _≤_}
-use mathlib.Core.Path.{_≡_, refl, sym, _∙_, ap, subst}
+use Prim.Native.Nat.{ℕ, _≤_}
+use mathlib.Core.Path.{_≡_, subst}
 use mathlib.Core.Bool.{true}
 use mathlib.Core.List.{List}
 use native.Mathlib.Omega.{arith}
@@ -10,7 +10,7 @@ use Rattle.base.proofs.Answers.{then-gives}
 use Rattle.logic.specs.Tower.{Tower, state-width}
 use Rattle.logic.specs.Book.{Book}
 use Rattle.logic.specs.Tables.{Table}
-use Rattle.logic.specs.TableFile.{most-rows, rows-at, row-size, step-size, steps-at, all-steps, table-file}
+use Rattle.logic.specs.TableFile.{most-rows, rows-at, row-size, step-size, steps-at, table-file}
 use Rattle.logic.proofs.TableFile.{Fits, made-fits, fits-few-steps, length-table-file}
 use Rattle.reading.specs.TowerReading.{read-tower}
 use Rattle.reading.specs.BookReading.{read-book}

@@ -1,24 +1,22 @@
 -- A law for each way through the code.
 use Prim.Native.Nat.{ℕ, _+_, _≤_}
 use mathlib.Core.Path.{_≡_, refl, sym, _∙_, ap}
-use mathlib.Core.Bool.{Bool, true}
+use mathlib.Core.Bool.{true}
 use mathlib.Core.List.{List, [], _∷_}
 use native.Mathlib.Omega.{arith}
 use lib.ListN.{length, take, drop, length-take}
 use lib.Seq.{sets-eq, take-at, length-take-le}
-use lib.Dec.{leb, ltb}
 use borrow.Author.Tests.{le-leb, le-ltb}
-use Rattle.base.specs.Choice.{pick}
 use Rattle.base.specs.Bytes.{long-enough, cleared}
 use Rattle.base.specs.Answers.{Answer, refuse, give, _if_else_, _then_}
 use Rattle.base.specs.declared.MakeAnswer.{MakeAnswer}
-use Rattle.base.specs.declared.MakeAnswer.the-variants.{Made, Refused}
+use Rattle.base.specs.declared.MakeAnswer.the-variants.{Made}
 use Rattle.reading.specs.TableReading.{laid-out}
 use Rattle.outcome.specs.Areas.{book-area, pairs-area, index-area, steps-area, flags-area, classes-area, make-areas}
-use Rattle.outcome.specs.Make.{MakeOutcome, made-file, fitting, written, make-outcome}
+use Rattle.outcome.specs.Make.{made-file, fitting, written, make-outcome}
 use Rattle.maker.specs.Making.{Makes}
 use Rattle.make_table.specs.Files.{made-answer, MadeFile}
-use Rattle.make_table.proofs.MadeFiles.{KnownFile, made-known}
+use Rattle.make_table.proofs.MadeFiles.{made-known}
 
 -- ---- make
 

@@ -1,18 +1,17 @@
 -- A law for each way through the code.
 use Prim.Native.Nat.{ℕ, _≤_}
-use mathlib.Core.Path.{_≡_, sym, _∙_, ap}
+use mathlib.Core.Path.{_≡_, sym, _∙_}
 use mathlib.Core.Bool.{true}
 use mathlib.Core.List.{List, [], _∷_}
 use native.Mathlib.Omega.{arith}
 use lib.ListN.{length}
-use lib.Dec.{ltb}
 use borrow.Author.Tests.{le-leb, le-ltb}
 use Rattle.base.specs.Bytes.{long-enough}
 use Rattle.base.specs.Answers.{_if_else_, _then_}
 use Rattle.base.specs.declared.BookAnswer.{BookAnswer}
 use Rattle.base.specs.declared.BookAnswer.the-variants as Book
 use Rattle.base.specs.declared.Refusal.{Refusal}
-use Rattle.logic.specs.Tower.{FitTower, tower-of, most-marks}
+use Rattle.logic.specs.Tower.{tower-of, most-marks}
 use Rattle.reading.specs.TowerReading.{read-tower}
 use Rattle.outcome.specs.Areas.{book-area, book-areas}
 use Rattle.outcome.specs.ReadBook.{book-answer, book-under, read-outcome}

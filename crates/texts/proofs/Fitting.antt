@@ -6,7 +6,6 @@ use native.Mathlib.Omega.{arith}
 use native.Mathlib.Nat.{zero-add}
 use lib.ListN.{length, take, drop, set, length-set, length-take}
 use lib.Seq.{take-nil, sets, length-sets, sets-eq, take-length, take-append-le}
-use lib.Dec.{ltb}
 use Rattle.base.specs.Lists.{joined}
 use borrow.Author.Tests.{lt-ltb, le-ltb}
 use Rattle.texts.specs.Putting.{Filled, filled, put-byte, put, Puts, Line}

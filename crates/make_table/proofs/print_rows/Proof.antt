@@ -1,6 +1,6 @@
 -- The rows printed are rows of the table, and fewer are left at each turn.
 use borrow.Author.Needs.{needs}
-use Prim.Native.Nat.{_-_, _≤_}
+use Prim.Native.Nat.{_-_}
 use mathlib.Core.Path.{_≡_}
 use Rattle.reading.specs.TableReading.{rows-of}
 use Rattle.table_reader.proofs.Laws.{header-of}
