@@ -29,7 +29,15 @@
 extern "C" {
 #endif
 
-/* The numbers of an answer. */
+/* The version of this interface. The names of the functions in the archive end in it, so that a program
+ * that was compiled with the header of another version does not link. */
+#define SUCCORYVISE_VERSION 1
+#define succoryvise_read_book succoryvise_read_book_v1
+#define succoryvise_make succoryvise_make_v1
+#define succoryvise_check succoryvise_check_v1
+#define succoryvise_follow succoryvise_follow_v1
+
+/* The numbers of an answer. There may be more in time: treat one that you do not know as a refusal. */
 enum succoryvise_number {
     SUCCORYVISE_DONE = 0,         /* no refusal: the answer has its values */
     SUCCORYVISE_TOWER_SIZE = 1,   /* tower: an offset of the header or the length is wrong */
@@ -56,7 +64,7 @@ enum succoryvise_number {
 enum succoryvise_letter {
     SUCCORYVISE_START = 'a',    /* row 0 has not the tower's start state */
     SUCCORYVISE_WITHHELD = 'b', /* an enabled action of the player's is not allowed */
-    SUCCORYVISE_STEP = 'c',     /* an action that is not enabled, or leads to a row of another state */
+    SUCCORYVISE_WRONG_STEP = 'c',     /* an action that is not enabled, or leads to a row of another state */
     SUCCORYVISE_STOPPED = 'd',  /* no action is allowed */
     SUCCORYVISE_BROKEN = 'e'    /* an allowed run is broken */
 };
@@ -66,8 +74,8 @@ enum succoryvise_letter {
 #define SUCCORYVISE_NODES_LENGTH 512
 #define SUCCORYVISE_PAIRS_LENGTH 62062
 #define SUCCORYVISE_INDEX_LENGTH 8192
-#define SUCCORYVISE_STEPS_LENGTH 32000
-#define SUCCORYVISE_FLAGS_LENGTH 1000
+#define SUCCORYVISE_GRAPH_LENGTH 34000
+#define SUCCORYVISE_FLAGS_LENGTH 37000
 #define SUCCORYVISE_CLASSES_LENGTH 8192
 
 /* The largest files, in bytes. */
@@ -88,9 +96,9 @@ enum succoryvise_letter {
 /* A target of a tower that is no state: the action is not enabled. */
 #define SUCCORYVISE_NOT_ENABLED 255
 
-/* Stack for a call that reads a rule book, in bytes: the deepest text of 4,096 bytes takes up to
- * 1.5 MiB (measured on x86-64), the books that are accepted a few KiB. succoryvise_follow needs less
- * than 1 KiB. */
+/* Stack for a call that reads a rule book, in bytes: it grows with the depth of brackets, N, A, E and U.
+ * The deepest text of 4,096 bytes takes up to 1.5 MiB (measured on x86-64; docs/LINKING.md has each
+ * shape), the deepest book that is accepted 14 KiB. succoryvise_follow needs less than 1 KiB. */
 #define SUCCORYVISE_STACK 2097152
 
 /* What every function answers. */
@@ -100,7 +108,11 @@ struct succoryvise_answer {
     size_t place;    /* of 6 to 10: the line, from 0; of a 14 b to d: the row; else 0 */
     size_t first;    /* the values, where number is 0; else 0 */
     size_t second;
+    size_t third;    /* room for another one: 0 */
 };
+
+/* The version of the archive, SUCCORYVISE_VERSION, for those who look a function up by its name. */
+uint32_t succoryvise_version(void);
 
 /* Reads a rule book under so many marks (P of the tower): 15, 2 (over 16 marks), or 6 to 10.
  * Done: first is the number of lines, second that of nodes. */
@@ -119,7 +131,7 @@ struct succoryvise_answer succoryvise_make(
     uint8_t *nodes, size_t nodes_length,
     uint8_t *pairs, size_t pairs_length,
     uint8_t *index, size_t index_length,
-    uint8_t *steps, size_t steps_length,
+    uint8_t *graph, size_t graph_length,
     uint8_t *flags, size_t flags_length,
     uint8_t *classes, size_t classes_length);
 
@@ -131,7 +143,8 @@ struct succoryvise_answer succoryvise_check(
     const uint8_t *table, size_t table_length,
     uint8_t *nodes, size_t nodes_length,
     uint8_t *pairs, size_t pairs_length,
-    uint8_t *index, size_t index_length);
+    uint8_t *index, size_t index_length,
+    uint8_t *graph, size_t graph_length);
 
 /* Follows a table by one action: 13, 17, or 18 (the action is not allowed in this row).
  * Done: first is the next row. A performance begins in row 0. */

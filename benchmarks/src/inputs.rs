@@ -2,10 +2,8 @@
 
 use crate::plain::check::Checker;
 use crate::plain::make::{Maker, Size};
+use crate::plain::table::{COUNT, FIRST, HEADER, MOST_BYTES, ROW, STEP};
 use crate::vectors;
-
-/// The most bytes of a table file: 1,000 rows of 16 steps.
-pub const MOST_TABLE: usize = 52_012;
 
 /// The most bytes of a book.
 const MOST_BOOK: usize = 4_096;
@@ -117,7 +115,7 @@ pub struct Ruled {
 impl Ruled {
     /// Where a table can be made of them.
     fn of(tower: Vec<u8>, book: Vec<u8>) -> Option<Self> {
-        let mut table = vec![0; MOST_TABLE];
+        let mut table = vec![0; MOST_BYTES];
         let mut maker = Maker::new();
         let length = maker.make(&tower, &book, &mut table).ok()?;
         table.truncate(length);
@@ -336,12 +334,15 @@ pub fn table_file(steps_of_row: usize) -> Vec<u8> {
     let steps = rows * steps_of_row;
     let mut random = Random::new(1);
     let mut file = Vec::new();
-    for number in [rows, steps, 12, 12 + 4 * rows, 200, 16] {
+    for number in [rows, steps, HEADER, HEADER + ROW * rows, 200, 16] {
         file.extend((number as u16).to_le_bytes());
     }
     for row in 0..rows {
-        file.extend([(row % 200) as u8, steps_of_row as u8]);
-        file.extend(((row * steps_of_row) as u16).to_le_bytes());
+        let mut bytes = [0; ROW];
+        bytes[0] = (row % 200) as u8;
+        bytes[COUNT] = steps_of_row as u8;
+        bytes[FIRST..].copy_from_slice(&((row * steps_of_row) as u16).to_le_bytes());
+        file.extend(bytes);
     }
     for step in 0..steps {
         file.push((step % steps_of_row) as u8);
@@ -356,9 +357,10 @@ pub fn walk(table: &[u8], length: usize) -> Vec<usize> {
     let mut row = 0;
     let steps_at = two_bytes(table, 6);
     let step = |_| {
-        let at = 12 + 4 * row;
-        let step = two_bytes(table, at + 2) + random.below(usize::from(table[at + 1]));
-        let at = steps_at + 3 * step;
+        let at = HEADER + ROW * row;
+        let count = usize::from(table[at + COUNT]);
+        let step = two_bytes(table, at + FIRST) + random.below(count);
+        let at = steps_at + STEP * step;
         row = two_bytes(table, at + 1);
         usize::from(table[at])
     };

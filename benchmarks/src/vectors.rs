@@ -1,11 +1,11 @@
 //! The vectors of `tests/vectors`.
 
 use crate::answer::Answer;
-use crate::inputs::MOST_TABLE;
 use crate::plain::book::Book;
 use crate::plain::check::Checker;
 use crate::plain::follow::follow;
 use crate::plain::make::Maker;
+use crate::plain::table::MOST_BYTES;
 use std::fs;
 use std::path::Path;
 
@@ -57,7 +57,7 @@ pub fn compare() -> usize {
         },
     );
     each("make.txt", &mut |inputs| {
-        let mut out = vec![0; number(&inputs[2]).min(MOST_TABLE)];
+        let mut out = vec![0; number(&inputs[2]).min(MOST_BYTES)];
         match maker.make(&bytes(&inputs[0]), &bytes(&inputs[1]), &mut out) {
             Ok(length) => {
                 let byte = |byte: &u8| format!("{byte:02x}");

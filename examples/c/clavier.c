@@ -1,6 +1,8 @@
 /* A clavier in small: reads a tower file and a rule book, makes the table, prints its listing, checks
- * it, and plays a performance of the actions that follow.
+ * it, and plays a performance of the actions that follow. From the repository's folder, once
+ * `rt staticlib succoryvise` has made the archive:
  *
+ *     mkdir -p build
  *     cc -std=c99 -Iinclude examples/c/clavier.c target/staticlib/libsuccoryvise.a -o build/clavier
  *     build/clavier examples/small-tower/tower.bin examples/small-tower/book-1.txt 0 1 0 2 3 4
  */
@@ -14,11 +16,11 @@ static uint8_t tower[SUCCORYVISE_TOWER_MOST + 1];
 static uint8_t book[SUCCORYVISE_BOOK_MOST + 1];
 static uint8_t table[SUCCORYVISE_TABLE_MOST];
 
-/* The work areas. The checker uses the first three of them again. */
+/* The work areas. The checker uses the first four of them again. */
 static uint8_t nodes[SUCCORYVISE_NODES_LENGTH];
 static uint8_t pairs[SUCCORYVISE_PAIRS_LENGTH];
 static uint8_t index_area[SUCCORYVISE_INDEX_LENGTH];
-static uint8_t steps[SUCCORYVISE_STEPS_LENGTH];
+static uint8_t graph[SUCCORYVISE_GRAPH_LENGTH];
 static uint8_t flags[SUCCORYVISE_FLAGS_LENGTH];
 static uint8_t classes[SUCCORYVISE_CLASSES_LENGTH];
 
@@ -109,7 +111,7 @@ int main(int count, char **words)
 
     answer = succoryvise_make(tower, tower_length, book, book_length, table, sizeof table,
                               nodes, sizeof nodes, pairs, sizeof pairs, index_area, sizeof index_area,
-                              steps, sizeof steps, flags, sizeof flags, classes, sizeof classes);
+                              graph, sizeof graph, flags, sizeof flags, classes, sizeof classes);
     if (refused(answer))
         return 1;
     table_length = answer.first;
@@ -117,7 +119,8 @@ int main(int count, char **words)
 
     /* A table is checked before it is used, whoever made it. */
     answer = succoryvise_check(tower, tower_length, book, book_length, table, table_length,
-                               nodes, sizeof nodes, pairs, sizeof pairs, index_area, sizeof index_area);
+                               nodes, sizeof nodes, pairs, sizeof pairs, index_area, sizeof index_area,
+                               graph, sizeof graph);
     if (refused(answer))
         return 1;
     printf("good\n");

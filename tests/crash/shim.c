@@ -197,6 +197,15 @@ int unlink(const char *path) {
     return status;
 }
 
+int stat(const char *path, struct stat *about) {
+    bool here = hindered("stat");
+    if (fails(here, EIO))
+        return -1;
+    int status = REAL(stat)(path, about);
+    after(here);
+    return status;
+}
+
 int getentropy(void *bytes, size_t n) {
     bool here = hindered("getentropy");
     if (fails(here, EIO))

@@ -13,8 +13,8 @@ static answer (*const make)(const uint8_t *, size_t, const uint8_t *, size_t, ui
                             uint8_t *, size_t, uint8_t *, size_t, uint8_t *, size_t, uint8_t *, size_t,
                             uint8_t *, size_t, uint8_t *, size_t) = succoryvise_make;
 static answer (*const check)(const uint8_t *, size_t, const uint8_t *, size_t, const uint8_t *, size_t,
-                             uint8_t *, size_t, uint8_t *, size_t, uint8_t *, size_t) =
-    succoryvise_check;
+                             uint8_t *, size_t, uint8_t *, size_t, uint8_t *, size_t, uint8_t *,
+                             size_t) = succoryvise_check;
 static answer (*const follow)(const uint8_t *, size_t, size_t, size_t) = succoryvise_follow;
 
 static void print_field(const char *name, size_t at, size_t size)
@@ -33,12 +33,14 @@ int main(void)
     FIELD(place);
     FIELD(first);
     FIELD(second);
+    FIELD(third);
     printf("whole, %lu bytes\n", (unsigned long)sizeof(answer));
 
     /* Nothing is lent: 15 from the first three. No bytes are no table: 13. */
     return read_book(0, none, 0, none, 0).number != SUCCORYVISE_AREA
         || make(none, 0, none, 0, none, 0, none, 0, none, 0, none, 0, none, 0, none, 0, none, 0).number
             != SUCCORYVISE_AREA
-        || check(none, 0, none, 0, none, 0, none, 0, none, 0, none, 0).number != SUCCORYVISE_AREA
-        || follow(none, 0, 0, 0).number != SUCCORYVISE_LAYOUT;
+        || check(none, 0, none, 0, none, 0, none, 0, none, 0, none, 0, none, 0).number != SUCCORYVISE_AREA
+        || follow(none, 0, 0, 0).number != SUCCORYVISE_LAYOUT
+        || succoryvise_version() != SUCCORYVISE_VERSION;
 }

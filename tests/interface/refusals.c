@@ -7,10 +7,12 @@
 #include <stdlib.h>
 #include <string.h>
 
+/* The areas of the maker. The checker borrows the first ones of them. */
 #define AREAS 6
+#define CHECKER_AREAS 4
 static const size_t least[AREAS] = {
     SUCCORYVISE_NODES_LENGTH, SUCCORYVISE_PAIRS_LENGTH, SUCCORYVISE_INDEX_LENGTH,
-    SUCCORYVISE_STEPS_LENGTH, SUCCORYVISE_FLAGS_LENGTH, SUCCORYVISE_CLASSES_LENGTH,
+    SUCCORYVISE_GRAPH_LENGTH, SUCCORYVISE_FLAGS_LENGTH, SUCCORYVISE_CLASSES_LENGTH,
 };
 
 /* The lengths of the areas that are lent, and whether something is written to them before; if not, a
@@ -117,6 +119,8 @@ static void expect(const char *what, struct succoryvise_answer answer, uint32_t 
 
     if (number != SUCCORYVISE_DONE)
         holds = holds && answer.first == 0 && answer.second == 0;
+    /* No function has a third value. */
+    holds = holds && answer.third == 0;
     count(holds, what, "the answer");
     if (!holds)
         printf("    %u %zu %u, and not %u %zu %d\n", (unsigned)answer.number, answer.place,
@@ -168,15 +172,15 @@ static struct succoryvise_answer check(const char *what, struct bytes tower, str
                                        struct bytes table)
 {
     struct bytes before = copy_of(tower.at, tower.length), book = copy_of(text.at, text.length);
-    struct bytes file = copy_of(table.at, table.length), areas[3];
+    struct bytes file = copy_of(table.at, table.length), areas[CHECKER_AREAS];
     struct succoryvise_answer answer;
 
-    borrow(areas, 3);
+    borrow(areas, CHECKER_AREAS);
     answer = succoryvise_check(tower.at, tower.length, text.at, text.length, table.at, table.length,
                                areas[0].at, areas[0].length, areas[1].at, areas[1].length,
-                               areas[2].at, areas[2].length);
+                               areas[2].at, areas[2].length, areas[3].at, areas[3].length);
     count(same(tower, before) && same(text, book) && same(table, file), what, "an input has changed");
-    give_back(areas, 3, answer, what);
+    give_back(areas, CHECKER_AREAS, answer, what);
     free(before.at);
     free(book.at);
     free(file.at);
@@ -202,11 +206,94 @@ static const uint8_t small_tower[34] = {
 
 static const char book_1[] = "always !p0 | E 3 p1\nalways !p0 | E 3 p2\n";
 
-static const uint8_t table_1[50] = {
-    5, 0, 6, 0, 12, 0, 32, 0, 3, 0, 4, 0,
-    0, 2, 0, 0, 1, 1, 2, 0, 2, 1, 3, 0, 0, 1, 4, 0, 0, 1, 5, 0,
-    0, 1, 0, 2, 2, 0, 1, 3, 0, 3, 4, 0, 2, 2, 0, 0, 1, 0,
+/* The layout of a table file, in one place: the bytes of a state's number, of the header, of a row (its
+ * state, the number of its steps and the first of them) and of a step (its action and target row). */
+#define STATE_WIDTH 1
+#define HEADER 12
+#define ROW (STATE_WIDTH + 1 + 2)
+#define STEP (1 + 2)
+
+/* Where the state of a row is written; and in a table of so many rows a step's action and target. */
+static size_t state_at(size_t row)
+{
+    return HEADER + ROW * row;
+}
+
+static size_t action_at(size_t rows, size_t step)
+{
+    return state_at(rows) + STEP * step;
+}
+
+static size_t target_at(size_t rows, size_t step)
+{
+    return action_at(rows, step) + 1;
+}
+
+/* A number in so many bytes, the low one first. */
+static void put(uint8_t *at, size_t width, size_t number)
+{
+    size_t i;
+
+    for (i = 0; i < width; i++)
+        at[i] = (uint8_t)(number >> 8 * i);
+}
+
+/* A row of a table for the small tower: its state, and up to two actions with their target rows. */
+struct row {
+    size_t state, count, steps[2][2];
 };
+
+/* The table file of these rows. */
+static struct bytes table_of(const struct row *rows, size_t count)
+{
+    struct bytes table;
+    size_t i, j, steps = 0;
+
+    for (i = 0; i < count; i++)
+        steps += rows[i].count;
+    table = block(action_at(count, steps));
+    put(table.at, 2, count);
+    put(table.at + 2, 2, steps);
+    put(table.at + 4, 2, HEADER);
+    put(table.at + 6, 2, state_at(count));
+    put(table.at + 8, 2, small_tower[0]);
+    put(table.at + 10, 2, small_tower[1]);
+    steps = 0;
+    for (i = 0; i < count; i++) {
+        put(table.at + state_at(i), STATE_WIDTH, rows[i].state);
+        put(table.at + state_at(i) + STATE_WIDTH, 1, rows[i].count);
+        put(table.at + state_at(i) + STATE_WIDTH + 1, 2, steps);
+        for (j = 0; j < rows[i].count; j++, steps++) {
+            put(table.at + action_at(count, steps), 1, rows[i].steps[j][0]);
+            put(table.at + target_at(count, steps), 2, rows[i].steps[j][1]);
+        }
+    }
+    return table;
+}
+
+/* The table of the small tower under book 1, as the paper lists it. */
+#define ROWS_1 5
+static struct bytes table_1(void)
+{
+    static const struct row rows[ROWS_1] = {
+        { 0, 2, { { 0, 1 }, { 2, 2 } } },
+        { 1, 1, { { 1, 3 }, { 0, 0 } } },
+        { 2, 1, { { 3, 4 }, { 0, 0 } } },
+        { 0, 1, { { 2, 2 }, { 0, 0 } } },
+        { 0, 1, { { 0, 1 }, { 0, 0 } } },
+    };
+
+    return table_of(rows, ROWS_1);
+}
+
+/* The same with one byte changed. */
+static struct bytes table_1_with(size_t at, uint8_t byte)
+{
+    struct bytes table = table_1();
+
+    table.at[at] = byte;
+    return table;
+}
 
 static struct bytes text_of(const char *text)
 {
@@ -225,7 +312,7 @@ static struct bytes with(const uint8_t *file, size_t length, size_t at, uint8_t 
 /* A tower that is refused, by maker and checker. */
 static void bad_tower(const char *what, struct bytes tower, uint32_t number)
 {
-    struct bytes text = text_of(book_1), table = copy_of(table_1, sizeof table_1);
+    struct bytes text = text_of(book_1), table = table_1();
 
     expect(what, make(what, tower, text, SUCCORYVISE_TABLE_MOST, NULL), number, 0, 0);
     expect(what, check(what, tower, text, table), number, 0, 0);
@@ -237,8 +324,7 @@ static void bad_tower(const char *what, struct bytes tower, uint32_t number)
 /* A book that is refused, by all three that read one. */
 static void bad_book(const char *what, struct bytes text, uint32_t number, size_t line)
 {
-    struct bytes tower = copy_of(small_tower, sizeof small_tower);
-    struct bytes table = copy_of(table_1, sizeof table_1);
+    struct bytes tower = copy_of(small_tower, sizeof small_tower), table = table_1();
 
     expect(what, read_book(what, 3, text), number, line, 0);
     expect(what, make(what, tower, text, SUCCORYVISE_TABLE_MOST, NULL), number, line, 0);
@@ -308,7 +394,7 @@ static void pairs(void)
         tower.at[10 + 3 * i + 2] = (uint8_t)((i + 1) % 200);
     expect("1,000 pairs", make("1,000 pairs", tower, most, SUCCORYVISE_TABLE_MOST, &table),
            SUCCORYVISE_DONE, 0, 0);
-    count(table.length == 12 + 200 * 7, "1,000 pairs", "200 rows of one step");
+    count(table.length == action_at(200, 200), "1,000 pairs", "200 rows of one step");
     expect("1,000 pairs", check("1,000 pairs", tower, most, table), SUCCORYVISE_DONE, 0, 0);
     expect("1,001 pairs", make("1,001 pairs", tower, over, SUCCORYVISE_TABLE_MOST, NULL),
            SUCCORYVISE_PAIRS, 0, 0);
@@ -321,33 +407,35 @@ static void pairs(void)
 
 static void tables(void)
 {
-    static const uint8_t stopped[16] = { 1, 0, 0, 0, 12, 0, 16, 0, 3, 0, 4, 0, 0, 0, 0, 0 };
+    static const struct row stopped = { 0, 0, { { 0, 0 }, { 0, 0 } } };
     struct bytes tower = copy_of(small_tower, sizeof small_tower);
     struct bytes text = text_of(book_1), none = text_of(""), never = text_of("start F\n");
-    struct bytes table = copy_of(table_1, sizeof table_1), made, outside;
+    struct bytes table = table_1(), made, outside;
     size_t room;
 
     expect("start F", make("start F", tower, never, SUCCORYVISE_TABLE_MOST, NULL),
            SUCCORYVISE_NO_TABLE, 0, 0);
-    for (room = 48; room < 52; room++) {
+    count(table.length == 50, "table 1", "50 bytes");
+    for (room = table.length - 2; room < table.length + 2; room++) {
         struct succoryvise_answer answer = make("book 1", tower, text, room, &made);
+        int fits = room >= table.length;
 
-        expect("book 1", answer, room < 50 ? SUCCORYVISE_OUTPUT : SUCCORYVISE_DONE, 0, 0);
-        count(room < 50 || same(made, table), "book 1", "its table");
+        expect("book 1", answer, fits ? SUCCORYVISE_DONE : SUCCORYVISE_OUTPUT, 0, 0);
+        count(!fits || same(made, table), "book 1", "its table");
         free(made.at);
     }
     expect("table 1", check("table 1", tower, text, table), SUCCORYVISE_DONE, 0, 0);
 
-    outside = with(table_1, 50, 33, 5);
+    outside = table_1_with(target_at(ROWS_1, 0), ROWS_1);
     expect("target row = rows", check("target row = rows", tower, text, outside),
            SUCCORYVISE_LAYOUT, 0, 0);
     expect("target row = rows", follow("target row = rows", outside, 0, 0), SUCCORYVISE_LAYOUT, 0, 0);
     free(outside.at);
-    bad_table("row 0 of state 1", with(table_1, 50, 12, 1), "", 0, SUCCORYVISE_START);
-    bad_table("action 0 for 1", with(table_1, 50, 38, 0), "", 1, SUCCORYVISE_WITHHELD);
-    bad_table("target row 1 for 4", with(table_1, 50, 42, 1), "", 2, SUCCORYVISE_STEP);
-    bad_table("no step", copy_of(stopped, sizeof stopped), "", 0, SUCCORYVISE_STOPPED);
-    expect("book 5", make("book 5", tower, none, 36, &made), SUCCORYVISE_DONE, 0, 0);
+    bad_table("row 0 of state 1", table_1_with(state_at(0), 1), "", 0, SUCCORYVISE_START);
+    bad_table("action 0 for 1", table_1_with(action_at(ROWS_1, 2), 0), "", 1, SUCCORYVISE_WITHHELD);
+    bad_table("target row 1 for 4", table_1_with(target_at(ROWS_1, 3), 1), "", 2, SUCCORYVISE_WRONG_STEP);
+    bad_table("no step", table_of(&stopped, 1), "", 0, SUCCORYVISE_STOPPED);
+    expect("book 5", make("book 5", tower, none, action_at(3, 4), &made), SUCCORYVISE_DONE, 0, 0);
     bad_table("table 5 under book 1", made, book_1, 0, SUCCORYVISE_BROKEN);
 
     expect("row 5 of 5", follow("row 5 of 5", table, 5, 0), SUCCORYVISE_OUTSIDE, 0, 0);
@@ -369,15 +457,15 @@ static void tables(void)
 static void areas(void)
 {
     struct bytes tower = copy_of(small_tower, sizeof small_tower), text = text_of(book_1);
-    struct bytes table = copy_of(table_1, sizeof table_1);
+    struct bytes table = table_1();
     size_t i;
 
     for (i = 0; i < 2 * AREAS; i++) {
         int short_one = (int)(i / 2);
 
         lent[short_one] = i % 2 == 0 ? 0 : least[short_one] - 1;
-        expect("short area", make("short area", tower, text, 50, NULL), SUCCORYVISE_AREA, 0, 0);
-        if (short_one < 3)
+        expect("short area", make("short area", tower, text, table.length, NULL), SUCCORYVISE_AREA, 0, 0);
+        if (short_one < CHECKER_AREAS)
             expect("short area", check("short area", tower, text, table), SUCCORYVISE_AREA, 0, 0);
         if (short_one < 1)
             expect("short area", read_book("short area", 17, text), SUCCORYVISE_AREA, 0, 0);

@@ -1,8 +1,9 @@
 //! A clavier in small: reads a tower file and a rule book, makes the table, prints its listing, checks
-//! it, and plays a performance of the actions that follow.
+//! it, and plays a performance of the actions that follow. From the folder `wrapper`, once
+//! `rt staticlib succoryvise` has made the archive:
 //!
 //! ```sh
-//! cargo run --example clavier -- ../examples/small-tower/tower.bin ../examples/small-tower/book-1.txt 0 1 0 2 3 4
+//! PROVED_LIBRARIES=../target/staticlib cargo run --example clavier -- ../examples/small-tower/tower.bin ../examples/small-tower/book-1.txt 0 1 0 2 3 4
 //! ```
 
 use std::env;
@@ -61,18 +62,23 @@ fn line(refusal: &Refusal) -> String {
     }
 }
 
-/// The counts; then row, state, and each action with its target row.
+/// The counts; then row, state, and each action with its target row. The header says where rows and
+/// steps begin, and so how long a row is: its state, the number of its steps and the first of them.
 fn print_listing(table: &[u8]) {
-    let number = |at: usize| usize::from(u16::from_le_bytes([table[at], table[at + 1]]));
-    let (rows, steps) = (number(0), number(2));
+    let number = |bytes: &[u8]| {
+        let bytes = bytes.iter().rev();
+        bytes.fold(0, |number, byte| 256 * number + usize::from(*byte))
+    };
+    let [rows, steps, rows_at, steps_at] = [0, 2, 4, 6].map(|at| number(&table[at..at + 2]));
     println!("rows {rows} steps {steps}");
-    for row in 0..rows {
-        let at = 12 + 4 * row;
-        let (state, first) = (table[at], number(at + 2));
-        print!("{row} {state}");
-        for step in first..first + usize::from(table[at + 1]) {
-            let at = 12 + 4 * rows + 3 * step;
-            print!(" {}>{}", table[at], number(at + 1));
+    let (row_bytes, step_bytes) = (&table[rows_at..steps_at], &table[steps_at..]);
+    let size = row_bytes.len() / rows;
+    for (row, bytes) in row_bytes.chunks(size).enumerate() {
+        let (state, rest) = bytes.split_at(size - 3);
+        let (count, first) = (usize::from(rest[0]), number(&rest[1..]));
+        print!("{row} {}", number(state));
+        for step in step_bytes.chunks(3).skip(first).take(count) {
+            print!(" {}>{}", step[0], number(&step[1..]));
         }
         println!();
     }

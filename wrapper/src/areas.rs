@@ -1,18 +1,22 @@
 //! The work areas that the entries borrow, kept for the next call.
 
-use crate::{ffi, Refusal, LARGEST_TABLE};
+use crate::{values, Refusal, LARGEST_TABLE};
+use succoryvise_sys::{self as sys, AREAS, CHECKER_AREAS, MAKER_AREAS};
 
-/// The least lengths of the areas, as `docs/WORK-AREAS.md` has them.
-pub const NODES: usize = 512;
-const PAIRS: usize = 62_062;
-const INDEX: usize = 8_192;
-const STEPS: usize = 32_000;
-const FLAGS: usize = 1_000;
-const CLASSES: usize = 8_192;
+/// The first areas, on the heap, each of its least length.
+#[derive(Clone, Debug)]
+struct Areas<const N: usize>([Box<[u8]>; N]);
 
-/// Bytes on the heap, all zero.
-fn area(length: usize) -> Box<[u8]> {
-    vec![0; length].into_boxed_slice()
+impl<const N: usize> Areas<N> {
+    fn new() -> Self {
+        Areas(std::array::from_fn(|i| vec![0; AREAS[i]].into()))
+    }
+
+    /// The first of them, as many as are asked for.
+    fn lend<const M: usize>(&mut self) -> [&mut [u8]; M] {
+        let first = self.0.first_chunk_mut().expect("so many areas");
+        first.each_mut().map(|area| &mut **area)
+    }
 }
 
 /// Checks tables, always with the same memory.
@@ -27,25 +31,20 @@ fn area(length: usize) -> Box<[u8]> {
 /// ```
 #[derive(Clone, Debug)]
 pub struct Checker {
-    nodes: Box<[u8]>,
-    pairs: Box<[u8]>,
-    index: Box<[u8]>,
+    areas: Areas<CHECKER_AREAS>,
 }
 
 impl Checker {
-    /// A checker with its memory, about 70 KiB.
+    /// A checker with its memory, about 100 KiB.
     pub fn new() -> Self {
         Checker {
-            nodes: area(NODES),
-            pairs: area(PAIRS),
-            index: area(INDEX),
+            areas: Areas::new(),
         }
     }
 
     /// Whether a table is good for a tower and a rule book, as [`check`](crate::check()).
     pub fn check(&mut self, tower: &[u8], text: &[u8], table: &[u8]) -> Result<(), Refusal> {
-        let areas = [&mut *self.nodes, &mut *self.pairs, &mut *self.index];
-        ffi::check(tower, text, table, areas).values()?;
+        values(sys::check(tower, text, table, self.areas.lend()))?;
         Ok(())
     }
 }
@@ -74,20 +73,14 @@ impl Default for Checker {
 /// ```
 #[derive(Clone, Debug)]
 pub struct Maker {
-    checker: Checker,
-    steps: Box<[u8]>,
-    flags: Box<[u8]>,
-    classes: Box<[u8]>,
+    areas: Areas<MAKER_AREAS>,
 }
 
 impl Maker {
-    /// A maker with its memory, about 110 KiB.
+    /// A maker with its memory, about 150 KiB.
     pub fn new() -> Self {
         Maker {
-            checker: Checker::new(),
-            steps: area(STEPS),
-            flags: area(FLAGS),
-            classes: area(CLASSES),
+            areas: Areas::new(),
         }
     }
 
@@ -101,15 +94,7 @@ impl Maker {
         text: &[u8],
         out: &mut [u8],
     ) -> Result<usize, Refusal> {
-        let areas = [
-            &mut *self.checker.nodes,
-            &mut *self.checker.pairs,
-            &mut *self.checker.index,
-            &mut *self.steps,
-            &mut *self.flags,
-            &mut *self.classes,
-        ];
-        let [length, _] = ffi::make(tower, text, out, areas).values()?;
+        let [length, ..] = values(sys::make(tower, text, out, self.areas.lend()))?;
         Ok(length)
     }
 
@@ -125,7 +110,8 @@ impl Maker {
     /// Whether a table is good for a tower and a rule book, as [`check`](crate::check()), with the
     /// maker's memory.
     pub fn check(&mut self, tower: &[u8], text: &[u8], table: &[u8]) -> Result<(), Refusal> {
-        self.checker.check(tower, text, table)
+        values(sys::check(tower, text, table, self.areas.lend()))?;
+        Ok(())
     }
 }
 

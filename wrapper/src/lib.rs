@@ -36,29 +36,33 @@
 //!
 //! # Stack
 //!
-//! [`follow`] and [`Player`] need less than 1 KiB of stack. What reads a rule book calls itself as
-//! deep as the text has brackets: up to 1.5 MiB for a text of 4,096 brackets (measured on x86-64), a
-//! few KiB for books that are accepted. The threads of the standard library have 2 MiB if nothing
-//! else is asked for. On a thread with too little the program is ended by the guard page, as after any
-//! other recursion.
+//! [`follow`] and [`Player`] need less than 1 KiB of stack. What reads a rule book calls itself for
+//! every bracket, `N`, `A`, `E` and `U` that a part of a formula stands in: up to 14 KiB for books that
+//! are accepted, and for a text of 4,096 bytes that is not, up to 1.5 MiB if it is all brackets, and
+//! 0.5 MiB if it is all `A` (measured on x86-64; `docs/LINKING.md` has each shape). The threads of the
+//! standard library have 2 MiB if nothing else is asked for. On a thread with too little the program is
+//! ended by the guard page, as after any other recursion.
 //!
 //! # Linking
 //!
-//! The environment variable `PROVED_LIBRARIES` names the folder of `libsuccoryvise.a`, which
-//! `rt staticlib succoryvise` writes. The archive is for x86-64 Linux.
+//! While cargo builds, the environment variable `PROVED_LIBRARIES` names the folder of
+//! `libsuccoryvise.a`, which `rt staticlib succoryvise` writes: absolute, or relative to the folder in
+//! which cargo is called. The archive is for x86-64 Linux. One of another version of the interface does
+//! not link. The crate needs nothing else, no registry and no network.
 
 #![deny(missing_docs)]
-#![deny(unsafe_code)]
+#![forbid(unsafe_code)]
 
 mod areas;
-#[allow(unsafe_code)]
-mod ffi;
 mod player;
 mod refusal;
 
 pub use areas::{Checker, Maker};
 pub use player::Player;
 pub use refusal::{Reason, Refusal};
+
+use refusal::values;
+use succoryvise_sys as sys;
 
 /// The most bytes that a tower file has.
 pub const LARGEST_TOWER: usize = 3_640;
@@ -70,8 +74,9 @@ pub const LARGEST_BOOK: usize = 4_096;
 /// for every table.
 pub const LARGEST_TABLE: usize = 52_012;
 
-/// What a rule book has.
+/// What a rule book has. There may be more to tell in time.
 #[derive(Clone, Copy, Debug, PartialEq, Eq)]
+#[non_exhaustive]
 pub struct BookCounts {
     /// Its lines, each of which is a rule.
     pub lines: usize,
@@ -90,18 +95,19 @@ pub struct BookCounts {
 ///
 /// let counts = read_book(3, b"always !p0 | E 3 p1\n").unwrap();
 /// assert_eq!((counts.lines, counts.nodes), (1, 5));
-/// assert_eq!(read_book(3, b"start T\nstart p3\n"), Err(Refusal::Mark { line: 1 }));
+/// let refused = read_book(3, b"start T\nstart p3\n");
+/// assert!(matches!(refused, Err(Refusal::Mark { line: 1, .. })));
 /// ```
 pub fn read_book(marks: usize, text: &[u8]) -> Result<BookCounts, Refusal> {
-    let mut nodes = [0; areas::NODES];
-    let [lines, nodes] = ffi::read_book(marks, text, &mut nodes).values()?;
+    let mut area = [0; sys::AREAS[0]];
+    let [lines, nodes, _] = values(sys::read_book(marks, text, [&mut area]))?;
     Ok(BookCounts { lines, nodes })
 }
 
 /// Makes the table for a tower and a rule book: the smallest table that allows every run that some
 /// good table allows.
 ///
-/// It borrows about 160 KiB from the heap. To make many tables with the same memory, or to give the
+/// It borrows about 200 KiB from the heap. To make many tables with the same memory, or to give the
 /// place of the table, use a [`Maker`]. The refusals are those of the tower (numbers 1 to 5) and the
 /// book (6 to 10), [`Pairs`](Refusal::Pairs) and [`NoTable`](Refusal::NoTable).
 ///
@@ -118,7 +124,7 @@ pub fn make(tower: &[u8], text: &[u8]) -> Result<Vec<u8>, Refusal> {
 
 /// Whether a table, whoever made it, is good for a tower and a rule book.
 ///
-/// It borrows about 70 KiB from the heap; to check many tables with the same memory, use a
+/// It borrows about 100 KiB from the heap; to check many tables with the same memory, use a
 /// [`Checker`]. The refusals are those of the tower (numbers 1 to 5) and the book (6 to 10),
 /// [`Layout`](Refusal::Layout), [`NotGood`](Refusal::NotGood) with the first reason, and
 /// [`Pairs`](Refusal::Pairs), which says that the table is too large to be judged, and not that it is
@@ -153,6 +159,6 @@ pub fn check(tower: &[u8], text: &[u8], table: &[u8]) -> Result<(), Refusal> {
 /// assert_eq!(follow(&table, 3, 0), Err(Refusal::Outside));
 /// ```
 pub fn follow(table: &[u8], row: usize, action: usize) -> Result<usize, Refusal> {
-    let [next, _] = ffi::follow(table, row, action).values()?;
+    let [next, ..] = values(sys::follow(table, row, action))?;
     Ok(next)
 }

@@ -2,9 +2,33 @@
 
 use std::error::Error;
 use std::fmt;
+use succoryvise_sys::Answer;
+
+/// The three values of an answer, 0 where there are fewer; or the refusal.
+pub(crate) fn values(answer: Answer) -> Result<[usize; 3], Refusal> {
+    match answer.number {
+        0 => Ok([answer.first, answer.second, answer.third]),
+        number => Err(Refusal::of_numbers(number, answer.place, answer.letter)),
+    }
+}
 
 /// Why a call is turned down, with the numbers and places of the paper. Lines are counted from 0.
+///
+/// There may be more cases and more fields in time: a `match` has an arm `_`, and a pattern ends in
+/// `..`. [`number`](Refusal::number) and [`place`](Refusal::place) are there for every refusal.
+///
+/// ```
+/// use succoryvise::{read_book, Refusal};
+///
+/// let said = match read_book(3, b"start T\nstart p3\n") {
+///     Ok(counts) => format!("{} lines", counts.lines),
+///     Err(Refusal::Mark { line, .. }) => format!("line {line} has a mark too many"),
+///     Err(refusal) => format!("{}: {refusal}", refusal.number()),
+/// };
+/// assert_eq!(said, "line 1 has a mark too many");
+/// ```
 #[derive(Clone, Copy, Debug, PartialEq, Eq, Hash)]
+#[non_exhaustive]
 pub enum Refusal {
     /// 1: the tower file has a wrong offset in its header or a wrong length.
     TowerSize,
@@ -18,27 +42,32 @@ pub enum Refusal {
     /// 5: a mask of the tower has a bit at or above the number of marks.
     Mask,
     /// 6: a line of the book is not of the grammar.
+    #[non_exhaustive]
     Grammar {
         /// The line.
         line: usize,
     },
     /// 7: a line of the book has a number above 254.
+    #[non_exhaustive]
     Number {
         /// The line.
         line: usize,
     },
     /// 8: a line of the book has a mark that the tower does not have.
+    #[non_exhaustive]
     Mark {
         /// The line.
         line: usize,
     },
     /// 9: the book is longer than 4,096 bytes (line 0); or with this line it has more than 60 nodes;
     /// or the line has more than 16 brackets open at one time.
+    #[non_exhaustive]
     Limit {
         /// The line.
         line: usize,
     },
     /// 10: a line of the book has a timed formula where none may be.
+    #[non_exhaustive]
     Timed {
         /// The line.
         line: usize,
@@ -59,34 +88,54 @@ pub enum Refusal {
     Outside,
     /// 18: the action is not allowed in this row.
     NotAllowed,
+    /// Any other number: the archive knows more refusals than this crate.
+    #[non_exhaustive]
+    Other {
+        /// The number.
+        number: u32,
+        /// The place.
+        place: usize,
+    },
 }
 
-/// Why a table is not good.
+/// Why a table is not good. There may be more cases and more fields in time, as in [`Refusal`].
 #[derive(Clone, Copy, Debug, PartialEq, Eq, Hash)]
+#[non_exhaustive]
 pub enum Reason {
     /// a: row 0 has not the tower's start state.
     Start,
     /// b: an enabled action of the player's is not allowed in this row.
+    #[non_exhaustive]
     Withheld {
         /// The row.
         row: usize,
     },
     /// c: an action is allowed in this row that is not enabled or leads to a row of another state.
-    Step {
+    #[non_exhaustive]
+    WrongStep {
         /// The row.
         row: usize,
     },
     /// d: no action is allowed in this row.
+    #[non_exhaustive]
     Stopped {
         /// The row.
         row: usize,
     },
     /// e: the table allows a run that breaks a rule.
     Broken,
+    /// Any other letter: the archive knows more reasons than this crate.
+    #[non_exhaustive]
+    Other {
+        /// The letter.
+        letter: char,
+        /// The place.
+        place: usize,
+    },
 }
 
 impl Refusal {
-    /// The number of the paper, 1 to 18.
+    /// The number of the paper, 1 to 18 so far.
     pub fn number(&self) -> u32 {
         match self {
             Refusal::TowerSize => 1,
@@ -107,6 +156,7 @@ impl Refusal {
             Refusal::Output => 16,
             Refusal::Outside => 17,
             Refusal::NotAllowed => 18,
+            Refusal::Other { number, .. } => *number,
         }
     }
 
@@ -119,6 +169,7 @@ impl Refusal {
             | Refusal::Limit { line }
             | Refusal::Timed { line } => *line,
             Refusal::NotGood(reason) => reason.place(),
+            Refusal::Other { place, .. } => *place,
             _ => 0,
         }
     }
@@ -131,8 +182,8 @@ impl Refusal {
         }
     }
 
-    /// The refusal with this number, place and letter. The archive gives no others.
-    pub(crate) fn of_numbers(number: u32, place: usize, letter: u8) -> Self {
+    /// The refusal with this number, place and letter, whatever they are.
+    fn of_numbers(number: u32, place: usize, letter: u8) -> Self {
         let line = place;
         match number {
             1 => Refusal::TowerSize,
@@ -153,39 +204,46 @@ impl Refusal {
             16 => Refusal::Output,
             17 => Refusal::Outside,
             18 => Refusal::NotAllowed,
-            _ => unreachable!("refusal {number}"),
+            number => Refusal::Other { number, place },
         }
     }
 }
 
 impl Reason {
-    /// The letter of the paper, `a` to `e`.
+    /// The letter of the paper, `a` to `e` so far.
     pub fn letter(&self) -> char {
         match self {
             Reason::Start => 'a',
             Reason::Withheld { .. } => 'b',
-            Reason::Step { .. } => 'c',
+            Reason::WrongStep { .. } => 'c',
             Reason::Stopped { .. } => 'd',
             Reason::Broken => 'e',
+            Reason::Other { letter, .. } => *letter,
         }
     }
 
     /// The row for b to d, otherwise 0.
     pub fn place(&self) -> usize {
         match self {
-            Reason::Withheld { row } | Reason::Step { row } | Reason::Stopped { row } => *row,
+            Reason::Withheld { row } | Reason::WrongStep { row } | Reason::Stopped { row } => *row,
             Reason::Start | Reason::Broken => 0,
+            Reason::Other { place, .. } => *place,
         }
     }
 
-    fn of_letter(letter: u8, row: usize) -> Self {
+    /// The reason with this letter and place, whatever they are.
+    fn of_letter(letter: u8, place: usize) -> Self {
+        let row = place;
         match letter {
             b'a' => Reason::Start,
             b'b' => Reason::Withheld { row },
-            b'c' => Reason::Step { row },
+            b'c' => Reason::WrongStep { row },
             b'd' => Reason::Stopped { row },
             b'e' => Reason::Broken,
-            _ => unreachable!("reason {letter}"),
+            letter => Reason::Other {
+                letter: letter.into(),
+                place,
+            },
         }
     }
 }
@@ -193,7 +251,7 @@ impl Reason {
 /// In plain words. Lines are told as people count them, from 1.
 impl fmt::Display for Refusal {
     fn fmt(&self, f: &mut fmt::Formatter) -> fmt::Result {
-        let counted = self.place() + 1;
+        let counted = self.place().saturating_add(1);
         match self {
             Refusal::TowerSize => f.write_str("the tower file has a wrong offset or length"),
             Refusal::Range => f.write_str("a count or the start of the tower is out of range"),
@@ -216,6 +274,9 @@ impl fmt::Display for Refusal {
             Refusal::Output => f.write_str("the output is too short for the table"),
             Refusal::Outside => f.write_str("the row or the action is outside the table"),
             Refusal::NotAllowed => f.write_str("the action is not allowed now"),
+            Refusal::Other { number, place } => {
+                write!(f, "refused with number {number}, place {place}")
+            }
         }
     }
 }
@@ -226,9 +287,10 @@ impl fmt::Display for Reason {
         match self {
             Reason::Start => f.write_str("row 0 has not the start state"),
             Reason::Withheld { row } => write!(f, "row {row} withholds an action of the player's"),
-            Reason::Step { row } => write!(f, "row {row} has a step that the tower does not have"),
+            Reason::WrongStep { row } => write!(f, "row {row} has a step that the tower does not have"),
             Reason::Stopped { row } => write!(f, "row {row} allows no action"),
             Reason::Broken => f.write_str("it allows a run that breaks a rule"),
+            Reason::Other { letter, place } => write!(f, "reason {letter}, place {place}"),
         }
     }
 }
@@ -237,19 +299,31 @@ impl Error for Refusal {}
 
 #[cfg(test)]
 mod tests {
-    use super::Refusal;
+    use super::{values, Answer, Reason, Refusal};
+
+    /// The refusal of these numbers.
+    fn refusal(number: u32, place: usize, letter: u8) -> Refusal {
+        let answer = Answer {
+            number,
+            letter,
+            place,
+            ..Answer::default()
+        };
+        values(answer).expect_err("a refusal")
+    }
 
     /// Number, place and letter of each refusal are those that it was made of.
     #[test]
     fn numbers_there_and_back() {
         for number in (1..=18).filter(|number| *number != 14) {
-            let refusal = Refusal::of_numbers(number, 7, 0);
+            let refusal = refusal(number, 7, 0);
             let place = if (6..=10).contains(&number) { 7 } else { 0 };
             assert_eq!((refusal.number(), refusal.place()), (number, place));
             assert_eq!(refusal.reason(), None);
+            assert!(!matches!(refusal, Refusal::Other { .. }));
         }
         for letter in b'a'..=b'e' {
-            let refusal = Refusal::of_numbers(14, 7, letter);
+            let refusal = refusal(14, 7, letter);
             let place = if (b'b'..=b'd').contains(&letter) {
                 7
             } else {
@@ -258,18 +332,47 @@ mod tests {
             assert_eq!((refusal.number(), refusal.place()), (14, place));
             let reason = refusal.reason().expect("a reason");
             assert_eq!(reason.letter(), char::from(letter));
+            assert!(!matches!(reason, Reason::Other { .. }));
+        }
+    }
+
+    /// Whatever the archive answers, there is a refusal with just this number, and words for it.
+    #[test]
+    fn no_number_is_too_much() {
+        assert_eq!(values(Answer::default()), Ok([0; 3]));
+        for number in (1..=65_535).chain([u32::MAX]) {
+            for place in [0, 7, usize::MAX] {
+                let refusal = refusal(number, place, 0);
+                assert_eq!(refusal.number(), number);
+                let known = number <= 18;
+                assert_eq!(matches!(refusal, Refusal::Other { .. }), !known);
+                assert!(known || refusal.place() == place);
+                assert!(!refusal.to_string().is_empty());
+            }
+        }
+        for letter in 0..=255 {
+            let refusal = refusal(14, usize::MAX, letter);
+            assert_eq!(refusal.number(), 14);
+            let reason = refusal.reason().expect("a reason");
+            assert_eq!(reason.letter(), char::from(letter));
+            let known = (b'a'..=b'e').contains(&letter);
+            assert_eq!(matches!(reason, Reason::Other { .. }), !known);
+            assert!(known || refusal.place() == usize::MAX);
+            assert!(!refusal.to_string().is_empty());
         }
     }
 
     /// Lines are told from 1, rows as the listing has them.
     #[test]
     fn in_plain_words() {
-        let line = Refusal::of_numbers(6, 2, 0);
-        assert_eq!(line.to_string(), "line 3 is not of the grammar");
-        let row = Refusal::of_numbers(14, 2, b'd');
+        assert_eq!(refusal(6, 2, 0).to_string(), "line 3 is not of the grammar");
         assert_eq!(
-            row.to_string(),
+            refusal(14, 2, b'd').to_string(),
             "the table is not good: row 2 allows no action"
+        );
+        assert_eq!(
+            refusal(19, 2, 0).to_string(),
+            "refused with number 19, place 2"
         );
     }
 }

@@ -1,9 +1,14 @@
 //! The paper's examples of refusals, and the small tower, through the safe interface.
 
+#[path = "../../tests/reference/tests/common/mod.rs"]
+mod common;
+
+use common::{lines, small_table, stopped_table, SMALL_TOWER};
+use reference::table::{action_at, state_at, target_at};
 use std::fs;
 use std::path::Path;
 use std::thread;
-use succoryvise::{check, follow, make, read_book, BookCounts, Maker, Player, Reason, Refusal};
+use succoryvise::{check, follow, make, read_book, Maker, Player, Reason, Refusal};
 
 /// A file of the examples.
 fn example(name: &str) -> Vec<u8> {
@@ -11,42 +16,40 @@ fn example(name: &str) -> Vec<u8> {
     fs::read(folder.join(name)).expect("a file of the examples")
 }
 
-fn small_tower() -> Vec<u8> {
-    example("small-tower/tower.bin")
-}
-
 /// The small tower with one byte changed.
 fn small_tower_with(at: usize, byte: u8) -> Vec<u8> {
-    let mut tower = small_tower();
+    let mut tower = SMALL_TOWER.to_vec();
     tower[at] = byte;
     tower
+}
+
+/// Number, place and letter of a refusal.
+fn refused<T>(answer: Result<T, Refusal>) -> (u32, usize, Option<char>) {
+    let refusal = answer.err().expect("a refusal");
+    let letter = refusal.reason().map(|reason| reason.letter());
+    (refusal.number(), refusal.place(), letter)
 }
 
 const BOOK_1: &[u8] = b"always !p0 | E 3 p1\nalways !p0 | E 3 p2\n";
 
 /// The paper's table 1.
-const TABLE_1: [u8; 50] = [
-    5, 0, 6, 0, 12, 0, 32, 0, 3, 0, 4, 0, // header
-    0, 2, 0, 0, 1, 1, 2, 0, 2, 1, 3, 0, 0, 1, 4, 0, 0, 1, 5, 0, // rows
-    0, 1, 0, 2, 2, 0, 1, 3, 0, 3, 4, 0, 2, 2, 0, 0, 1, 0, // steps
-];
+fn table_1() -> Vec<u8> {
+    small_table().encode()
+}
 
 #[test]
 fn the_small_table() {
-    let tower = small_tower();
-    assert_eq!(make(&tower, BOOK_1), Ok(TABLE_1.to_vec()));
-    assert_eq!(check(&tower, BOOK_1, &TABLE_1), Ok(()));
-    let counts = BookCounts {
-        lines: 2,
-        nodes: 10,
-    };
-    assert_eq!(read_book(3, BOOK_1), Ok(counts));
+    assert_eq!(example("small-tower/tower.bin"), SMALL_TOWER);
+    assert_eq!(make(&SMALL_TOWER, BOOK_1), Ok(table_1()));
+    assert_eq!(check(&SMALL_TOWER, BOOK_1, &table_1()), Ok(()));
+    let counts = read_book(3, BOOK_1).expect("a book");
+    assert_eq!((counts.lines, counts.nodes), (2, 10));
 }
 
 #[test]
 fn towers_that_are_not_fit() {
     let towers = [
-        (small_tower()[..7].to_vec(), Refusal::TowerSize),
+        (SMALL_TOWER[..7].to_vec(), Refusal::TowerSize),
         (small_tower_with(0, 0), Refusal::Range),
         (small_tower_with(8, 0), Refusal::Action),
         (small_tower_with(18, 3), Refusal::Target),
@@ -54,32 +57,33 @@ fn towers_that_are_not_fit() {
     ];
     for (tower, refusal) in towers {
         assert_eq!(make(&tower, BOOK_1), Err(refusal));
-        assert_eq!(check(&tower, BOOK_1, &TABLE_1), Err(refusal));
+        assert_eq!(check(&tower, BOOK_1, &table_1()), Err(refusal));
     }
     assert_eq!(read_book(17, BOOK_1), Err(Refusal::Range));
 }
 
 #[test]
 fn books_that_are_not_fit() {
-    let books: [(&[u8], Refusal); 7] = [
-        (b"always &\n", Refusal::Grammar { line: 0 }),
-        (b"start A 255 T\n", Refusal::Number { line: 0 }),
-        (b"start p3\n", Refusal::Mark { line: 0 }),
-        (&b"start T\n".repeat(61), Refusal::Limit { line: 60 }),
-        (&[b' '; 4_097], Refusal::Limit { line: 0 }),
-        (b"start E 1 p0 | E 1 p1\n", Refusal::Timed { line: 0 }),
-        (b"start T\nstart T", Refusal::Grammar { line: 1 }),
+    let books = [
+        (lines(&["always &"]), 6, 0),
+        (lines(&["start A 255 T"]), 7, 0),
+        (lines(&["start p3"]), 8, 0),
+        (lines(&["start T"; 61]), 9, 60),
+        (vec![b' '; 4_097], 9, 0),
+        (lines(&["start E 1 p0 | E 1 p1"]), 10, 0),
+        (b"start T\nstart T".to_vec(), 6, 1),
     ];
-    for (book, refusal) in books {
-        assert_eq!(read_book(3, book), Err(refusal));
-        assert_eq!(make(&small_tower(), book), Err(refusal));
-        assert_eq!(check(&small_tower(), book, &TABLE_1), Err(refusal));
+    for (book, number, line) in books {
+        let refusal = (number, line, None);
+        assert_eq!(refused(read_book(3, &book)), refusal);
+        assert_eq!(refused(make(&SMALL_TOWER, &book)), refusal);
+        assert_eq!(refused(check(&SMALL_TOWER, &book, &table_1())), refusal);
     }
 }
 
 #[test]
 fn no_table_and_too_many_pairs() {
-    assert_eq!(make(&small_tower(), b"start F\n"), Err(Refusal::NoTable));
+    assert_eq!(make(&SMALL_TOWER, b"start F\n"), Err(Refusal::NoTable));
     let ring = example("ring/tower.bin");
     assert!(make(&ring, &example("ring/book-1000.txt")).is_ok());
     let over = example("ring/book-1001.txt");
@@ -90,41 +94,43 @@ fn no_table_and_too_many_pairs() {
 
 #[test]
 fn tables_that_are_not_fit_or_not_good() {
-    let tower = small_tower();
     let judge = |at: usize, byte: u8, book: &[u8]| {
-        let mut table = TABLE_1;
+        let mut table = table_1();
         table[at] = byte;
-        check(&tower, book, &table)
+        check(&SMALL_TOWER, book, &table)
     };
-    let not_good = |reason| Err(Refusal::NotGood(reason));
-    assert_eq!(judge(33, 5, BOOK_1), Err(Refusal::Layout));
-    assert_eq!(judge(12, 1, b""), not_good(Reason::Start));
-    assert_eq!(judge(38, 0, b""), not_good(Reason::Withheld { row: 1 }));
-    assert_eq!(judge(42, 1, b""), not_good(Reason::Step { row: 2 }));
-    let stopped = [1, 0, 0, 0, 12, 0, 16, 0, 3, 0, 4, 0, 0, 0, 0, 0];
-    let verdict = check(&tower, b"", &stopped);
-    assert_eq!(verdict, not_good(Reason::Stopped { row: 0 }));
-    let all = make(&tower, b"").expect("outcome 5");
-    assert_eq!(check(&tower, BOOK_1, &all), not_good(Reason::Broken));
+    assert_eq!(judge(target_at(5, 0), 5, BOOK_1), Err(Refusal::Layout));
+    let start = judge(state_at(0), 1, b"");
+    assert_eq!(start, Err(Refusal::NotGood(Reason::Start)));
+    let withheld = judge(action_at(5, 2), 0, b"");
+    assert_eq!(refused(withheld), (14, 1, Some('b')));
+    let step = judge(target_at(5, 3), 1, b"");
+    assert_eq!(refused(step), (14, 2, Some('c')));
+    let stopped = check(&SMALL_TOWER, b"", &stopped_table().encode());
+    assert_eq!(refused(stopped), (14, 0, Some('d')));
+    let all = make(&SMALL_TOWER, b"").expect("outcome 5");
+    let broken = check(&SMALL_TOWER, BOOK_1, &all);
+    assert_eq!(broken, Err(Refusal::NotGood(Reason::Broken)));
 }
 
 #[test]
 fn rows_and_actions() {
-    assert_eq!(follow(&TABLE_1, 0, 2), Ok(2));
-    assert_eq!(follow(&TABLE_1, 5, 0), Err(Refusal::Outside));
-    assert_eq!(follow(&TABLE_1, 0, 4), Err(Refusal::Outside));
+    let table = table_1();
+    assert_eq!(follow(&table, 0, 2), Ok(2));
+    assert_eq!(follow(&table, 5, 0), Err(Refusal::Outside));
+    assert_eq!(follow(&table, 0, 4), Err(Refusal::Outside));
     assert_eq!(
-        follow(&TABLE_1, usize::MAX, usize::MAX),
+        follow(&table, usize::MAX, usize::MAX),
         Err(Refusal::Outside)
     );
-    assert_eq!(follow(&TABLE_1, 3, 0), Err(Refusal::NotAllowed));
+    assert_eq!(follow(&table, 3, 0), Err(Refusal::NotAllowed));
     assert_eq!(follow(&[], 0, 0), Err(Refusal::Layout));
 }
 
 /// The row stays where an action is refused.
 #[test]
 fn a_performance() {
-    let mut player = Player::new(TABLE_1);
+    let mut player = Player::new(table_1());
     assert_eq!(player.allowed().collect::<Vec<_>>(), [0, 2]);
     assert_eq!(player.play(0), Ok(1));
     assert_eq!(player.play(1), Ok(3));
@@ -134,37 +140,37 @@ fn a_performance() {
     assert_eq!(player.play(2), Ok(2));
     player.restart();
     assert_eq!(player.row(), 0);
-    assert_eq!(player.table(), TABLE_1);
+    assert_eq!(player.table(), table_1());
 }
 
 /// A refusal changes no byte of the output, bytes behind a table stay, and a maker makes the same
 /// table whatever it made before.
 #[test]
 fn one_maker_for_many_tables() {
-    let tower = small_tower();
+    let (tower, table) = (SMALL_TOWER, table_1());
     let mut maker = Maker::new();
     let mut out = [0xAA; 60];
     for (room, made) in [(49, Err(Refusal::Output)), (50, Ok(50)), (60, Ok(50))] {
         out.fill(0xAA);
         assert_eq!(maker.make_into(&tower, BOOK_1, &mut out[..room]), made);
         let length = made.unwrap_or(0);
-        assert_eq!(out[..length], TABLE_1[..length]);
+        assert_eq!(out[..length], table[..length]);
         assert!(out[length..].iter().all(|byte| *byte == 0xAA));
         assert_eq!(maker.make(&tower, b"start F\n"), Err(Refusal::NoTable));
-        assert_eq!(maker.check(&tower, BOOK_1, &TABLE_1), Ok(()));
+        assert_eq!(maker.check(&tower, BOOK_1, &table), Ok(()));
     }
 }
 
 /// Calls at the same time do not disturb each other.
 #[test]
 fn many_threads() {
-    let tower = small_tower();
+    let (tower, table) = (SMALL_TOWER, table_1());
     thread::scope(|scope| {
         for _ in 0..4 {
             scope.spawn(|| {
                 let mut maker = Maker::new();
                 for _ in 0..200 {
-                    assert_eq!(maker.make(&tower, BOOK_1), Ok(TABLE_1.to_vec()));
+                    assert_eq!(maker.make(&tower, BOOK_1).as_ref(), Ok(&table));
                     assert_eq!(maker.make(&tower, b"start F\n"), Err(Refusal::NoTable));
                 }
             });

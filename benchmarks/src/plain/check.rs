@@ -2,7 +2,7 @@
 
 use super::book::Book;
 use super::hash::Fast;
-use super::pending::{self, Pending};
+use super::pending::{self, Onward, Pending};
 use super::table::Table;
 use super::tower::Tower;
 use super::{Refusal, MOST_PAIRS};
@@ -19,6 +19,7 @@ struct Item {
 pub struct Checker {
     known: HashSet<Item, Fast>,
     met: Vec<Item>,
+    onward: Onward,
 }
 
 impl Checker {
@@ -26,6 +27,7 @@ impl Checker {
         Checker {
             known: HashSet::with_capacity_and_hasher(MOST_PAIRS + 1, Fast::default()),
             met: Vec::with_capacity(MOST_PAIRS + 1),
+            onward: Onward::new(),
         }
     }
 
@@ -75,10 +77,13 @@ impl Checker {
         while let Some(&item) = self.met.get(next) {
             next += 1;
             let row = usize::from(item.row);
-            let marks = tower.mask(table.state(row));
+            let state = table.state(row);
+            let marks = tower.mask(state);
+            self.onward.clear();
             for step in table.steps(row) {
-                let length = tower.length(step.action);
-                let Some(pending) = pending::after(book, &item.pending, marks, length) else {
+                let length = tower.step_length(state, step.action);
+                let after = self.onward.after(book, &item.pending, marks, length);
+                let Some(pending) = *after else {
                     broken = true;
                     continue;
                 };

@@ -3,7 +3,8 @@
 
 use super::book::Book;
 use super::hash::Fast;
-use super::pending::{self, Pending};
+use super::pending::{self, Onward, Pending};
+use super::table::{COUNT, FIRST, HEADER, ROW, STEP};
 use super::tower::Tower;
 use super::{Refusal, MOST_ACTIONS, MOST_PAIRS};
 use std::collections::HashMap;
@@ -54,6 +55,7 @@ impl Hash for Signature {
 pub struct Maker {
     numbers: HashMap<Pair, Number, Fast>,
     pairs: Vec<Pair>,
+    onward: Onward,
     steps: Vec<Steps>,
     kept: Vec<bool>,
     /// For each pair the actions that still lead to a kept one.
@@ -85,6 +87,7 @@ impl Maker {
         Maker {
             numbers: HashMap::with_capacity_and_hasher(most + 1, hasher()),
             pairs: Vec::with_capacity(most),
+            onward: Onward::new(),
             steps: Vec::with_capacity(most),
             kept: Vec::with_capacity(most),
             left: Vec::with_capacity(most),
@@ -170,12 +173,14 @@ impl Maker {
             let mut steps = [NOT_ENABLED; MOST_ACTIONS];
             let state = usize::from(pair.state);
             let marks = tower.mask(state);
+            self.onward.clear();
             for (action, target) in tower.targets(state).enumerate() {
                 let Some(target) = target else {
                     continue;
                 };
-                let length = tower.length(action);
-                let Some(pending) = pending::after(book, &pair.pending, marks, length) else {
+                let length = tower.step_length(state, action);
+                let after = self.onward.after(book, &pair.pending, marks, length);
+                let Some(pending) = *after else {
                     steps[action] = BROKEN;
                     continue;
                 };
@@ -337,18 +342,18 @@ impl Maker {
             .iter()
             .map(|&row| self.row_steps(row).count())
             .sum();
-        let steps_at = 12 + 4 * rows;
-        let length = steps_at + 3 * steps;
+        let steps_at = HEADER + ROW * rows;
+        let length = steps_at + STEP * steps;
         let out = out.get_mut(..length).ok_or(Refusal::new(16))?;
-        let header = [rows, steps, 12, steps_at, tower.states, tower.actions];
-        let (head, body) = out.split_at_mut(12);
+        let header = [rows, steps, HEADER, steps_at, tower.states, tower.actions];
+        let (head, body) = out.split_at_mut(HEADER);
         for (place, number) in head.chunks_exact_mut(2).zip(header) {
             place.copy_from_slice(&(number as u16).to_le_bytes());
         }
-        let (row_places, step_places) = body.split_at_mut(4 * rows);
-        let mut step_places = step_places.chunks_exact_mut(3);
+        let (row_places, step_places) = body.split_at_mut(ROW * rows);
+        let mut step_places = step_places.chunks_exact_mut(STEP);
         let mut first = 0u16;
-        for (place, &pair) in row_places.chunks_exact_mut(4).zip(&self.rows) {
+        for (place, &pair) in row_places.chunks_exact_mut(ROW).zip(&self.rows) {
             let mut count = 0;
             for ((action, target), step) in self.row_steps(pair).zip(&mut step_places) {
                 step[0] = action;
@@ -356,8 +361,8 @@ impl Maker {
                 count += 1;
             }
             place[0] = self.pairs[usize::from(pair)].state;
-            place[1] = count;
-            place[2..].copy_from_slice(&first.to_le_bytes());
+            place[COUNT] = count;
+            place[FIRST..].copy_from_slice(&first.to_le_bytes());
             first += u16::from(count);
         }
         Ok(length)

@@ -1,7 +1,7 @@
 //! What is pending, and its progression along one step.
 
 use super::book::{Book, Node};
-use super::MOST_NODES;
+use super::{MOST_ACTIONS, MOST_NODES};
 
 /// For each node 0 for nothing, or one more than the ticks left.
 pub type Pending = [u8; MOST_NODES];
@@ -15,9 +15,52 @@ pub fn at_first(book: &Book) -> Pending {
     pending
 }
 
-/// What is pending after leaving a state with these marks by an action of this length, or nothing
-/// where the step breaks a rule.
-pub fn after(book: &Book, pending: &Pending, marks: u16, length: u8) -> Option<Pending> {
+/// What is pending after the steps out of one pair, by their lengths. It depends on the pair and the
+/// length of the step, not on the action, so progression is asked once for each length.
+pub struct Onward {
+    count: usize,
+    lengths: [u8; MOST_ACTIONS],
+    after: [Option<Pending>; MOST_ACTIONS],
+}
+
+impl Onward {
+    pub fn new() -> Self {
+        Onward {
+            count: 0,
+            lengths: [0; MOST_ACTIONS],
+            after: [None; MOST_ACTIONS],
+        }
+    }
+
+    /// Begins with another pair.
+    pub fn clear(&mut self) {
+        self.count = 0;
+    }
+
+    /// What is pending after a step of this length out of the pair, whose marks these are.
+    pub fn after(
+        &mut self,
+        book: &Book,
+        pending: &Pending,
+        marks: u16,
+        length: u8,
+    ) -> &Option<Pending> {
+        let mut known = self.lengths[..self.count].iter();
+        let place = known.position(|known| *known == length);
+        let place = place.unwrap_or_else(|| {
+            let place = self.count;
+            self.lengths[place] = length;
+            self.after[place] = after(book, pending, marks, length);
+            self.count += 1;
+            place
+        });
+        &self.after[place]
+    }
+}
+
+/// What is pending after leaving a state with these marks by a step of this length, or nothing where
+/// the step breaks a rule.
+fn after(book: &Book, pending: &Pending, marks: u16, length: u8) -> Option<Pending> {
     let mut step = Step {
         book,
         marks,

@@ -1,10 +1,24 @@
 //! The table file.
 
+use super::tower::STATE_WIDTH;
 use super::{two_bytes, Refusal, MOST_ACTIONS, MOST_PAIRS};
 
-const HEADER: usize = 12;
-const ROW: usize = 4;
-const STEP: usize = 3;
+/// Bytes of the header.
+pub const HEADER: usize = 12;
+
+/// Bytes of a row: its state, the number of its steps, and the first of them.
+pub const ROW: usize = FIRST + 2;
+
+/// Bytes of a step: its action and its target row.
+pub const STEP: usize = 3;
+
+/// Where in a row the number of its steps stands, and the first of them.
+pub const COUNT: usize = STATE_WIDTH;
+pub const FIRST: usize = COUNT + 1;
+
+/// The most bytes of a table: 1,000 rows of 16 steps.
+pub const MOST_BYTES: usize = HEADER + MOST_PAIRS * (ROW + MOST_ACTIONS * STEP);
+
 const MOST_STATES: usize = 200;
 
 /// A table that is laid out as it should be, in its file.
@@ -65,9 +79,9 @@ impl<'a> Table<'a> {
         let mut rest = self.step_bytes;
         let mut first = 0;
         for row in self.row_bytes.chunks_exact(ROW) {
-            let count = usize::from(row[1]);
+            let count = usize::from(row[COUNT]);
             if usize::from(row[0]) >= self.states
-                || two_bytes(row, 2) != first
+                || two_bytes(row, FIRST) != first
                 || rest.len() < STEP * count
             {
                 return false;
@@ -93,8 +107,8 @@ impl<'a> Table<'a> {
     /// The steps of a row.
     pub fn steps(&self, row: usize) -> impl Iterator<Item = Step> + 'a {
         let row = &self.row_bytes[ROW * row..ROW * (row + 1)];
-        let first = STEP * two_bytes(row, 2);
-        let steps = &self.step_bytes[first..first + STEP * usize::from(row[1])];
+        let first = STEP * two_bytes(row, FIRST);
+        let steps = &self.step_bytes[first..first + STEP * usize::from(row[COUNT])];
         steps.chunks_exact(STEP).map(step)
     }
 

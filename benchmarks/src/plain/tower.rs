@@ -2,6 +2,9 @@
 
 use super::{two_bytes, Refusal, MOST_ACTIONS};
 
+/// Bytes of a state's number, in towers and in tables.
+pub const STATE_WIDTH: usize = 1;
+
 const HEADER: usize = 8;
 const MOST_STATES: usize = 200;
 const MOST_MARKS: usize = 16;
@@ -67,7 +70,8 @@ impl<'a> Tower<'a> {
         Ok(())
     }
 
-    pub fn length(&self, action: usize) -> u8 {
+    /// The ticks of the step that leaves a state by an action.
+    pub fn step_length(&self, _state: usize, action: usize) -> u8 {
         self.action_bytes[2 * action]
     }
 

@@ -1,12 +1,12 @@
 -- Numbers in bytes: what is written is read back, and what is read would be written so.
 use Prim.Native.Nat.{ℕ, zero, suc, _+_, _*_, _/_, _%_, _^_, _≤_, _<_}
 use native.Mathlib.Omega.{arith}
-use native.Mathlib.Nat.{add-assoc, add-zero}
+use native.Mathlib.Nat.{add-assoc, add-zero, mul-suc, mul-le-mul-left}
 use native.Mathlib.Numerals.{add-one}
 use mathlib.Core.Path.{_≡_, refl, sym, _∙_, ap}
 use mathlib.Core.List.{List, [], _∷_, _++_}
-use lib.ListN.{length, drop, List·getD-eq-default}
-use lib.Seq.{getD-drop, drop-cons, drop-drop, drop-at}
+use lib.ListN.{length, drop, take, List·getD-eq-default}
+use lib.Seq.{getD-drop, getD-take, drop-cons, drop-drop, drop-at}
 use Rattle.base.specs.Bytes.{byte-at, number-at, number-bytes}
 
 -- Every element is a byte.
@@ -88,6 +88,13 @@ number-past-end zero bytes p le = refl
 number-past-end (suc width) bytes p le =
     omega (arith, List·getD-eq-default bytes 0 le, number-past-end width bytes (p + 1) (omega arith))
 
+-- A number that ends in a part is read from that part.
+pub number-at-take : (width k : ℕ) (bytes : List ℕ) (p : ℕ) → p + width ≤ k → number-at width (take k bytes) p ≡ number-at width bytes p
+unfolding number-at
+number-at-take zero k bytes p le = refl
+number-at-take (suc width) k bytes p le =
+    rw (getD-take k bytes p 0 (omega arith), number-at-take width k bytes (p + 1) (omega arith))
+
 -- A number read from bytes fits its width.
 pub number-fits : (width : ℕ) (bytes : List ℕ) (p : ℕ) → AllBytes bytes → number-at width bytes p < 256 ^ width
 unfolding number-at
@@ -106,3 +113,9 @@ number-written (suc width) bytes p h le =
     let place : p + 1 + width ≡ p + suc width = omega arith in
     let rest = number-written width bytes (p + 1) h (omega arith) in
     rw (low, high, ← place, ← rest, add-one p) (drop-cons bytes p 0 lt)
+
+-- ---- pieces of one size
+
+-- One of n pieces of k bytes each lies within them as a whole.
+pub piece-inside : (k n i : ℕ) → i < n → k * i + k ≤ k * n
+piece-inside k n i lt = let next : k * suc i ≤ k * n = mul-le-mul-left k lt in omega (arith, mul-suc k i)

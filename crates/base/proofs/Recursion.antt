@@ -2,7 +2,7 @@
 use Prim.Native.Nat.{ℕ, zero, suc, _<_}
 use mathlib.Core.Path.{_≡_}
 use native.Mathlib.Omega.{arith}
-use Rattle.base.specs.Recursion.{within, run}
+use Rattle.base.specs.Recursion.{to-depth, run}
 
 -- A step with what is known of every call: the known holds where calls stop, a step keeps it, and a step depends only on the calls with less left.
 pub record Falls {X R : Type 0} (left : X → ℕ) (stuck : X → R) (step : X → (X → R) → R) (Known : X → R → Type 0) : Type 0 where
@@ -12,28 +12,28 @@ pub record Falls {X R : Type 0} (left : X → ℕ) (stuck : X → R) (step : X �
 
 module _ {X R : Type 0} (left : X → ℕ) (stuck : X → R) (step : X → (X → R) → R) (Known : X → R → Type 0)
     (falls : Falls left stuck step Known) where
-  within-known : (n : ℕ) (x : X) → Known x (within left stuck step n x)
-  unfolding within
-  within-known zero x = falls .at-stop x
-  within-known (suc n) x = falls .kept x (λ y. within left stuck step n y) (within-known n)
+  depth-known : (n : ℕ) (x : X) → Known x (to-depth left stuck step n x)
+  unfolding to-depth
+  depth-known zero x = falls .at-stop x
+  depth-known (suc n) x = falls .kept x (λ y. to-depth left stuck step n y) (depth-known n)
 
   -- Enough depth is as good as any other.
-  within-enough : (n m : ℕ) (x : X) → left x < n → left x < m → within left stuck step n x ≡ within left stuck step m x
-  unfolding within
-  within-enough zero m x a b = absurd (omega arith)
-  within-enough (suc n) zero x a b = absurd (omega arith)
-  within-enough (suc n) (suc m) x a b =
-      falls .same x (λ y. within left stuck step n y) (λ y. within left stuck step m y) (within-known n)
-      (λ y l. within-enough n m y (omega arith) (omega arith))
+  depth-enough : (n m : ℕ) (x : X) → left x < n → left x < m → to-depth left stuck step n x ≡ to-depth left stuck step m x
+  unfolding to-depth
+  depth-enough zero m x a b = absurd (omega arith)
+  depth-enough (suc n) zero x a b = absurd (omega arith)
+  depth-enough (suc n) (suc m) x a b =
+      falls .same x (λ y. to-depth left stuck step n y) (λ y. to-depth left stuck step m y) (depth-known n)
+      (λ y l. depth-enough n m y (omega arith) (omega arith))
 
   -- What is known of every call holds of `run`.
   pub run-known : (x : X) → Known x (run left stuck step x)
   unfolding run
-  run-known x = within-known (suc (left x)) x
+  run-known x = depth-known (suc (left x)) x
 
   -- One call is one step.
   pub run-eq : (x : X) → run left stuck step x ≡ step x (λ y. run left stuck step y)
-  unfolding run within
+  unfolding run to-depth
   run-eq x =
-      falls .same x (λ y. within left stuck step (left x) y) (λ y. run left stuck step y) (within-known (left x))
-      (λ y l. within-enough (left x) (suc (left y)) y l (omega arith))
+      falls .same x (λ y. to-depth left stuck step (left x) y) (λ y. run left stuck step y) (depth-known (left x))
+      (λ y l. depth-enough (left x) (suc (left y)) y l (omega arith))

@@ -11,7 +11,7 @@ use lib.Dec.{ltb}
 use borrow.Author.Tests.{ltb-true}
 use Rattle.base.specs.Choice.{pick}
 use Rattle.base.specs.Lists.{some-of, place-of, Distinct}
-use Rattle.base.specs.Search.{new-ones, search-on, search-from}
+use Rattle.base.specs.Search.{Apart, new-ones, search-on, search-from}
 use Rattle.base.proofs.Pigeonhole.{pigeonhole}
 use Rattle.base.proofs.Lists.{never-both, false-by, or-fails-left, or-fails-right, or-neither, some-none, some-append, none-of, mem-getD, mem-index, mem-along, place-of-append-left, place-of-append-right, place-of-some, place-of-at, place-of-found, place-of-first, IsSame, decides-same}
 
@@ -21,11 +21,6 @@ use Rattle.base.proofs.Lists.{never-both, false-by, or-fails-left, or-f
 pub data Reached {X : Type 0} (followers : X → List X) (x : X) : X → Type 0 where
   start : Reached followers x x
   onward : {y z : X} → Reached followers x y → List·Memᴰ z (followers y) → Reached followers x z
-
--- No two elements are one and the same.
-unfoldable pub Apart : {X : Type 0} → (X → X → Bool) → List X → Type 0
-Apart same [] = Unit {0}
-Apart same (x ∷ xs) = (some-of (same x) xs ≡ false) × Apart same xs
 
 -- Reading places with m met so far, each is one of those or the next; n are met at the end.
 unfoldable pub MeetsAll : ℕ → List ℕ → ℕ → Type 0

@@ -5,7 +5,7 @@ use mathlib.Core.List.{List, [], _∷_}
 use Rattle.base.specs.Choice.{pick}
 use Rattle.base.specs.Text.{byte}
 use Rattle.base.specs.declared.Reason.{Reason}
-use Rattle.base.specs.declared.Reason.the-variants.{Start, Withheld, Step, Stopped, Broken}
+use Rattle.base.specs.declared.Reason.the-variants.{Start, Withheld, WrongStep, Stopped, Broken}
 use Rattle.base.specs.declared.Refusal.{Refusal}
 use Rattle.base.specs.declared.Refusal.the-variants.{TowerSize, Range, Action, Target, Mask, Grammar, Number, Mark, Limit, Timed, Pairs, NoTable, Layout, NotGood, Area, Output, Outside, NotAllowed}
 use Rattle.base.specs.declared.BookAnswer.{BookAnswer}
@@ -26,7 +26,7 @@ pub data Said : Type 0 where
 unfoldable pub row-of : Reason → ℕ
 row-of Start = 0
 row-of (Withheld row) = row
-row-of (Step row) = row
+row-of (WrongStep row) = row
 row-of (Stopped row) = row
 row-of Broken = 0
 
@@ -34,7 +34,7 @@ row-of Broken = 0
 unfoldable pub letter-of : Reason → ℕ
 letter-of Start = byte "a"
 letter-of (Withheld row) = byte "b"
-letter-of (Step row) = byte "c"
+letter-of (WrongStep row) = byte "c"
 letter-of (Stopped row) = byte "d"
 letter-of Broken = byte "e"
 

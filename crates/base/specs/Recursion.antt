@@ -3,10 +3,10 @@ use Prim.Native.Nat.{ℕ, zero, suc}
 
 module _ {X R : Type 0} (left : X → ℕ) (stuck : X → R) (step : X → (X → R) → R) where
   -- at most n calls deep; deeper is `stuck`
-  unfoldable pub within : ℕ → X → R
-  within zero x = stuck x
-  within (suc n) x = step x (λ y. within n y)
+  unfoldable pub to-depth : ℕ → X → R
+  to-depth zero x = stuck x
+  to-depth (suc n) x = step x (λ y. to-depth n y)
 
   -- as deep as `left` says, which is enough where every call of a step has less left
   unfoldable pub run : X → R
-  run x = within (suc (left x)) x
+  run x = to-depth (suc (left x)) x

@@ -1,12 +1,18 @@
 -- Breadth-first search and rounds until nothing changes: the two ways of computing that the outcomes share. X is any type with a test for
 -- what counts as one and the same.
 use Prim.Native.Nat.{ℕ, zero, suc, _+_}
-use mathlib.Core.Bool.{Bool, Bool·beq}
+use mathlib.Core.Path.{_≡_}
+use mathlib.Core.Bool.{Bool, false, Bool·beq}
 use mathlib.Core.List.{List, [], _∷_, _++_}
 use lib.ListN.{length}
 use lib.Dec.{ltb}
 use Rattle.base.specs.Choice.{pick}
 use Rattle.base.specs.Lists.{every, some-of}
+
+-- No two elements are one and the same.
+unfoldable pub Apart : {X : Type 0} → (X → X → Bool) → List X → Type 0
+Apart same [] = Unit {0}
+Apart same (x ∷ xs) = (some-of (same x) xs ≡ false) × Apart same xs
 
 -- the elements of xs that are new beside those seen, each once
 unfoldable pub new-ones : {X : Type 0} → (X → X → Bool) → List X → List X → List X

@@ -8,7 +8,7 @@ pub enum Reason {
     // b: an enabled action that may not be withheld is not allowed in this row.
     Withheld(usize),
     // c: in this row an allowed action is not enabled, or its target row has another state than the one reached.
-    Step(usize),
+    WrongStep(usize),
     // d: this row does not go on.
     Stopped(usize),
     // e: an allowed run is broken.

@@ -33,7 +33,7 @@ use Rattle.book_tokens.specs.declared.Row.{Row}
 use Rattle.book_tokens.specs.declared.Led.{Led}
 use Rattle.book_tokens.specs.declared.Led.the-variants.{Nothing, By}
 use Rattle.book_tokens.proofs.Laws.{byte-inside, skip-ahead, numeral-missing, numeral-read}
-use Rattle.book_nodes.specs.State.{State, state-of, absorb, bit, leaf, mark-node, last-node, bounded-node, until-node, Opens}
+use Rattle.book_nodes.specs.State.{State, state-of, absorb, one-if, leaf, mark-node, last-node, bounded-node, until-node, Opens}
 use Rattle.book_nodes.proofs.Absorb.{absorb-constant, absorb-mark, absorb-open, absorb-and, absorb-or, absorb-next, absorb-always, absorb-until}
 use Rattle.book_formula.specs.Parse.{parse, Reads, not-of, is-read, Joint, by-or, by-and, whole-of, operand-of, rest-of, sign-of, node-of, Joins, left-at, mark-code, Marks, with-connective, led-at, Leads, one-code, ReadsOne, not-one, one-read, within-at, until-at, second-at, Ended, not-ended, is-ended, Seconds}
 use Rattle.book_formula.proofs.Ends.{stands-inside, bound-end, lettered, Ends, parse-eq, parse-ends}
@@ -221,15 +221,15 @@ module _ (j : Joint) where
         rw (g, m, k, l, held) (absorb-joint j room d' c g' i st),
       )
 
-constant-held : (room : ℕ) (b : Bool) (code : ℕ) (st : State) → code ≡ bit b → st .fault ≤ 255 → leaf code 0 st ≡ absorb room 0 (constant b) st
+constant-held : (room : ℕ) (b : Bool) (code : ℕ) (st : State) → code ≡ one-if b → st .fault ≤ 255 → leaf code 0 st ≡ absorb room 0 (constant b) st
 constant-held room b code st e h = ap (λ (k : ℕ). leaf k 0 st) e ∙ absorb-constant room b st h
 
-one-bit : 1 ≡ bit true
-unfolding bit
+one-bit : 1 ≡ one-if true
+unfolding one-if
 one-bit = refl
 
-no-bit : 0 ≡ bit false
-unfolding bit
+no-bit : 0 ≡ one-if false
+unfolding one-if
 no-bit = refl
 
 -- ---- units

@@ -9,10 +9,10 @@ use lib.Dec.{eqb, leb, ltb}
 use borrow.Author.Tests.{lt-ltb, le-ltb, ltb-true, ltb-false, ne-eqb}
 use Rattle.base.specs.Choice.{pick}
 use Rattle.logic.specs.Time.{ticks}
-use Rattle.logic.specs.Book.{Comparison, Formula, constant, proposition, and, or, next, always, until, timed, timed-right, parts, size, first-part, second-part}
+use Rattle.logic.specs.Book.{Comparison, Formula, constant, proposition, and, or, next, always-for, until, timed, timed-right, parts, size, first-part, second-part}
 use Rattle.reading.specs.BookReading.{most-nodes, most-ticks, over-number, over-mark}
 use Rattle.reading.specs.BookArea.{node-code, node-number, node-first, node-second, comparison-code}
-use Rattle.book_nodes.specs.State.{Nodes, State, put-bytes, stored, noted, noted-if, told-timed, last-node, leaf, mark-node, opened, and-node, or-node, bounded-node, until-node, put-one, put-all, bit, due, fault-of, absorb}
+use Rattle.book_nodes.specs.State.{Nodes, State, put-bytes, stored, noted, noted-if, told-timed, last-node, leaf, mark-node, opened, and-node, or-node, bounded-node, until-node, put-one, put-all, one-if, due, fault-of, absorb}
 
 -- ---- nodes
 
@@ -202,8 +202,8 @@ same-state : {m n : Nodes} {x y t u k : ℕ} → m ≡ n → x ≡ y → t ≡ u
 same-state e f g = rw (e, f, g)
 
 -- A constant.
-pub absorb-constant : (room : ℕ) (b : Bool) (st : State) → st .fault ≤ 255 → leaf (bit b) 0 st ≡ absorb room 0 (constant b) st
-unfolding leaf stored told-timed absorb put-all put-one fault-of over-number over-mark due timed timed-right parts node-code node-number node-first node-second bit
+pub absorb-constant : (room : ℕ) (b : Bool) (st : State) → st .fault ≤ 255 → leaf (one-if b) 0 st ≡ absorb room 0 (constant b) st
+unfolding leaf stored told-timed absorb put-all put-one fault-of over-number over-mark due timed timed-right parts node-code node-number node-first node-second one-if
 absorb-constant room b st h =
     let z = le-ltb room 0 (omega arith) in
     let m : min 255 (min 255 (min 255 255)) ≡ 255 = refl in
@@ -212,7 +212,7 @@ absorb-constant room b st h =
 -- A mark.
 pub absorb-mark : (room k : ℕ) (wanted : Bool) (st : State) → st .fault ≤ 255
     → mark-node (pick wanted (λ _. 3) (λ _. 2)) k st ≡ absorb room 0 (proposition wanted k) st
-unfolding leaf mark-node stored told-timed absorb put-all put-one fault-of over-number over-mark timed timed-right parts node-code node-number node-first node-second bit
+unfolding leaf mark-node stored told-timed absorb put-all put-one fault-of over-number over-mark timed timed-right parts node-code node-number node-first node-second one-if
 absorb-mark room k wanted st h =
     let z = le-ltb room 0 (omega arith) in
     let a = noted-fault (leb (st .marks) k) 8 st h in
@@ -254,10 +254,10 @@ fault-and marks room b c f g x =
     (min-four (due (over-number f) 7) (due (over-mark marks f) 8) (due (ltb room b) 9) (due (not (timed-right f)) 10)
     (due (over-number g) 7) (due (over-mark marks g) 8) (due (ltb room c) 9) (due (not (timed-right g)) 10) x)
 
-bit-and : (a b : Bool) → pick (eqb (bit a) 0) (λ _. bit b) (λ _. 1) ≡ bit (a || b)
-unfolding bit
-bit-and true b = refl
-bit-and false b = refl
+one-if-or : (a b : Bool) → pick (eqb (one-if a) 0) (λ _. one-if b) (λ _. 1) ≡ one-if (a || b)
+unfolding one-if
+one-if-or true b = refl
+one-if-or false b = refl
 
 -- `&` of two formulas.
 pub absorb-and : (room b c : ℕ) (f g : Formula) (st : State)
@@ -266,7 +266,7 @@ pub absorb-and : (room b c : ℕ) (f g : Formula) (st : State)
 unfolding and-node stored told-timed last-node absorb timed parts node-first node-second node-code node-number
 absorb-and room b c f g st =
     same-state (put-two f g (and f g) (st .nodes) and-parts (λ k. and-first k) (λ k. and-second k)) (fault-and (st .marks) room b c f g (st .fault))
-    (bit-and (timed f) (timed g))
+    (one-if-or (timed f) (timed g))
   where
     and-parts : parts (and f g) ≡ parts f ++ (parts g ++ (and f g ∷ []))
     and-parts = refl
@@ -319,8 +319,8 @@ absorbed-fault : (room b : ℕ) (f : Formula) (st : State) → absorb room b f s
 unfolding absorb
 absorbed-fault room b f st = omega (arith, fault-at-most (st .marks) room b f)
 
-bit-not-zero : (b : Bool) → not (eqb (bit b) 0) ≡ b
-unfolding bit
+bit-not-zero : (b : Bool) → not (eqb (one-if b) 0) ≡ b
+unfolding one-if
 bit-not-zero true = refl
 bit-not-zero false = refl
 
@@ -378,9 +378,9 @@ or-bytes f g n code e = rw e (put-two f g (or f g) n refl (λ k. refl) (λ k. re
 or-first : (room b c : ℕ) (f g : Formula) (st : State) → timed f ≡ true
     → or-node (last-node (absorb room b f st)) (absorb room b f st .is-timed) (absorb room c g (absorb room b f st))
     ≡ absorb room (max b c) (or f g) st
-unfolding absorb last-node timed bit node-code
+unfolding absorb last-node timed one-if node-code
 or-first room b c f g st e =
-    ap (λ (t : ℕ). or-node (last-node (absorb room b f st)) t (absorb room c g (absorb room b f st))) (ap bit e)
+    ap (λ (t : ℕ). or-node (last-node (absorb room b f st)) t (absorb room c g (absorb room b f st))) (ap one-if e)
     ∙ or-node-timed (last-node (absorb room b f st)) (absorb room c g (absorb room b f st)) (absorbed-fault room c g (absorb room b f st))
     ∙ same-state (or-bytes f g (st .nodes) 5 (rw e))
     (rw (bit-not-zero (timed g), ← ap (λ (t : Bool). due (t && timed g) 10) e) (fault-or (st .marks) room b c f g (st .fault)))
@@ -389,9 +389,9 @@ or-first room b c f g st e =
 or-second : (room b c : ℕ) (f g : Formula) (st : State) → timed f ≡ false
     → or-node (last-node (absorb room b f st)) (absorb room b f st .is-timed) (absorb room c g (absorb room b f st))
     ≡ absorb room (max b c) (or f g) st
-unfolding absorb last-node timed bit node-code
+unfolding absorb last-node timed one-if node-code
 or-second room b c f g st e =
-    ap (λ (t : ℕ). or-node (last-node (absorb room b f st)) t (absorb room c g (absorb room b f st))) (ap bit e)
+    ap (λ (t : ℕ). or-node (last-node (absorb room b f st)) t (absorb room c g (absorb room b f st))) (ap one-if e)
     ∙ or-node-untimed (last-node (absorb room b f st)) (absorb room c g (absorb room b f st))
     ∙ same-state (or-bytes f g (st .nodes) 6 (rw e))
     (no-fault room b c f g st e ∙ fault-or (st .marks) room b c f g (st .fault))
@@ -433,7 +433,7 @@ bounded-absorbed : (room b amount : ℕ) (g h : Formula) (st : State) → parts 
       marks = absorb room b g st .marks;
     }
     ≡ absorb room b h st
-unfolding absorb last-node bit
+unfolding absorb last-node one-if
 bounded-absorbed room b amount g h st e first second number fault time =
     same-state (ap (λ (x : ℕ). put-bytes (node-code h ∷ x % 256 ∷ 0 ∷ (put-all (parts g) (st .nodes) .count - 1) ∷ []) (put-all (parts g) (st .nodes))) (sym number)
     ∙ put-next g h (st .nodes) e first second) fault (rw time)
@@ -464,9 +464,9 @@ fault-next room b amount c g st = fault-bound (st .marks) room b amount g (st .f
 
 fault-always : (room b amount : ℕ) (g : Formula) (st : State)
     → min (due (ltb 254 amount) 7) (min (fault-of (st .marks) room b g) (st .fault))
-    ≡ min (fault-of (st .marks) room b (always (ticks amount) g)) (st .fault)
+    ≡ min (fault-of (st .marks) room b (always-for (ticks amount) g)) (st .fault)
 unfolding over-number over-mark timed-right most-ticks
-fault-always room b amount g st = fault-bound (st .marks) room b amount g (st .fault) ∙ fault-fold room b (always (ticks amount) g) st
+fault-always room b amount g st = fault-bound (st .marks) room b amount g (st .fault) ∙ fault-fold room b (always-for (ticks amount) g) st
 
 fault-open : (room b : ℕ) (f : Formula) (st : State)
     → min (fault-of (st .marks) (room - 1) b f) (min (due (eqb room 0) 9) (st .fault)) ≡ min (fault-of (st .marks) room (suc b) f) (st .fault)
@@ -483,10 +483,10 @@ absorb-next room b amount c g st =
 
 -- `A` of a formula.
 pub absorb-always : (room b amount : ℕ) (g : Formula) (st : State)
-    → bounded-node 11 amount 0 (absorb room b g st) ≡ absorb room b (always (ticks amount) g) st
+    → bounded-node 11 amount 0 (absorb room b g st) ≡ absorb room b (always-for (ticks amount) g) st
 unfolding parts node-first node-second node-number node-code timed
 absorb-always room b amount g st =
-    absorb-bounded room b amount g (always (ticks amount) g) st refl (λ k. refl) (λ k. refl) refl (fault-always room b amount g st) refl
+    absorb-bounded room b amount g (always-for (ticks amount) g) st refl (λ k. refl) (λ k. refl) refl (fault-always room b amount g st) refl
 
 until-bytes : (amount : ℕ) (f g : Formula) (n : Nodes)
     → put-bytes (12 ∷ amount % 256 ∷ (put-all (parts f) n .count - 1) ∷ (put-all (parts g) (put-all (parts f) n) .count - 1) ∷ [])
@@ -506,7 +506,7 @@ until-whole : (room b c amount : ℕ) (f g : Formula) (st : State)
       marks = absorb room c g (absorb room b f st) .marks;
     }
     ≡ absorb room (max b c) (until (ticks amount) f g) st
-unfolding absorb timed bit
+unfolding absorb timed one-if
 until-whole room b c amount f g st =
     same-state (until-bytes amount f g (st .nodes))
     (rw (bit-not-zero (timed g)) (fault-until (st .marks) room b c amount f g (st .fault))) refl

@@ -103,8 +103,8 @@ unfoldable pub put-all : List Formula → Nodes → Nodes
 put-all [] n = n
 put-all (f ∷ fs) n = put-all fs (put-one f n)
 
-unfoldable pub bit : Bool → ℕ
-bit b = pick b (λ _. 1) (λ _. 0)
+unfoldable pub one-if : Bool → ℕ
+one-if b = pick b (λ _. 1) (λ _. 0)
 
 -- the number of a refusal where it is due
 unfoldable pub due : Bool → ℕ → ℕ
@@ -121,7 +121,7 @@ absorb room brackets f st =
     record {
       nodes = put-all (parts f) (st .nodes);
       fault = min (fault-of (st .marks) room brackets f) (st .fault);
-      is-timed = bit (timed f);
+      is-timed = one-if (timed f);
       marks = st .marks;
     }
 

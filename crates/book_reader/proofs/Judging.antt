@@ -12,7 +12,7 @@ use Rattle.base.specs.Answers.{refuse, give, _if_else_}
 use Rattle.base.specs.declared.Refusal.{Refusal}
 use Rattle.base.specs.declared.Refusal.the-variants.{Number, Mark, Limit, Timed}
 use Rattle.base.proofs.Lists.{or-fails-left, or-fails-right}
-use Rattle.logic.specs.Book.{Formula, constant, proposition, and, or, next, always, until, timed-right, parts, size, nodes, Form, Rule, Book}
+use Rattle.logic.specs.Book.{Formula, constant, proposition, and, or, next, always-for, until, timed-right, parts, size, nodes, Form, Rule, Book}
 use Rattle.reading.specs.BookArea.{node-number, form-code, lines-at, line-size}
 use Rattle.reading.specs.BookReading as Reading
 use Rattle.reading.specs.BookReading.{most-ticks, most-nodes, most-brackets, over-number, over-mark, over-limit, judge-line}
@@ -53,9 +53,9 @@ small marks (or f g) le n m =
 small marks (next c t g) le n m =
     all-append (parts g) (next c t g ∷ []) (small marks g le (or-fails-right (ltb 254 (t .0)) (over-number g) n) m)
     (one-small (next c t g) (omega (arith, ltb-false 254 (t .0) (or-fails-left (ltb 254 (t .0)) (over-number g) n))))
-small marks (always t g) le n m =
-    all-append (parts g) (always t g ∷ []) (small marks g le (or-fails-right (ltb 254 (t .0)) (over-number g) n) m)
-    (one-small (always t g) (omega (arith, ltb-false 254 (t .0) (or-fails-left (ltb 254 (t .0)) (over-number g) n))))
+small marks (always-for t g) le n m =
+    all-append (parts g) (always-for t g ∷ []) (small marks g le (or-fails-right (ltb 254 (t .0)) (over-number g) n) m)
+    (one-small (always-for t g) (omega (arith, ltb-false 254 (t .0) (or-fails-left (ltb 254 (t .0)) (over-number g) n))))
 small marks (until t f g) le n m =
     let rest = or-fails-right (ltb 254 (t .0)) (over-number f || over-number g) n in
     all-append (parts f) (parts g ++ (until t f g ∷ []))
@@ -72,7 +72,7 @@ size-some (proposition w k) = omega arith
 size-some (and f g) = omega (arith, length-append (parts f) (parts g ++ (and f g ∷ [])), size-some f)
 size-some (or f g) = omega (arith, length-append (parts f) (parts g ++ (or f g ∷ [])), size-some f)
 size-some (next c t g) = omega (arith, length-append (parts g) (next c t g ∷ []), size-some g)
-size-some (always t g) = omega (arith, length-append (parts g) (always t g ∷ []), size-some g)
+size-some (always-for t g) = omega (arith, length-append (parts g) (always-for t g ∷ []), size-some g)
 size-some (until t f g) = omega (arith, length-append (parts f) (parts g ++ (until t f g ∷ [])), size-some f)
 
 -- ---- the least number

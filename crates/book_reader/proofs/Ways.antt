@@ -15,7 +15,7 @@ use Rattle.base.specs.Choice.{pick}
 use Rattle.base.specs.Text.{ascii}
 use Rattle.base.specs.Bytes.{byte-at, long-enough, cleared}
 use Rattle.base.specs.Lists.{begins, joined}
-use Rattle.base.specs.Answers.{Answer, refuse, give, _if_else_, _then_}
+use Rattle.base.specs.Answers.{book-said, Answer, refuse, give, _if_else_, _then_}
 use Rattle.base.specs.declared.Refusal.{Refusal}
 use Rattle.base.specs.declared.Refusal.the-variants.{Range, Grammar, Number, Mark, Limit, Timed, Area}
 use Rattle.base.specs.declared.BookAnswer.{BookAnswer}
@@ -29,8 +29,8 @@ use Rattle.reading.specs.Tokens.{stands, skip}
 use Rattle.reading.specs.Grammar.{Parsed, bad, got, formula-at}
 use Rattle.reading.specs.BookArea.{HoldsBook, form-code, lines-at, line-size}
 use Rattle.reading.specs.BookReading as Reading
-use Rattle.reading.specs.BookReading.{most-bytes, Progress, judge-line, line-at, worded, ended, lines-step, read-lines, read-book}
-use Rattle.outcome.specs.Areas.{book-areas, book-area}
+use Rattle.reading.specs.BookReading.{most-bytes, ReadSoFar, judge-line, line-at, worded, ended, lines-step, read-lines, read-book}
+use Rattle.outcome.specs.Areas.{book-areas}
 use Rattle.outcome.specs.ReadBook.{book-answer, book-under, read-outcome}
 use Rattle.book_tokens.proofs.Laws.{byte-inside, skip-ahead}
 use Rattle.book_nodes.specs.State.{state-of, last-node}
@@ -229,18 +229,18 @@ line-end s p form f b q e =
     worded-end s p (ascii "always") everywhere (worded s p (ascii "start") at-start Reading.no-line) form f b q e
     (λ d. worded-end s p (ascii "start") at-start Reading.no-line form f b q d (λ c. let x : _≡_ {A = ℕ} 0 1 = cc in absurd (omega arith)))
 
-no-give {ℓ} : {C : Type ℓ} (marks : ℕ) (rules : Logic.Book) (pr : Progress) → judge-line marks rules Reading.no-line ≡ give pr → C
+no-give {ℓ} : {C : Type ℓ} (marks : ℕ) (rules : Logic.Book) (pr : ReadSoFar) → judge-line marks rules Reading.no-line ≡ give pr → C
 unfolding judge-line
 no-give marks rules pr f = let x : _≡_ {A = ℕ} 0 1 = cc in absurd (omega arith)
 
 give-same : {A : Type 0} {x y : A} → give x ≡ give y → x ≡ y
 give-same e = cc
 
-given-place : (rules : Logic.Book) (form : Form) (f : Formula) (q : ℕ) (pr : Progress)
+given-place : (rules : Logic.Book) (form : Form) (f : Formula) (q : ℕ) (pr : ReadSoFar)
     → give (record { rules = rules ++ (record { form = form; formula = f } ∷ []); place = q }) ≡ give pr → q ≡ pr .place
-given-place rules form f q pr e = ap (λ (x : Progress). x .place) (give-same e)
+given-place rules form f q pr e = ap (λ (x : ReadSoFar). x .place) (give-same e)
 
-judge-given : (marks : ℕ) (rules : Logic.Book) (form : Form) (f : Formula) (b q : ℕ) (pr : Progress)
+judge-given : (marks : ℕ) (rules : Logic.Book) (form : Form) (f : Formula) (b q : ℕ) (pr : ReadSoFar)
     → judge-line marks rules (Reading.line form f b q) ≡ give pr → q ≡ pr .place
 unfolding judge-line
 judge-given marks rules form f b q pr e =
@@ -250,21 +250,21 @@ judge-given marks rules form f b q pr e =
     let (_, e5) = if-gives (Timed (length rules)) (not (Logic.timed-right f)) _ e4 in
     given-place rules form f q pr e5
 
-judge-place : (marks : ℕ) (rules : Logic.Book) (x : Reading.Line) (s : List ℕ) (p : ℕ) (pr : Progress) → line-at s p ≡ x
+judge-place : (marks : ℕ) (rules : Logic.Book) (x : Reading.Line) (s : List ℕ) (p : ℕ) (pr : ReadSoFar) → line-at s p ≡ x
     → judge-line marks rules x ≡ give pr → (p < pr .place) × (pr .place ≤ length s)
 judge-place marks rules Reading.no-line s p pr e f = no-give marks rules pr f
 judge-place marks rules (Reading.line form f b q) s p pr e g = rw (judge-given marks rules form f b q pr g) at (line-end s p form f b q e)
 
-then-refused : (w : Refusal) (f g : Progress → Answer Logic.Book) → (refuse w then f) ≡ (refuse w then g)
+then-refused : (w : Refusal) (f g : ReadSoFar → Answer Logic.Book) → (refuse w then f) ≡ (refuse w then g)
 unfolding _then_
 then-refused w f g = refl
 
-then-given : (pr : Progress) (f g : Progress → Answer Logic.Book) → f pr ≡ g pr → (give pr then f) ≡ (give pr then g)
+then-given : (pr : ReadSoFar) (f g : ReadSoFar → Answer Logic.Book) → f pr ≡ g pr → (give pr then f) ≡ (give pr then g)
 unfolding _then_
 then-given pr f g e = e
 
 lines-fall : (marks : ℕ) (s : List ℕ)
-    → Falls (λ (here : Progress). length s - here .place) (λ here. refuse (Grammar (length (here .rules)))) (lines-step marks s) (λ here r. Unit {0})
+    → Falls (λ (here : ReadSoFar). length s - here .place) (λ here. refuse (Grammar (length (here .rules)))) (lines-step marks s) (λ here r. Unit {0})
 unfolding lines-step
 lines-fall marks s =
     record {
@@ -273,16 +273,16 @@ lines-fall marks s =
       same = λ x f g h agree. step x f g agree (leb (length s) (x .place)) refl;
     }
   where
-    more : (x : Progress) (f g : Progress → Answer Logic.Book)
-        → ((y : Progress) → length s - y .place < length s - x .place → f y ≡ g y) → x .place < length s
-        → (o : Answer Progress) → judge-line marks (x .rules) (line-at s (x .place)) ≡ o → (o then f) ≡ (o then g)
+    more : (x : ReadSoFar) (f g : ReadSoFar → Answer Logic.Book)
+        → ((y : ReadSoFar) → length s - y .place < length s - x .place → f y ≡ g y) → x .place < length s
+        → (o : Answer ReadSoFar) → judge-line marks (x .rules) (line-at s (x .place)) ≡ o → (o then f) ≡ (o then g)
     more x f g agree lt (refuse w) e = then-refused w f g
     more x f g agree lt (give pr) e =
         let (ahead, inside) = judge-place marks (x .rules) (line-at s (x .place)) s (x .place) pr refl e in
         then-given pr f g (agree pr (omega arith))
 
-    step : (x : Progress) (f g : Progress → Answer Logic.Book)
-        → ((y : Progress) → length s - y .place < length s - x .place → f y ≡ g y)
+    step : (x : ReadSoFar) (f g : ReadSoFar → Answer Logic.Book)
+        → ((y : ReadSoFar) → length s - y .place < length s - x .place → f y ≡ g y)
         → (t : Bool) → leb (length s) (x .place) ≡ t
         → pick (leb (length s) (x .place)) (λ _. give (x .rules)) (λ _. judge-line marks (x .rules) (line-at s (x .place)) then f)
         ≡ pick (leb (length s) (x .place)) (λ _. give (x .rules)) (λ _. judge-line marks (x .rules) (line-at s (x .place)) then g)
@@ -290,10 +290,10 @@ lines-fall marks s =
     step x f g agree false e =
         rw e (more x f g agree (leb-false (length s) (x .place) e) (judge-line marks (x .rules) (line-at s (x .place))) refl)
 
-lines-eq : (marks : ℕ) (s : List ℕ) (here : Progress) → lines-from marks s here ≡ lines-step marks s here (lines-from marks s)
+lines-eq : (marks : ℕ) (s : List ℕ) (here : ReadSoFar) → lines-from marks s here ≡ lines-step marks s here (lines-from marks s)
 unfolding lines-from
 lines-eq marks s here =
-    run-eq (λ (h : Progress). length s - h .place) (λ h. refuse (Grammar (length (h .rules)))) (lines-step marks s) (λ h r. Unit {0}) (lines-fall marks s) here
+    run-eq (λ (h : ReadSoFar). length s - h .place) (λ h. refuse (Grammar (length (h .rules)))) (lines-step marks s) (λ h r. Unit {0}) (lines-fall marks s) here
 
 lines-over : (marks : ℕ) (s : List ℕ) (rules : Logic.Book) (at : ℕ) → length s ≤ at → lines-from marks s (record { rules = rules; place = at }) ≡ give rules
 unfolding lines-step
@@ -396,14 +396,23 @@ unfolding book-under _if_else_ most-marks
 under-book marks s z r le h = h .answer ∙ rw (le-ltb 16 marks le)
 
 pub outcome-short : (marks : ℕ) (s a : List ℕ) → length a < 512 → Outcome (Book.Refused Area) marks s a a
-unfolding read-outcome long-enough book-areas book-area
-outcome-short marks s a lt = record { answer = rw (lt-leb 512 (length a) lt); areas = rw (lt-leb 512 (length a) lt) }
+unfolding read-outcome long-enough book-areas
+outcome-short marks s a lt =
+    record {
+      answer = rw (lt-leb 512 (length a) lt);
+      said = rw (lt-leb 512 (length a) lt);
+      areas = rw (lt-leb 512 (length a) lt);
+    }
 
 pub outcome-whole : (marks : ℕ) (s a y z : List ℕ) (r : BookAnswer) → 512 ≤ length a → r ≡ book-answer (book-under marks s)
     → length y ≡ length a → z ≡ replicate (length y) 0 → Outcome r marks s a z
-unfolding read-outcome long-enough book-areas book-area cleared
+unfolding read-outcome long-enough book-areas cleared
 outcome-whole marks s a y z r le e len f =
-    record { answer = rw (le-leb 512 (length a) le) e; areas = rw (le-leb 512 (length a) le, f, len) }
+    record {
+      answer = rw (le-leb 512 (length a) le) e;
+      said = rw (le-leb 512 (length a) le) (ap book-said e);
+      areas = rw (le-leb 512 (length a) le, f, len);
+    }
 
 -- ---- stores
 

@@ -8,7 +8,7 @@ use lib.Dec.{eqb, ltb}
 use Rattle.base.specs.Choice.{pick}
 use Rattle.base.specs.Recursion.{run}
 use Rattle.base.specs.Lists.{begins}
-use Rattle.base.specs.Answers.{Answer, refuse, give}
+use Rattle.base.specs.Answers.{book-said, Answer, refuse, give}
 use Rattle.base.specs.declared.Refusal.{Refusal}
 use Rattle.base.specs.declared.Refusal.the-variants.{Grammar, Number, Mark, Limit, Timed}
 use Rattle.base.specs.declared.BookAnswer.{BookAnswer}
@@ -17,7 +17,7 @@ use Rattle.reading.specs.Tokens.{skip}
 use Rattle.reading.specs.Grammar.{formula-at}
 use Rattle.reading.specs.BookArea.{HoldsBook, form-code, lines-at, line-size}
 use Rattle.reading.specs.BookReading as Reading
-use Rattle.reading.specs.BookReading.{Progress, judge-line, line-at, lines-step, read-lines, read-book}
+use Rattle.reading.specs.BookReading.{ReadSoFar, judge-line, line-at, lines-step, read-lines, read-book}
 use Rattle.outcome.specs.ReadBook.{book-answer, read-outcome}
 use Rattle.book_nodes.specs.State.{State, state-of, absorb, last-node}
 use Rattle.book_reader.specs.declared.Line.{Line}
@@ -79,7 +79,7 @@ pub record Held (marks : ℕ) (rules : Book) (lines : ℕ) (a : List ℕ) : Type
   pub book : HoldsBook (state-of a .nodes .kept) rules
 
 -- How reading the next line ends: with a refusal, or with the rules held and the position of the next.
-pub data Turned (r : Turn) (x : Answer Progress) (marks lines : ℕ) (z : List ℕ) : Type 0 where
+pub data Turned (r : Turn) (x : Answer ReadSoFar) (marks lines : ℕ) (z : List ℕ) : Type 0 where
   turned-down : (why : Refusal) → x ≡ refuse why → r ≡ T.Refused why → Turned r x marks lines z
   gone-on : (rules : Book) (q : ℕ) → x ≡ give (record { rules = rules; place = q }) → r ≡ T.Next q → Held marks rules (lines + 1) z
       → Turned r x marks lines z
@@ -90,9 +90,9 @@ pub record Turns (r : Turn) (s : List ℕ) (at lines : ℕ) (a z : List ℕ) : T
       → Turned r (judge-line marks rules (line-at s at)) marks lines z
 
 -- the lines from here on
-unfoldable pub lines-from : ℕ → List ℕ → Progress → Answer Book
+unfoldable pub lines-from : ℕ → List ℕ → ReadSoFar → Answer Book
 lines-from marks s here =
-    run (λ (here : Progress). length s - here .place) (λ here. refuse (Grammar (length (here .rules)))) (lines-step marks s) here
+    run (λ (here : ReadSoFar). length s - here .place) (λ here. refuse (Grammar (length (here .rules)))) (lines-step marks s) here
 
 -- How far the reading has come between two lines.
 pub record Coming (marks : ℕ) (s : List ℕ) (at lines : ℕ) (begun a : List ℕ) : Type 0 where
@@ -109,4 +109,5 @@ pub record Answers (r : BookAnswer) (marks : ℕ) (s : List ℕ) (z : List ℕ) 
 -- The whole outcome of the book reader.
 pub record Outcome (r : BookAnswer) (marks : ℕ) (s a z : List ℕ) : Type 0 where
   pub answer : r ≡ read-outcome marks s (a ∷ []) .answer
+  pub said : book-said r ≡ book-said (read-outcome marks s (a ∷ []) .answer)
   pub areas : z ∷ [] ≡ read-outcome marks s (a ∷ []) .areas

@@ -7,16 +7,32 @@ use base::Verdict;
 use files::Contents;
 
 // Prints the answer.
-fn tell(answer: Verdict, tower: &[u8], book: &[u8], length: usize, table: &[u8]) {
+fn tell(
+    answer: Verdict,
+    tower: &[u8],
+    book: &[u8],
+    table: &[u8],
+    tower_bytes: &[u8],
+    text: &[u8],
+    table_bytes: &[u8],
+) {
     match answer {
         Verdict::Good => {
             files::print(b"good\n");
         }
         Verdict::NotGood(reason) => {
-            files::refuse(Refusal::NotGood(reason), tower, book, length, table);
+            explaining::refuse(
+                Refusal::NotGood(reason),
+                tower,
+                book,
+                table,
+                tower_bytes,
+                text,
+                table_bytes,
+            );
         }
         Verdict::Refused(why) => {
-            files::refuse(why, tower, book, length, table);
+            explaining::refuse(why, tower, book, table, tower_bytes, text, table_bytes);
         }
     }
 }
@@ -26,9 +42,18 @@ fn check(tower: &[u8], text: &[u8], table: &[u8]) -> Verdict
     ensures { λ r. ⌜ r ≡ verdict (checked-file (now (tower .entry)) (now (text .entry)) (now (table .entry))) ⌝ }
 {
     let mut nodes = [0u8; 512];
-    let mut items = [0u8; 62062];
+    let mut pairs = [0u8; 62062];
     let mut index = [0u8; 8192];
-    checker::check(tower, text, table, &mut nodes, &mut items, &mut index)
+    let mut graph = [0u8; 34000];
+    checker::check(
+        tower,
+        text,
+        table,
+        &mut nodes,
+        &mut pairs,
+        &mut index,
+        &mut graph,
+    )
 }
 
 // Reads the table and checks it. In each area there is room for one byte more than the longest file
@@ -38,8 +63,9 @@ fn check_from(tower_bytes: &[u8], text: &[u8], tower: &[u8], book: &[u8], table:
     let Contents::Bytes(n) = files::read_file(table, &mut table_bytes) else {
         return;
     };
-    let answer = check(tower_bytes, text, &table_bytes[..n]);
-    tell(answer, tower, book, text.len(), table);
+    let bytes = &table_bytes[..n];
+    let answer = check(tower_bytes, text, bytes);
+    tell(answer, tower, book, table, tower_bytes, text, bytes);
 }
 
 // Reads the tower and the book first.

@@ -1,18 +1,16 @@
 -- A law for each way through the checker's code: from what is known there, the verdict is what the definitions say.
 use Prim.Native.Nat.{ℕ, _≤_, _<_}
-use native.Mathlib.Omega.{arith}
-use mathlib.Core.Path.{_≡_, refl, sym, _∙_, ap, ap₂}
+use mathlib.Core.Path.{_≡_, refl, sym, _∙_, ap}
 use mathlib.Core.Bool.{Bool, true, false, _&&_, and-true}
 use mathlib.Core.List.{List, [], _∷_}
-use lib.ListN.{length, replicate}
+use lib.ListN.{length}
 use lib.Dec.{leb}
 use borrow.Author.Tests.{leb-true, le-leb, lt-leb}
 use types.Run.{OneOf, miss}
 use denote.Enum.Declared.{tagOf, declared}
 use Rattle.base.proofs.Refusal.{enum}
-use Rattle.base.specs.Answers.{Answer, refuse, give, _then_}
+use Rattle.base.specs.Answers.{verdict-said, Answer, refuse, give, _then_}
 use Rattle.base.specs.declared.Reason.{Reason}
-use Rattle.base.specs.declared.Reason.the-variants as Why
 use Rattle.base.specs.declared.Refusal.{Refusal}
 use Rattle.base.specs.declared.Refusal.the-variants.{TowerSize, Range, Action, Target, Mask, Grammar, Number, Mark, Limit, Timed, Pairs, NoTable, Layout, NotGood, Area, Output, Outside, NotAllowed}
 use Rattle.base.specs.declared.Verdict.{Verdict}
@@ -27,18 +25,13 @@ use Rattle.row_judge.specs.RowVerdict.{Judgeable, rows-verdict, answer-after}
 use Rattle.row_judge.specs.declared.RowVerdict.{RowVerdict}
 use Rattle.row_judge.specs.declared.RowVerdict.the-variants.{Right, Wrong}
 use Rattle.row_judge.proofs.Laws.{judge-after-rows}
-use Rattle.item_walk.specs.Items.{Walkable, walk-verdict, walk-answer, Walked}
-use Rattle.item_walk.specs.declared.WalkEnd.{WalkEnd}
-use Rattle.item_walk.specs.declared.WalkEnd.the-variants.{TooMany, Broken, Whole}
-use Rattle.item_walk.proofs.Laws.{walk-answers}
 use Rattle.base.specs.Bytes.{long-enough, cleared}
 use Rattle.base.specs.declared.BookAnswer.{BookAnswer}
 use Rattle.base.specs.declared.BookAnswer.the-variants as Reads
 use Rattle.logic.specs.Book.{Book}
-use Rattle.logic.specs.Book as Rules
 use Rattle.reading.specs.TowerReading.{read-tower}
 use Rattle.reading.specs.BookReading.{read-book}
-use Rattle.outcome.specs.Areas.{check-areas, book-area, pairs-area, index-area}
+use Rattle.outcome.specs.Areas.{check-areas, book-area, pairs-area, index-area, graph-area}
 use Rattle.outcome.specs.ReadBook.{book-answer}
 use Rattle.outcome.specs.Check.{checked-file, check-outcome}
 use Rattle.tower_reader.specs.TowerRead.{tower-read}
@@ -50,7 +43,7 @@ use Rattle.book_reader.proofs.BookHeld.{BookHeld, book-held}
 use Rattle.table_reader.specs.Layout.{laid-out-for}
 use Rattle.table_reader.proofs.Laws.{laid-for-parts, not-laid-for-read}
 use Rattle.pending_entries.specs.PendingEntries.{TowerWithBook}
-use Rattle.checker.specs.Checking.{checked-table, checked-book, TableChecked, lengths-right, Room, Checks}
+use Rattle.checker.specs.Checking.{checked-table, checked-book, TableChecked, runs-answer, RunsChecked, lengths-right, Room, AllCleared, Checks}
 
 -- ---- for_tower
 
@@ -69,9 +62,6 @@ module _ (tower table nodes : List ℕ) (lines count : ℕ) (b : Bool)
       let (layout, states, actions) = laid-for-parts table (tower-of tower .states) (tower-of tower .actions) (sym is-b ∙ f) in
       record { fit = world .fit; layout = layout; states = states; actions = actions }
 
-  pub walkable : TowerWithBook tower nodes lines count → b ≡ true → Walkable tower table nodes lines count
-  walkable world f = record { files = judgeable world f; held = world .held; few = world .few }
-
   -- 13.
   pub not-for-tower : b ≡ false → TableChecked (Check.Refused Layout) tower table nodes lines count
   unfolding checked-table _then_ verdict turned-down
@@ -85,37 +75,22 @@ module _ (tower table nodes : List ℕ) (lines count : ℕ) (b : Bool) (world : 
     (is-b : b ≡ laid-out-for table (tower-of tower .states) (tower-of tower .actions)) (yes-b : b ≡ true) (v : RowVerdict)
     (is-v : v ≡ rows-verdict (tower-of tower) (table-of table)) where
   judged : (h : IsHeld nodes lines count)
-      → checked-table (tower-of tower) (h .book) table ≡ answer-after v (walk-answer (walk-verdict (tower-of tower) (h .book) (table-of table)))
-  unfolding checked-table _then_
+      → checked-table (tower-of tower) (h .book) table ≡ answer-after v (runs-answer (tower-of tower) (h .book) (table-of table))
+  unfolding checked-table _then_ runs-answer
   judged h =
       rw (table-answer tower table (judgeable tower table nodes lines count b is-b world yes-b))
       (judge-after-rows (tower-of tower) (h .book) (table-of table)
-      ∙ ap₂ answer-after (sym is-v) (walk-answers (tower-of tower) (h .book) (table-of table)))
+      ∙ ap (λ z. answer-after z (runs-answer (tower-of tower) (h .book) (table-of table))) (sym is-v))
 
   -- 14 a to d.
   pub rows-wrong : (reason : Reason) → v ≡ Wrong reason → TableChecked (Check.NotGood reason) tower table nodes lines count
   unfolding answer-after verdict turned-down
   rows-wrong reason e = record { says = λ h. rw (judged h, e) }
 
-  -- 11, 14 e, or good.
-  pub rows-right : (end : WalkEnd) (r : Verdict) → v ≡ Right → Walked end tower table nodes lines count → r ≡ verdict (walk-answer end)
-      → TableChecked r tower table nodes lines count
+  -- The runs decide.
+  pub rows-right : (r : Verdict) → v ≡ Right → RunsChecked r tower table nodes lines count → TableChecked r tower table nodes lines count
   unfolding answer-after
-  rows-right end r e walked f = record { says = λ h. f ∙ ap (λ z. verdict (walk-answer z)) (walked .says h) ∙ sym (rw (judged h, e)) }
-
--- ---- by_walk
-
-pub walk-too-many : (end : WalkEnd) → end ≡ TooMany → Check.Refused Pairs ≡ verdict (walk-answer end)
-unfolding walk-answer verdict turned-down
-walk-too-many end e = rw e
-
-pub walk-breaks : (end : WalkEnd) → end ≡ Broken → Check.NotGood Why.Broken ≡ verdict (walk-answer end)
-unfolding walk-answer verdict turned-down
-walk-breaks end e = rw e
-
-pub walk-good : (end : WalkEnd) → end ≡ Whole → Check.Good ≡ verdict (walk-answer end)
-unfolding walk-answer verdict turned-down
-walk-good end e = rw e
+  rows-right r e runs = record { says = λ h. runs .says h ∙ sym (rw (judged h, e)) }
 
 -- ---- turned_down
 
@@ -150,17 +125,21 @@ turned-other NotAllowed k = refl
 
 -- ---- lengths_right
 
-pub short-nodes : (n m k : ℕ) → n < 512 → false ≡ lengths-right n m k
+pub short-nodes : (n m k j : ℕ) → n < 512 → false ≡ lengths-right n m k j
 unfolding lengths-right
-short-nodes n m k l = rw (lt-leb 512 n l)
+short-nodes n m k j l = rw (lt-leb 512 n l)
 
-pub short-items : (n m k : ℕ) → 512 ≤ n → m < 62062 → false ≡ lengths-right n m k
+pub short-pairs : (n m k j : ℕ) → 512 ≤ n → m < 62062 → false ≡ lengths-right n m k j
 unfolding lengths-right
-short-items n m k l g = rw (le-leb 512 n l, lt-leb 62062 m g)
+short-pairs n m k j l g = rw (le-leb 512 n l, lt-leb 62062 m g)
 
-pub index-decides : (n m k : ℕ) → 512 ≤ n → 62062 ≤ m → leb 8192 k ≡ lengths-right n m k
+pub short-index : (n m k j : ℕ) → 512 ≤ n → 62062 ≤ m → k < 8192 → false ≡ lengths-right n m k j
 unfolding lengths-right
-index-decides n m k l g = rw (le-leb 512 n l, le-leb 62062 m g)
+short-index n m k j l g h = rw (le-leb 512 n l, le-leb 62062 m g, lt-leb 8192 k h)
+
+pub graph-decides : (n m k j : ℕ) → 512 ≤ n → 62062 ≤ m → 8192 ≤ k → leb 34000 j ≡ lengths-right n m k j
+unfolding lengths-right
+graph-decides n m k j l g h = rw (le-leb 512 n l, le-leb 62062 m g, le-leb 8192 k h)
 
 -- ---- check_book
 
@@ -222,45 +201,50 @@ module _ (tower text table : List ℕ) (t : TowerRead) (is-t : t ≡ tower-read 
 -- ---- check
 
 -- The areas are long enough.
-pub room : (nodes items index : List ℕ) (b : Bool) → b ≡ lengths-right (length nodes) (length items) (length index) → b ≡ true
-    → Room nodes items index
+pub room : (nodes pairs index graph : List ℕ) (b : Bool) → b ≡ lengths-right (length nodes) (length pairs) (length index) (length graph) → b ≡ true
+    → Room nodes pairs index graph
 unfolding lengths-right
-room nodes items index b is-b e =
+room nodes pairs index graph b is-b e =
     let all = sym is-b ∙ e in
     let x = leb 512 (length nodes) in
-    let y = leb 62062 (length items) in
+    let y = leb 62062 (length pairs) in
     let z = leb 8192 (length index) in
-    let rest = and-right x (y && z) all in
+    let w = leb 34000 (length graph) in
+    let rest = and-right x (y && (z && w)) all in
+    let last = and-right y (z && w) rest in
     record {
-      nodes-room = leb-true 512 (length nodes) (and-left x (y && z) all);
-      items-room = leb-true 62062 (length items) (and-left y z rest);
-      index-room = leb-true 8192 (length index) (and-right y z rest);
+      nodes-room = leb-true 512 (length nodes) (and-left x (y && (z && w)) all);
+      pairs-room = leb-true 62062 (length pairs) (and-left y (z && w) rest);
+      index-room = leb-true 8192 (length index) (and-left z w last);
+      graph-room = leb-true 34000 (length graph) (and-right z w last);
     }
 
-module _ (tower text table nodes items index : List ℕ) (b : Bool) (is-b : b ≡ lengths-right (length nodes) (length items) (length index)) where
-  long : long-enough check-areas (nodes ∷ items ∷ index ∷ []) ≡ b
-  unfolding long-enough check-areas book-area pairs-area index-area lengths-right
-  long = last (leb 512 (length nodes)) (leb 62062 (length items)) (leb 8192 (length index)) ∙ sym is-b
+module _ (tower text table nodes pairs index graph : List ℕ) (b : Bool)
+    (is-b : b ≡ lengths-right (length nodes) (length pairs) (length index) (length graph)) where
+  long : long-enough check-areas (nodes ∷ pairs ∷ index ∷ graph ∷ []) ≡ b
+  unfolding long-enough check-areas lengths-right
+  long = last (leb 512 (length nodes)) (leb 62062 (length pairs)) (leb 8192 (length index)) (leb 34000 (length graph)) ∙ sym is-b
     where
-      last : (x y z : Bool) → (x && (y && (z && true))) ≡ (x && (y && z))
-      last x y z = ap (λ w. x && (y && w)) (and-true z)
+      last : (x y z w : Bool) → (x && (y && (z && (w && true)))) ≡ (x && (y && (z && w)))
+      last x y z w = ap (λ v. x && (y && (z && v))) (and-true w)
 
   -- 15 changes nothing.
-  pub too-short : b ≡ false → Checks (Check.Refused Area) tower text table nodes items index nodes items index
+  pub too-short : b ≡ false → Checks (Check.Refused Area) tower text table nodes pairs index graph nodes pairs index graph
   unfolding check-outcome verdict turned-down
   too-short e =
       let short = long ∙ e in
-      record { answer = rw short; areas = rw short }
+      record { answer = rw short; said = rw short; areas = rw short }
 
   -- Every other answer leaves zeros.
-  pub checked-all : (r : Verdict) (n i k n₁ i₁ k₁ : List ℕ) → b ≡ true → r ≡ verdict (checked-file tower text table)
-      → n ≡ replicate (length n₁) 0 → i ≡ replicate (length i₁) 0 → k ≡ replicate (length k₁) 0
-      → length n₁ ≡ length nodes → length i₁ ≡ length items → length k₁ ≡ length index
-      → Checks r tower text table nodes items index n i k
+  pub checked-all : (r : Verdict) (n p k g n₁ p₁ k₁ g₁ : List ℕ) → b ≡ true → r ≡ verdict (checked-file tower text table)
+      → AllCleared n₁ p₁ k₁ g₁ n p k g
+      → length n₁ ≡ length nodes → length p₁ ≡ length pairs → length k₁ ≡ length index → length g₁ ≡ length graph
+      → Checks r tower text table nodes pairs index graph n p k g
   unfolding check-outcome cleared
-  checked-all r n i k n₁ i₁ k₁ e f p q s u v w =
+  checked-all r n p k g n₁ p₁ k₁ g₁ e f zero nl pl kl gl =
       let enough = long ∙ e in
       record {
         answer = rw enough f;
-        areas = rw (enough, p, q, s, u, v, w);
+        said = rw enough (ap verdict-said f);
+        areas = rw (enough, zero .nodes-zero, zero .pairs-zero, zero .index-zero, zero .graph-zero, nl, pl, kl, gl);
       }

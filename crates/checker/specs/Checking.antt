@@ -1,18 +1,24 @@
 -- What the functions of the checker promise, from the table on back to the whole outcome.
 use Prim.Native.Nat.{ℕ, _≤_}
 use mathlib.Core.Path.{_≡_}
-use mathlib.Core.Bool.{Bool, _&&_}
+use mathlib.Core.Bool.{Bool, true, false, _&&_}
 use mathlib.Core.List.{List, [], _∷_}
-use lib.ListN.{length}
+use lib.ListN.{length, replicate}
 use lib.Dec.{leb}
-use Rattle.base.specs.Answers.{Answer, _then_}
+use Rattle.base.specs.Lists.{some-of, below}
+use Rattle.base.specs.Answers.{verdict-said, Answer, give, _if_else_, _then_}
+use Rattle.base.specs.declared.Reason.the-variants.{Broken}
+use Rattle.base.specs.declared.Refusal.the-variants.{Pairs, NotGood}
 use Rattle.base.specs.declared.Verdict.{Verdict}
 use Rattle.logic.specs.Tower.{Tower, tower-of}
 use Rattle.logic.specs.Book.{Book}
+use Rattle.logic.specs.Tables.{Table, rows-tower}
 use Rattle.reading.specs.BookReading.{read-book}
-use Rattle.reading.specs.TableReading.{read-table}
-use Rattle.outcome.specs.Check.{judge, verdict, check-outcome}
+use Rattle.reading.specs.TableReading.{read-table, table-of}
+use Rattle.outcome.specs.Check.{over-items, some-broken, judge, verdict, check-outcome}
 use Rattle.progression.specs.NodeBytes.{IsHeld}
+use Rattle.pair_graph.specs.Graph.{Move, not-enabled, broken, to}
+use Rattle.pair_graph.specs.Steps.{move-at}
 
 -- the answer for a table file, where tower and book are read
 unfoldable pub checked-table : Tower → Book → List ℕ → Answer (Unit {0})
@@ -26,17 +32,57 @@ checked-book tower text table = read-book (tower .marks) text then λ book. chec
 pub record TableChecked (r : Verdict) (tower table nodes : List ℕ) (lines count : ℕ) : Type 0 where
   pub says : (h : IsHeld nodes lines count) → r ≡ verdict (checked-table (tower-of tower) (h .book) table)
 
+-- ---- 11 and reason e
+
+-- what is asked behind the rows: 11, then e
+unfoldable pub runs-answer : Tower → Book → Table → Answer (Unit {0})
+runs-answer tower book table = Pairs if over-items tower book table else NotGood Broken if some-broken (rows-tower tower table) book else give tt
+
+-- The answer for the runs that a table allows, for the book that the area holds.
+pub record RunsChecked (r : Verdict) (tower table nodes : List ℕ) (lines count : ℕ) : Type 0 where
+  pub says : (h : IsHeld nodes lines count) → r ≡ verdict (runs-answer (tower-of tower) (h .book) (table-of table))
+
+-- the move is a broken step
+unfoldable pub is-broken : Move → Bool
+is-broken not-enabled = false
+is-broken broken = true
+is-broken (to j) = false
+
+-- action a makes a broken step from pair i
+unfoldable pub broken-at : List ℕ → ℕ → ℕ → Bool
+broken-at graph i a = is-broken (move-at graph i a)
+
+-- some action makes a broken step from pair i
+unfoldable pub breaks-at : List ℕ → ℕ → ℕ → Bool
+breaks-at graph actions i = some-of (broken-at graph i) (below actions)
+
+-- some action makes a broken step from one of n pairs
+unfoldable pub some-break : List ℕ → ℕ → ℕ → Bool
+some-break graph n actions = some-of (breaks-at graph actions) (below n)
+
+-- ---- the areas
+
 -- areas of these lengths are long enough
-unfoldable pub lengths-right : ℕ → ℕ → ℕ → Bool
-lengths-right nodes items index = leb 512 nodes && (leb 62062 items && leb 8192 index)
+unfoldable pub lengths-right : ℕ → ℕ → ℕ → ℕ → Bool
+lengths-right nodes pairs index graph = leb 512 nodes && (leb 62062 pairs && (leb 8192 index && leb 34000 graph))
 
 -- The areas are long enough.
-pub record Room (nodes items index : List ℕ) : Type 0 where
+pub record Room (nodes pairs index graph : List ℕ) : Type 0 where
   pub nodes-room : 512 ≤ length nodes
-  pub items-room : 62062 ≤ length items
+  pub pairs-room : 62062 ≤ length pairs
   pub index-room : 8192 ≤ length index
+  pub graph-room : 34000 ≤ length graph
 
--- The whole outcome: the answer, and what the three areas hold at the end.
-pub record Checks (r : Verdict) (tower text table nodes items index nodes-after items-after index-after : List ℕ) : Type 0 where
-  pub answer : r ≡ check-outcome tower text table (nodes ∷ items ∷ index ∷ []) .answer
-  pub areas : nodes-after ∷ items-after ∷ index-after ∷ [] ≡ check-outcome tower text table (nodes ∷ items ∷ index ∷ []) .areas
+-- The areas hold zeros.
+pub record AllCleared (nodes pairs index graph nodes-after pairs-after index-after graph-after : List ℕ) : Type 0 where
+  pub nodes-zero : nodes-after ≡ replicate (length nodes) 0
+  pub pairs-zero : pairs-after ≡ replicate (length pairs) 0
+  pub index-zero : index-after ≡ replicate (length index) 0
+  pub graph-zero : graph-after ≡ replicate (length graph) 0
+
+-- The whole outcome: the answer, and what the four areas hold at the end.
+pub record Checks (r : Verdict) (tower text table nodes pairs index graph nodes-after pairs-after index-after graph-after : List ℕ) : Type 0 where
+  pub answer : r ≡ check-outcome tower text table (nodes ∷ pairs ∷ index ∷ graph ∷ []) .answer
+  pub said : verdict-said r ≡ verdict-said (check-outcome tower text table (nodes ∷ pairs ∷ index ∷ graph ∷ []) .answer)
+  pub areas : nodes-after ∷ pairs-after ∷ index-after ∷ graph-after ∷ []
+      ≡ check-outcome tower text table (nodes ∷ pairs ∷ index ∷ graph ∷ []) .areas

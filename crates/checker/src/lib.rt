@@ -1,29 +1,33 @@
 // The checker (01, 'Good tables' and 'Why a call is turned down'): whether a table is good for a
 // tower and a book, or the first reason why not, in the order 15, tower, book, 13, 14 a, 14 b to d by
 // row, 11, 14 e. It stands on the definitions, and on nothing of the maker's.
-ghost use Prim.Native.Nat.{_≤_};
+ghost use Prim.Native.Nat.{_≤_, _<_};
 ghost use mathlib.Core.Path.{_≡_};
 ghost use lib.ListN.{length};
 ghost use Rattle.logic.specs.Tower.{FitTower, tower-of};
 ghost use Rattle.table_reader.specs.Layout.{laid-out-for};
 ghost use Rattle.outcome.specs.Check.{turned-down, verdict, checked-file};
-ghost use Rattle.item_walk.specs.Items.{walk-answer};
 ghost use Rattle.pending_entries.specs.PendingEntries.{TowerWithBook};
-ghost use Rattle.checker.specs.Checking.{checked-book, TableChecked, lengths-right, Room, Checks};
+ghost use Rattle.pair_graph.specs.Steps.{graph-size, pair-room, action-room};
+ghost use Rattle.row_judge.specs.RowVerdict.{Judgeable};
+ghost use Rattle.checker.specs.Checking.{checked-book, TableChecked, RunsChecked, broken-at, breaks-at, some-break, lengths-right, Room, AllCleared, Checks};
 use base::BookAnswer;
 use base::Reason;
 use base::Refusal;
 use base::Verdict;
-use item_walk::WalkEnd;
+use pair_search::Found;
 use row_judge::RowVerdict;
 use tower_reader::TowerRead;
 
-// The lengths of the three work areas: the book's nodes and lines, the items, and their index.
+// The lengths of the four work areas: the book's nodes and lines, the rows with what is pending as
+// pairs, their index, and their graph.
 const NODES_AREA: usize = 512;
 
-const ITEMS_AREA: usize = 62062;
+const PAIRS_AREA: usize = 62062;
 
 const INDEX_AREA: usize = 8192;
+
+const GRAPH_AREA: usize = 34000;
 
 // A refusal as a verdict: 14 is the case that carries its reason.
 fn turned_down(why: Refusal) -> Verdict
@@ -35,15 +39,78 @@ fn turned_down(why: Refusal) -> Verdict
     Verdict::Refused(why)
 }
 
-// The verdict by how the walk over the items ends: 11, 14 e, or good.
-fn by_walk(end: WalkEnd) -> Verdict
-    ensures { λ r. ⌜ r ≡ verdict (walk-answer end) ⌝ }
+// Action a makes a broken step from pair i.
+fn broken_at(graph: &[u8], i: usize, a: usize) -> bool
+    requires { ⌜ graph-size ≤ length (now graph) ⌝ }
+    requires { ⌜ i < pair-room ⌝ }
+    requires { ⌜ a < action-room ⌝ }
+    ensures { λ b. ⌜ b ≡ broken-at (now (graph .entry)) i a ⌝ }
 {
-    match end {
-        WalkEnd::TooMany => Verdict::Refused(Refusal::Pairs),
-        WalkEnd::Broken => Verdict::NotGood(Reason::Broken),
-        WalkEnd::Whole => Verdict::Good,
+    pair_graph::move_number(graph, i, a) == pair_graph::BROKEN
+}
+
+// Some action makes a broken step from pair i.
+fn breaks(graph: &[u8], actions: usize, i: usize) -> bool
+    requires { ⌜ graph-size ≤ length (now graph) ⌝ }
+    requires { ⌜ actions ≤ action-room ⌝ }
+    requires { ⌜ i < pair-room ⌝ }
+    ensures { λ b. ⌜ b ≡ breaks-at (now (graph .entry)) actions i ⌝ }
+{
+    let mut a = 0;
+    while a < actions {
+        let at = a;
+        a += 1;
+        if broken_at(graph, i, at) {
+            return true;
+        }
     }
+    false
+}
+
+// Some action makes a broken step from one of n pairs.
+fn some_break(graph: &[u8], n: usize, actions: usize) -> bool
+    requires { ⌜ graph-size ≤ length (now graph) ⌝ }
+    requires { ⌜ n ≤ pair-room ⌝ }
+    requires { ⌜ actions ≤ action-room ⌝ }
+    ensures { λ b. ⌜ b ≡ some-break (now (graph .entry)) n actions ⌝ }
+{
+    let mut i = 0;
+    while i < n {
+        let at = i;
+        i += 1;
+        if breaks(graph, actions, at) {
+            return true;
+        }
+    }
+    false
+}
+
+// The runs that the table allows, where its rows are right: 11, 14 e, or good.
+fn check_runs(
+    tower: &[u8],
+    table: &[u8],
+    nodes: &[u8],
+    lines: usize,
+    count: usize,
+    pairs: &mut [u8],
+    index: &mut [u8],
+    graph: &mut [u8],
+) -> Verdict
+    requires { ⌜ TowerWithBook (now tower) (now nodes) lines count ⌝ }
+    requires { ⌜ Judgeable (now tower) (now table) ⌝ }
+    requires { ⌜ 62062 ≤ length (now pairs) ⌝ }
+    requires { ⌜ 8192 ≤ length (now index) ⌝ }
+    requires { ⌜ 34000 ≤ length (now graph) ⌝ }
+    ensures { λ r. ⌜ RunsChecked r (now (tower .entry)) (now (table .entry)) (now (nodes .entry)) lines count ⌝ }
+{
+    let found = pair_search::explore(tower, table, true, nodes, lines, count, pairs, index, graph);
+    let Found::Met(n) = found else {
+        return Verdict::Refused(Refusal::Pairs);
+    };
+    if some_break(graph, n, tower_reader::actions(tower)) {
+        return Verdict::NotGood(Reason::Broken);
+    }
+    Verdict::Good
 }
 
 // The table is laid out as a table file, and its S and A are the tower's.
@@ -63,12 +130,14 @@ fn check_table(
     nodes: &[u8],
     lines: usize,
     count: usize,
-    items: &mut [u8],
+    pairs: &mut [u8],
     index: &mut [u8],
+    graph: &mut [u8],
 ) -> Verdict
     requires { ⌜ TowerWithBook (now tower) (now nodes) lines count ⌝ }
-    requires { ⌜ 62062 ≤ length (now items) ⌝ }
+    requires { ⌜ 62062 ≤ length (now pairs) ⌝ }
     requires { ⌜ 8192 ≤ length (now index) ⌝ }
+    requires { ⌜ 34000 ≤ length (now graph) ⌝ }
     ensures { λ r. ⌜ TableChecked r (now (tower .entry)) (now (table .entry)) (now (nodes .entry)) lines count ⌝ }
 {
     if !for_tower(tower, table) {
@@ -78,20 +147,23 @@ fn check_table(
     if let RowVerdict::Wrong(reason) = rows {
         return Verdict::NotGood(reason);
     }
-    by_walk(item_walk::walk(tower, table, nodes, lines, count, items, index))
+    check_runs(tower, table, nodes, lines, count, pairs, index, graph)
 }
 
 // The areas are long enough.
-fn lengths_right(nodes: usize, items: usize, index: usize) -> bool
-    ensures { λ b. ⌜ b ≡ lengths-right nodes items index ⌝ }
+fn lengths_right(nodes: usize, pairs: usize, index: usize, graph: usize) -> bool
+    ensures { λ b. ⌜ b ≡ lengths-right nodes pairs index graph ⌝ }
 {
     if nodes < NODES_AREA {
         return false;
     }
-    if items < ITEMS_AREA {
+    if pairs < PAIRS_AREA {
         return false;
     }
-    INDEX_AREA <= index
+    if index < INDEX_AREA {
+        return false;
+    }
+    GRAPH_AREA <= graph
 }
 
 // Book and table, where the tower is read.
@@ -100,11 +172,12 @@ fn check_book(
     text: &[u8],
     table: &[u8],
     nodes: &mut [u8],
-    items: &mut [u8],
+    pairs: &mut [u8],
     index: &mut [u8],
+    graph: &mut [u8],
 ) -> Verdict
     requires { ⌜ FitTower (now tower) ⌝ }
-    requires { ⌜ Room (now nodes) (now items) (now index) ⌝ }
+    requires { ⌜ Room (now nodes) (now pairs) (now index) (now graph) ⌝ }
     ensures { λ r. ⌜ r ≡ verdict (checked-book (tower-of (now (tower .entry))) (now (text .entry)) (now (table .entry))) ⌝ }
 {
     let book = book_reader::read_lines(tower_reader::marks(tower), text, nodes);
@@ -113,7 +186,7 @@ fn check_book(
         BookAnswer::Read {
             lines,
             nodes: count,
-        } => check_table(tower, table, nodes, lines, count, items, index),
+        } => check_table(tower, table, nodes, lines, count, pairs, index, graph),
     }
 }
 
@@ -123,37 +196,47 @@ fn check_files(
     text: &[u8],
     table: &[u8],
     nodes: &mut [u8],
-    items: &mut [u8],
+    pairs: &mut [u8],
     index: &mut [u8],
+    graph: &mut [u8],
 ) -> Verdict
-    requires { ⌜ Room (now nodes) (now items) (now index) ⌝ }
+    requires { ⌜ Room (now nodes) (now pairs) (now index) (now graph) ⌝ }
     ensures { λ r. ⌜ r ≡ verdict (checked-file (now (tower .entry)) (now (text .entry)) (now (table .entry))) ⌝ }
 {
     let read = tower_reader::read_tower(tower);
     if let TowerRead::Refused(why) = read {
         return turned_down(why);
     }
-    check_book(tower, text, table, nodes, items, index)
+    check_book(tower, text, table, nodes, pairs, index, graph)
 }
 
-// Whether the table is good for the tower and the book, or the first reason why not. The three areas
+// Every byte of every area is zero.
+fn clear_all(nodes: &mut [u8], pairs: &mut [u8], index: &mut [u8], graph: &mut [u8])
+    ensures { λ _. ⌜ AllCleared (now (nodes .entry)) (now (pairs .entry)) (now (index .entry)) (now (graph .entry)) (now (nodes .exit)) (now (pairs .exit)) (now (index .exit)) (now (graph .exit)) ⌝ }
+{
+    lent_bytes::clear(nodes);
+    lent_bytes::clear(pairs);
+    lent_bytes::clear(index);
+    lent_bytes::clear(graph);
+}
+
+// Whether the table is good for the tower and the book, or the first reason why not. The four areas
 // are lent: 15 leaves them as they are, and after every other answer they are zero.
 pub fn check(
     tower: &[u8],
     text: &[u8],
     table: &[u8],
     nodes: &mut [u8],
-    items: &mut [u8],
+    pairs: &mut [u8],
     index: &mut [u8],
+    graph: &mut [u8],
 ) -> Verdict
-    ensures { λ r. ⌜ Checks r (now (tower .entry)) (now (text .entry)) (now (table .entry)) (now (nodes .entry)) (now (items .entry)) (now (index .entry)) (now (nodes .exit)) (now (items .exit)) (now (index .exit)) ⌝ }
+    ensures { λ r. ⌜ Checks r (now (tower .entry)) (now (text .entry)) (now (table .entry)) (now (nodes .entry)) (now (pairs .entry)) (now (index .entry)) (now (graph .entry)) (now (nodes .exit)) (now (pairs .exit)) (now (index .exit)) (now (graph .exit)) ⌝ }
 {
-    if !lengths_right(nodes.len(), items.len(), index.len()) {
+    if !lengths_right(nodes.len(), pairs.len(), index.len(), graph.len()) {
         return Verdict::Refused(Refusal::Area);
     }
-    let answer = check_files(tower, text, table, nodes, items, index);
-    lent_bytes::clear(nodes);
-    lent_bytes::clear(items);
-    lent_bytes::clear(index);
+    let answer = check_files(tower, text, table, nodes, pairs, index, graph);
+    clear_all(nodes, pairs, index, graph);
     answer
 }

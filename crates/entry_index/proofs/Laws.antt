@@ -5,20 +5,21 @@ use native.Mathlib.Nat.{add-zero, zero-add}
 use native.Mathlib.Numerals.{add-one}
 use native.Mathlib.Decide.{decLt}
 use mathlib.Core.Path.{_≡_, refl, sym, _∙_, ap}
-use mathlib.Core.Bool.{Bool, true, false}
+use mathlib.Core.Bool.{true, false}
 use mathlib.Core.List.{List, [], _∷_, _++_, map, map-append}
-use lib.ListN.{length, getD, take, drop, replicate, length-take, length-drop, length-map, length-replicate}
-use lib.ListN.{getD-replicate, List·getD-map, List·getD-eq-default}
+use lib.ListN.{length, getD, take, drop, replicate, length-take, length-drop, length-map}
+use lib.ListN.{List·getD-map}
 use lib.Seq.{getD-take, getD-drop, length-take-le, ext-getD}
 use lib.Dec.{eqb}
-use borrow.Author.Tests.{eqb-true, eqb-false, eq-eqb, ne-eqb}
-use Rattle.base.specs.Choice.{pick}
-use Rattle.base.specs.Bytes.{byte-at, number-at}
+use borrow.Author.Tests.{eqb-true, eq-eqb}
+use Rattle.base.specs.Bytes.{byte-at}
 use Rattle.base.specs.Lists.{count-from, below, place-of}
 use Rattle.base.proofs.Lists.{never-both, same-list-eq, eq-same-list, length-below, getD-below}
 use Rattle.base.proofs.Lists.{place-of-le, place-of-at, place-of-before, place-of-first}
-use Rattle.entry_index.specs.Entries.{entry-size, buckets, entry-at, entries-of, same-entry, hash-of, last-with, head-of}
-use Rattle.entry_index.specs.Entries.{Indexed}
+use Rattle.chains.specs.Chains.{head-in, link-in}
+use Rattle.chains.proofs.Walks.{chained-stands}
+use Rattle.chains.proofs.Additions.{cleared-chains}
+use Rattle.entry_index.specs.Entries.{entry-size, buckets, entry-at, entries-of, same-entry, hash-of, hashed, Indexed}
 
 -- ---- entries
 
@@ -152,66 +153,6 @@ pub hash-below : (entry : List ℕ) → hash-of entry < buckets
 unfolding hash-of
 hash-below entry = omega arith
 
-module _ (entries : List ℕ) (h : ℕ) where
-  -- The last of n is one of them.
-  pub last-most : (n : ℕ) → last-with entries h n ≤ n
-  unfolding last-with
-  last-most zero = omega arith
-  last-most (suc n) = go (eqb (hash-of (entry-at entries n)) h) (last-most n)
-    where
-      go : (b : Bool) → last-with entries h n ≤ n → pick b (λ _. suc n) (λ _. last-with entries h n) ≤ suc n
-      go true ih = omega arith
-      go false ih = omega arith
-
-  -- It has the hash.
-  pub last-has : (n i : ℕ) → last-with entries h n ≡ suc i → hash-of (entry-at entries i) ≡ h
-  unfolding last-with
-  last-has zero i e = absurd (omega arith)
-  last-has (suc n) i e = go (eqb (hash-of (entry-at entries n)) h) refl e (λ f. last-has n i f)
-    where
-      go : (b : Bool) → eqb (hash-of (entry-at entries n)) h ≡ b → pick b (λ _. suc n) (λ _. last-with entries h n) ≡ suc i
-          → (last-with entries h n ≡ suc i → hash-of (entry-at entries i) ≡ h) → hash-of (entry-at entries i) ≡ h
-      go true t f ih =
-          let same : n ≡ i = omega arith in
-          rw (← same) (eqb-true (hash-of (entry-at entries n)) h t)
-      go false t f ih = ih f
-
-  -- None behind it has.
-  pub last-behind : (n i : ℕ) → last-with entries h n ≤ i → i < n → hash-of (entry-at entries i) ≡ h → ⊥
-  unfolding last-with
-  last-behind zero i k l e = omega arith
-  last-behind (suc n) i k l e = go (eqb (hash-of (entry-at entries n)) h) refl k (λ m. last-behind n i m)
-    where
-      go : (b : Bool) → eqb (hash-of (entry-at entries n)) h ≡ b → pick b (λ _. suc n) (λ _. last-with entries h n) ≤ i
-          → (last-with entries h n ≤ i → i < n → hash-of (entry-at entries i) ≡ h → ⊥) → ⊥
-      go true t m ih = omega arith
-      go false t m ih = elim (decLt i n) [
-        | yes below ↦ ih m below e
-        | no not-below ↦ (
-            let same : i ≡ n = omega arith in
-            eqb-false (hash-of (entry-at entries n)) h t (rw (← same) e))
-      ]
-
-  -- An entry with the hash is the last when it is added.
-  pub last-new : (n : ℕ) → hash-of (entry-at entries n) ≡ h → last-with entries h (suc n) ≡ suc n
-  unfolding last-with
-  last-new n e = rw (eq-eqb (hash-of (entry-at entries n)) h e)
-
-  -- One with another hash changes nothing.
-  pub last-old : (n : ℕ) → (hash-of (entry-at entries n) ≡ h → ⊥) → last-with entries h (suc n) ≡ last-with entries h n
-  unfolding last-with
-  last-old n e = rw (ne-eqb (hash-of (entry-at entries n)) h e)
-
--- Areas with the same entries before n have the same last entry.
-pub last-same : (one other : List ℕ) (h n : ℕ) → ((i : ℕ) → i < n → entry-at one i ≡ entry-at other i)
-    → last-with one h n ≡ last-with other h n
-unfolding last-with
-last-same one other h zero agree = refl
-last-same one other h (suc n) agree =
-    let here = agree n (omega arith) in
-    let rest = last-same one other h n (λ i l. agree i (omega arith)) in
-    rw (here, rest)
-
 -- ---- the index
 
 -- The index depends on the entries before n alone.
@@ -219,28 +160,11 @@ pub indexed-same : (one other index : List ℕ) (n : ℕ) → ((i : ℕ) → i <
     → Indexed other index n
 indexed-same one other index n agree indexed =
     record {
-      heads = λ h l. indexed .heads h l ∙ last-same one other h n agree;
-      links = λ i l.
-          indexed .links i l ∙ last-same one other (hash-of (entry-at one i)) i (λ j m. agree j (omega arith))
-          ∙ ap (λ (entry : List ℕ). last-with other (hash-of entry) i) (agree i l);
+      chained =
+          chained-stands (hashed one) (hashed other) buckets (head-in 0 index) (link-in 2048 index) n
+          (λ i h l e. ap hash-of (sym (agree i l)) ∙ e) (λ i h l e. ap hash-of (agree i l) ∙ e) (indexed .chained);
     }
-
--- An index of zeros is one of no entries.
-pub indexed-none : (entries index : List ℕ) → ((p : ℕ) → byte-at index p ≡ 0) → Indexed entries index 0
-unfolding head-of number-at last-with
-indexed-none entries index zeros =
-    record {
-      heads = λ h l. omega (arith, zeros (0 + 2 * h), zeros (0 + 2 * h + 1));
-      links = λ i l. absurd (omega arith);
-    }
-
--- Every byte of a cleared area is 0.
-pub cleared-byte : (size p : ℕ) → _≡_ {A = ℕ} (byte-at (replicate size 0) p) 0
-cleared-byte size p = elim (decLt p size) [
-  | yes l ↦ getD-replicate size p 0 0 l
-  | no l ↦ List·getD-eq-default (replicate size 0) 0 (omega (arith, length-replicate {A = ℕ} size 0))
-]
 
 -- A cleared area is an index of no entries.
 pub indexed-cleared : (entries index : List ℕ) (size : ℕ) → index ≡ replicate size 0 → Indexed entries index 0
-indexed-cleared entries index size e = rw e (indexed-none entries (replicate size 0) (cleared-byte size))
+indexed-cleared entries index size e = record { chained = cleared-chains (hashed entries) buckets 0 2048 size index e }

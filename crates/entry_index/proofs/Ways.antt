@@ -5,30 +5,25 @@ use native.Mathlib.Nat.{add-zero}
 use native.Mathlib.Numerals.{add-one}
 use native.Mathlib.Decide.{decLt, ℕ-discrete}
 use mathlib.Core.Path.{_≡_, refl, sym, _∙_, ap}
+use mathlib.Core.Logic.{inl}
 use mathlib.Core.Bool.{Bool, true, false}
 use mathlib.Core.List.{List}
 use lib.ListN.{length, getD}
-use lib.Seq.{sets, length-sets, ext-getD}
+use lib.Seq.{ext-getD}
 use lib.Dec.{eqb}
 use borrow.Author.Tests.{eq-eqb, ne-eqb}
 use mir.Syntax.{w8, w64}
 use mir.Val.{Fits}
-use Rattle.base.specs.Bytes.{number-at, number-bytes}
+use Rattle.base.specs.Bytes.{number-at}
 use Rattle.base.specs.Lists.{place-of}
 use Rattle.base.proofs.Bytes.{number-fits}
 use Rattle.base.proofs.Lists.{false-by}
-use Rattle.lent_bytes.proofs.Numbers.{stored, stored-read, byte-beside}
-use Rattle.entry_index.specs.Entries.{entry-size, most-entries, index-size, links-at, buckets, entry-at, entries-of, same-entry}
-use Rattle.entry_index.specs.Entries.{entry-eights, mix, hash-upto, hash-of, last-with, head-of, link-of, Indexed}
+use Rattle.chains.specs.Chains.{head-in, link-in, added, Apart}
+use Rattle.chains.proofs.Walks.{Walking, walk-start, walk-first, walk-on, walk-falls, walk-ahead}
+use Rattle.chains.proofs.Additions.{added-chains}
+use Rattle.entry_index.specs.Entries.{entry-size, buckets, entry-at, entries-of, same-entry}
+use Rattle.entry_index.specs.Entries.{entry-eights, mix, hash-upto, hash-of, hashed, Indexed}
 use Rattle.entry_index.proofs.Laws.{entry-byte, entry-length, same-entry-out, same-entry-in, found-at, found-none, hash-below}
-use Rattle.entry_index.proofs.Laws.{last-most, last-has, last-behind, last-new, last-old}
-
--- ---- two-byte numbers
-
--- A number elsewhere than where one is written is what it was.
-written-elsewhere : (l : List ℕ) (p q n : ℕ) → (q ≡ p → ⊥) → (q ≡ p + 1 → ⊥) → (q + 1 ≡ p → ⊥) → number-at 2 (stored l p n) q ≡ number-at 2 l q
-unfolding number-at
-written-elsewhere l p q n a b c = rw (byte-beside l p n q a (λ e. b (omega arith)), byte-beside l p n (q + 1) c (λ e. a (omega arith)))
 
 -- ---- numbers of four and of eight bytes
 
@@ -213,118 +208,117 @@ same-end entries i j k x y g l room room′ e f bytes = elim (ℕ-discrete x y) 
 
 -- ---- heads and links
 
--- What belongs to a bucket lies at a number that fits, wherever a table of two-byte numbers begins,
-pub bucket-fits : (entry : List ℕ) (h : ℕ) → h ≡ hash-of entry → Fits w64 (2 * h)
-bucket-fits entry h e = omega (arith, hash-below entry)
-
-pub bucket-place : (entry : List ℕ) (start h : ℕ) → h ≡ hash-of entry → start ≤ links-at → Fits w64 (start + 2 * h)
-bucket-place entry start h e l = omega (arith, hash-below entry)
-
--- and within the index.
-pub bucket-there : (entry index : List ℕ) (start h : ℕ) → h ≡ hash-of entry → index-size ≤ length index → start ≤ links-at
+-- What belongs to a bucket lies within the index, wherever a table of two-byte numbers begins.
+pub bucket-there : (entry index : List ℕ) (start h : ℕ) → h ≡ hash-of entry → 8192 ≤ length index → start ≤ 2048
     → start + 2 * h + 1 < length index
 bucket-there entry index start h e room l = omega (arith, hash-below entry)
 
 -- What is read at the head of an entry's bucket.
-pub head-read : (entry index : List ℕ) (h r : ℕ) → h ≡ hash-of entry → r ≡ number-at 2 index (0 + 2 * h) → r ≡ head-of index (hash-of entry)
-unfolding head-of
-head-read entry index h r e f = rw (← e) f
+pub head-read : (entry index : List ℕ) (h r : ℕ) → h ≡ hash-of entry → r ≡ head-in 0 index h → r ≡ head-in 0 index (hash-of entry)
+head-read entry index h r e f = f ∙ ap (head-in 0 index) e
 
--- What is read at the link of an entry.
-pub link-read : (index : List ℕ) (i r : ℕ) → r ≡ number-at 2 index (2048 + 2 * i) → r ≡ link-of index i
-unfolding link-of
-link-read index i r e = e
+-- Entry n is added to the index.
+pub add-entry : (entries index after : List ℕ) (n h : ℕ) → Indexed entries index n → n ≤ 1000 → 8192 ≤ length index
+    → h ≡ hash-of (entry-at entries n) → after ≡ added 0 2048 index h n → Indexed entries after (n + 1)
+unfolding Apart
+add-entry entries index after n h indexed few room e f =
+    let small = hash-below (entry-at entries n) in
+    record {
+      chained =
+          added-chains 0 buckets 2048 1001 index h n (inl (omega arith)) (omega arith) (omega arith) (omega arith) (omega arith)
+          (hashed entries) after (omega arith) (indexed .chained) (sym e) (λ g s. sym s ∙ sym e) f;
+    }
 
 -- ---- a search along a chain
 
--- different hashes: different entries
-differ : (x y : List ℕ) → (hash-of y ≡ hash-of x → ⊥) → same-entry x y ≡ false
-differ x y apart = false-by (same-entry x y) (λ e. apart (ap hash-of (sym (same-entry-out x y e))))
-
--- Of the entries from `at` on `found` is the first that is equal to entry n, or n; `at` is 0, or the number plus one of an entry with the
--- same hash.
+-- Of the entries from `at` on `found` is the first that is equal to entry n, or n; the walk through the bucket has come to `at`.
 pub record Searching (entries : List ℕ) (n found at : ℕ) : Type 0 where
   pub under : at ≤ found
   pub most : found ≤ n
   pub none : (i : ℕ) → at ≤ i → i < found → same-entry (entry-at entries n) (entry-at entries i) ≡ false
   pub hit : found < n → same-entry (entry-at entries n) (entry-at entries found) ≡ true
-  pub chain : (i : ℕ) → at ≡ suc i → hash-of (entry-at entries i) ≡ hash-of (entry-at entries n)
+  pub walk : Walking (hashed entries) buckets n (hash-of (entry-at entries n)) at
 
--- from `last-with` on no entry is equal
-behind : (entries : List ℕ) (n m i : ℕ) → last-with entries (hash-of (entry-at entries n)) m ≤ i → i < m
-    → same-entry (entry-at entries n) (entry-at entries i) ≡ false
-behind entries n m i k l =
-    differ (entry-at entries n) (entry-at entries i) (last-behind entries (hash-of (entry-at entries n)) m i k l)
+module _ (entries index : List ℕ) (n : ℕ) (indexed : Indexed entries index n) where
+  -- the hash of the entry that is looked up
+  abbrev h : ℕ
+  h = hash-of (entry-at entries n)
 
--- The chain begins at the head of the bucket.
-pub find-start : (entries index : List ℕ) (n at : ℕ) → Indexed entries index n
-    → at ≡ head-of index (hash-of (entry-at entries n)) → Searching entries n n at
-find-start entries index n at indexed e =
-    let h = hash-of (entry-at entries n) in
-    let last : at ≡ last-with entries h n = e ∙ indexed .heads h (hash-below (entry-at entries n)) in
-    let most = last-most entries h n in
-    record {
-      under = omega arith;
-      most = omega arith;
-      none = λ i k l. behind entries n n i (omega arith) l;
-      hit = λ l. absurd (omega arith);
-      chain = λ i f. last-has entries h n i (sym last ∙ f);
-    }
+  -- an entry that is equal has the same hash
+  equal-hashed : (i : ℕ) → same-entry (entry-at entries n) (entry-at entries i) ≡ true → hashed entries i h
+  equal-hashed i e = ap hash-of (sym (same-entry-out (entry-at entries n) (entry-at entries i) e))
 
--- what the link of an entry of the chain holds
-linked : (entries index : List ℕ) (n found at r : ℕ) → Indexed entries index n → Searching entries n found at → 0 < at
-    → r ≡ link-of index (at - 1) → r ≡ last-with entries (hash-of (entry-at entries n)) (at - 1)
-linked entries index n found at r indexed g l e =
-    let under = g .under in
-    let most = g .most in
-    e ∙ indexed .links (at - 1) (omega arith)
-    ∙ ap (λ (h : ℕ). last-with entries h (at - 1)) (g .chain (at - 1) (omega arith))
+  -- The chain begins at the head of the bucket.
+  pub find-start : (at : ℕ) → at ≡ head-in 0 index (hash-of (entry-at entries n)) → Searching entries n n at
+  find-start at e =
+      let begin =
+      walk-start (hashed entries) buckets (head-in 0 index) (link-in 2048 index) n h (indexed .chained) (hash-below (entry-at entries n)) at e in
+      record {
+        under = within at begin;
+        most = omega arith;
+        none = λ i k l. false-by (same-entry (entry-at entries n) (entry-at entries i)) (λ same.
+            omega (
+              arith,
+              walk-first (hashed entries) buckets (head-in 0 index) (link-in 2048 index) n h (indexed .chained)
+                  (hash-below (entry-at entries n)) at e i l (equal-hashed i same),
+            ));
+        hit = λ l. absurd (omega arith);
+        walk = begin;
+      }
+    where
+      within : (x : ℕ) → Walking (hashed entries) buckets n h x → x ≤ n
+      within zero w = omega arith
+      within (suc i) w = w .node i refl .there
 
--- A link leads to an entry further in front.
-pub find-less : (entries index : List ℕ) (n found at r : ℕ) → Indexed entries index n → Searching entries n found at → 0 < at
-    → r ≡ link-of index (at - 1) → r < at
-find-less entries index n found at r indexed g l e =
-    omega (arith, linked entries index n found at r indexed g l e, last-most entries (hash-of (entry-at entries n)) (at - 1))
+  module _ (found at r : ℕ) (g : Searching entries n found at) (l : 0 < at) (to-next : r ≡ link-in 2048 index (at - 1)) where
+    -- A link leads to an entry further in front.
+    pub find-less : r < at
+    find-less =
+        walk-falls (hashed entries) buckets (head-in 0 index) (link-in 2048 index) n h (indexed .chained) (hash-below (entry-at entries n))
+        at r (g .walk) l to-next
 
--- The entry is equal to the one that is looked up.
-pub find-hit : (entries index : List ℕ) (n found at r : ℕ) (b : Bool) → Indexed entries index n → Searching entries n found at → 0 < at
-    → r ≡ link-of index (at - 1) → b ≡ same-entry (entry-at entries n) (entry-at entries (at - 1)) → b ≡ true
-    → Searching entries n (at - 1) r
-find-hit entries index n found at r b indexed g l e f t =
-    let h = hash-of (entry-at entries n) in
-    let last = linked entries index n found at r indexed g l e in
-    let below = last-most entries h (at - 1) in
-    let under = g .under in
-    let most = g .most in
-    record {
-      under = omega arith;
-      most = omega arith;
-      none = λ i k m. behind entries n (at - 1) i (omega arith) m;
-      hit = λ _. sym f ∙ t;
-      chain = λ i d. last-has entries h (at - 1) i (sym last ∙ d);
-    }
+    onward : Walking (hashed entries) buckets n h r
+    onward =
+        walk-on (hashed entries) buckets (head-in 0 index) (link-in 2048 index) n h (indexed .chained) (hash-below (entry-at entries n))
+        at r (g .walk) l to-next
 
--- It is not.
-pub find-miss : (entries index : List ℕ) (n found at r : ℕ) (b : Bool) → Indexed entries index n → Searching entries n found at → 0 < at
-    → r ≡ link-of index (at - 1) → b ≡ same-entry (entry-at entries n) (entry-at entries (at - 1)) → b ≡ false
-    → Searching entries n found r
-find-miss entries index n found at r b indexed g l e f t =
-    let h = hash-of (entry-at entries n) in
-    let last = linked entries index n found at r indexed g l e in
-    let below = last-most entries h (at - 1) in
-    let under = g .under in
-    let most = g .most in
-    record {
-      under = omega arith;
-      most = omega arith;
-      none = λ i k m. elim (decLt i (at - 1)) [
-        | yes before ↦ behind entries n (at - 1) i (omega arith) before
-        | no not-before ↦ (
-            elim (ℕ-discrete i (at - 1)) [ yes here ↦ rw here (sym f ∙ t) | no not-here ↦ g .none i (omega arith) m ])
-      ];
-      hit = g .hit;
-      chain = λ i d. last-has entries h (at - 1) i (sym last ∙ d);
-    }
+    -- between the two none is equal
+    between : (i : ℕ) → r ≤ i → i < at - 1 → same-entry (entry-at entries n) (entry-at entries i) ≡ false
+    between i k m =
+        false-by (same-entry (entry-at entries n) (entry-at entries i)) (λ same.
+        omega (
+          arith,
+          walk-ahead (hashed entries) buckets (head-in 0 index) (link-in 2048 index) n h (indexed .chained)
+              (hash-below (entry-at entries n)) at r (g .walk) l to-next i (equal-hashed i same) (omega arith)
+              (λ e. omega arith),
+        ))
+
+    module _ (b : Bool) (is-b : b ≡ same-entry (entry-at entries n) (entry-at entries (at - 1))) where
+      -- The entry is equal to the one that is looked up.
+      pub find-hit : b ≡ true → Searching entries n (at - 1) r
+      find-hit t =
+          let less = find-less in
+          let under = g .under in
+          let most = g .most in
+          record { under = omega arith; most = omega arith; none = between; hit = λ _. sym is-b ∙ t; walk = onward }
+
+      -- It is not.
+      pub find-miss : b ≡ false → Searching entries n found r
+      find-miss t =
+          let less = find-less in
+          let under = g .under in
+          let most = g .most in
+          record {
+            under = omega arith;
+            most = omega arith;
+            none = λ i k m. elim (decLt i (at - 1)) [
+              | yes before ↦ between i k before
+              | no not-before ↦ (
+                  elim (ℕ-discrete i (at - 1)) [ yes here ↦ rw here (sym is-b ∙ t) | no not-here ↦ g .none i (omega arith) m ])
+            ];
+            hit = g .hit;
+            walk = onward;
+          }
 
 -- The chain has ended.
 pub find-end : (entries : List ℕ) (n found at : ℕ) → Searching entries n found at → at ≤ 0
@@ -336,96 +330,3 @@ find-end entries n found at g l = elim (decLt found n) [
       let all : found ≡ n = omega arith in
       all ∙ found-none entries n (λ i k. g .none i (omega arith) (omega arith)))
 ]
-
--- ---- one entry more
-
--- The two stores: the link of entry n into `one`, the head of its bucket into `two`.
-record Adding (entries index one two : List ℕ) (n h before : ℕ) : Type 0 where
-  indexed : Indexed entries index n
-  few : n ≤ most-entries
-  room : index-size ≤ length index
-  hash : h ≡ hash-of (entry-at entries n)
-  old : before ≡ number-at 2 index (0 + 2 * h)
-  link-stored : one ≡ sets index (2048 + 2 * n) (number-bytes 2 before)
-  head-stored : two ≡ sets one (0 + 2 * h) (number-bytes 2 (n + 1))
-
-module _ (entries index one two : List ℕ) (n h before : ℕ) (a : Adding entries index one two n h before) where
-  bucket-small : h < buckets
-  bucket-small = rw (a .hash) (hash-below (entry-at entries n))
-
-  long : length one ≡ length index
-  long = ap length (a .link-stored) ∙ length-sets index (2048 + 2 * n) (number-bytes 2 before)
-
-  before-last : before ≡ last-with entries h n
-  unfolding head-of
-  before-last = a .old ∙ a .indexed .heads h bucket-small
-
-  -- what the stores leave elsewhere
-  kept : (q : ℕ) → (q ≡ 0 + 2 * h → ⊥) → (q ≡ 0 + 2 * h + 1 → ⊥) → (q + 1 ≡ 0 + 2 * h → ⊥) → number-at 2 two q ≡ number-at 2 one q
-  kept q d e f = ap (λ (l : List ℕ). number-at 2 l q) (a .head-stored) ∙ written-elsewhere one (0 + 2 * h) q (n + 1) d e f
-
-  kept-before : (q : ℕ) → (q ≡ 2048 + 2 * n → ⊥) → (q ≡ 2048 + 2 * n + 1 → ⊥) → (q + 1 ≡ 2048 + 2 * n → ⊥)
-      → number-at 2 one q ≡ number-at 2 index q
-  kept-before q d e f =
-      ap (λ (l : List ℕ). number-at 2 l q) (a .link-stored) ∙ written-elsewhere index (2048 + 2 * n) q before d e f
-
-  head-new : head-of two h ≡ n + 1
-  unfolding head-of
-  head-new =
-      let there = bucket-small in
-      let same = long in
-      let room = a .room in
-      let few = a .few in
-      ap (λ (l : List ℕ). number-at 2 l (0 + 2 * h)) (a .head-stored) ∙ stored-read one (0 + 2 * h) (n + 1) (omega arith) (omega arith)
-
-  head-old : (g : ℕ) → g < buckets → (g ≡ h → ⊥) → head-of two g ≡ head-of index g
-  unfolding head-of
-  head-old g l apart =
-      kept (0 + 2 * g) (λ e. apart (omega arith)) (λ e. omega arith) (λ e. omega arith)
-      ∙ kept-before (0 + 2 * g) (λ e. omega arith) (λ e. omega arith) (λ e. omega arith)
-
-  link-new : link-of two n ≡ before
-  unfolding link-of
-  link-new =
-      let there = bucket-small in
-      let room = a .room in
-      let few = a .few in
-      let last = before-last in
-      let most = last-most entries h n in
-      kept (2048 + 2 * n) (λ e. omega arith) (λ e. omega arith) (λ e. omega arith)
-      ∙ ap (λ (l : List ℕ). number-at 2 l (2048 + 2 * n)) (a .link-stored)
-      ∙ stored-read index (2048 + 2 * n) before (omega arith) (omega arith)
-
-  link-old : (i : ℕ) → i < n → link-of two i ≡ link-of index i
-  unfolding link-of
-  link-old i l =
-      let there = bucket-small in
-      kept (2048 + 2 * i) (λ e. omega arith) (λ e. omega arith) (λ e. omega arith)
-      ∙ kept-before (2048 + 2 * i) (λ e. omega arith) (λ e. omega arith) (λ e. omega arith)
-
-  added : Indexed entries two (n + 1)
-  added = record { heads = heads; links = links }
-    where
-      heads : (g : ℕ) → g < buckets → head-of two g ≡ last-with entries g (n + 1)
-      heads g l = elim (ℕ-discrete g h) [
-        | yes same ↦ rw (same, head-new, add-one n) (sym (last-new entries h n (sym (a .hash))))
-        | no apart ↦ rw (add-one n) (head-old g l apart ∙ a .indexed .heads g l
-            ∙ sym (last-old entries g n (λ e. apart (sym e ∙ sym (a .hash)))))
-      ]
-
-      links : (i : ℕ) → i < n + 1 → link-of two i ≡ last-with entries (hash-of (entry-at entries i)) i
-      links i l = elim (decLt i n) [
-        | yes m ↦ link-old i m ∙ a .indexed .links i m
-        | no m ↦ (
-            let same : i ≡ n = omega arith in
-            rw (same, ← a .hash) (link-new ∙ before-last))
-      ]
-
--- After the two stores the index is one of one entry more.
-pub add-entry : (entries index one two : List ℕ) (n h before : ℕ) → Indexed entries index n → n ≤ most-entries
-    → index-size ≤ length index → h ≡ hash-of (entry-at entries n) → before ≡ number-at 2 index (0 + 2 * h)
-    → one ≡ sets index (2048 + 2 * n) (number-bytes 2 before) → two ≡ sets one (0 + 2 * h) (number-bytes 2 (n + 1))
-    → Indexed entries two (n + 1)
-add-entry entries index one two n h before indexed few room e b o t =
-    added entries index one two n h before
-    (record { indexed = indexed; few = few; room = room; hash = e; old = b; link-stored = o; head-stored = t })

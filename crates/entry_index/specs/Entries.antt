@@ -1,13 +1,13 @@
 -- Entries of fixed size, one behind the other, and an index by which one is found again without a comparison with all of them.
-use Prim.Native.Nat.{ℕ, zero, suc, _+_, _*_, _%_, _<_}
+use Prim.Native.Nat.{ℕ, zero, suc, _+_, _*_, _%_}
 use mathlib.Core.Path.{_≡_}
 use mathlib.Core.Bool.{Bool}
 use mathlib.Core.List.{List, map}
 use lib.ListN.{take, drop}
 use lib.Dec.{eqb}
-use Rattle.base.specs.Choice.{pick}
 use Rattle.base.specs.Bytes.{number-at}
 use Rattle.base.specs.Lists.{below, same-list}
+use Rattle.chains.specs.Chains.{Chained, head-in, link-in}
 
 -- ---- entries
 
@@ -58,10 +58,9 @@ hash-upto entry (suc k) = mix (hash-upto entry k) (number-at 4 entry (8 * k)) (n
 unfoldable pub hash-of : List ℕ → ℕ
 hash-of entry = mix (hash-upto entry entry-eights) (number-at 4 entry 56) (number-at 2 entry 60) % buckets
 
--- of the first n entries the last with the hash h: its number plus one, or 0 if there is none
-unfoldable pub last-with : List ℕ → ℕ → ℕ → ℕ
-last-with entries h zero = 0
-last-with entries h (suc n) = pick (eqb (hash-of (entry-at entries n)) h) (λ _. suc n) (λ _. last-with entries h n)
+-- entry i has the hash h
+abbrev pub hashed : List ℕ → ℕ → ℕ → Type 0
+hashed entries i h = hash-of (entry-at entries i) ≡ h
 
 -- ---- the index
 
@@ -77,16 +76,6 @@ heads-at = 0
 abbrev pub links-at : ℕ
 links-at = 2048
 
--- the head of bucket h
-unfoldable pub head-of : List ℕ → ℕ → ℕ
-head-of index h = number-at 2 index (heads-at + 2 * h)
-
--- the link of entry i
-unfoldable pub link-of : List ℕ → ℕ → ℕ
-link-of index i = number-at 2 index (links-at + 2 * i)
-
--- The index is one of the first n entries: each bucket leads to the last entry with its hash, and each entry to the last one before it
--- with the same hash.
+-- The index is one of the first n entries: a bucket for each hash, with the entries that have it.
 pub record Indexed (entries index : List ℕ) (n : ℕ) : Type 0 where
-  pub heads : (h : ℕ) → h < buckets → head-of index h ≡ last-with entries h n
-  pub links : (i : ℕ) → i < n → link-of index i ≡ last-with entries (hash-of (entry-at entries i)) i
+  pub chained : Chained (hashed entries) buckets (head-in heads-at index) (link-in links-at index) n

@@ -5,8 +5,9 @@ ghost use mathlib.Core.Path.{_≡_};
 ghost use lib.ListN.{length};
 ghost use Rattle.base.specs.Bytes.{number-at};
 ghost use Rattle.base.specs.Lists.{place-of};
-ghost use Rattle.entry_index.specs.Entries.{entry-size, most-entries, entries-size, index-size};
-ghost use Rattle.entry_index.specs.Entries.{entry-at, entries-of, same-entry, mix, hash-of, head-of, link-of, Indexed};
+ghost use Rattle.chains.specs.Chains.{head-in, link-in};
+ghost use Rattle.entry_index.specs.Entries.{entry-size, most-entries, entries-size, index-size, heads-at, links-at};
+ghost use Rattle.entry_index.specs.Entries.{entry-at, entries-of, same-entry, mix, hash-of, Indexed};
 
 // The bytes of an entry.
 const ENTRY_SIZE: usize = 62;
@@ -100,18 +101,18 @@ fn head(entries: &[u8], index: &[u8], n: usize) -> usize
     requires { ⌜ n ≤ most-entries ⌝ }
     requires { ⌜ entries-size ≤ length (now entries) ⌝ }
     requires { ⌜ index-size ≤ length (now index) ⌝ }
-    ensures { λ r. ⌜ r ≡ head-of (now (index .entry)) (hash-of (entry-at (now (entries .entry)) n)) ⌝ }
+    ensures { λ r. ⌜ r ≡ head-in heads-at (now (index .entry)) (hash-of (entry-at (now (entries .entry)) n)) ⌝ }
 {
-    lent_bytes::two_bytes(index, HEADS_AT + 2 * hash(entries, n))
+    chains::head(index, HEADS_AT, hash(entries, n))
 }
 
 // The link of entry i: the last entry before i with the same hash, plus one, or 0.
 fn link(index: &[u8], i: usize) -> usize
     requires { ⌜ i < most-entries ⌝ }
     requires { ⌜ index-size ≤ length (now index) ⌝ }
-    ensures { λ r. ⌜ r ≡ link-of (now (index .entry)) i ⌝ }
+    ensures { λ r. ⌜ r ≡ link-in links-at (now (index .entry)) i ⌝ }
 {
-    lent_bytes::two_bytes(index, LINKS_AT + 2 * i)
+    chains::link(index, LINKS_AT, i)
 }
 
 // The number of the first of n entries that is equal to entry n, or n if there is none.
@@ -142,8 +143,15 @@ pub fn add(entries: &[u8], index: &mut [u8], n: usize)
     requires { ⌜ index-size ≤ length (now index) ⌝ }
     ensures { λ _. ⌜ Indexed (now (entries .entry)) (now (index .exit)) (n + 1) ⌝ }
 {
-    let head_at = HEADS_AT + 2 * hash(entries, n);
-    let before = lent_bytes::two_bytes(index, head_at);
-    lent_bytes::put_two_bytes(index, LINKS_AT + 2 * n, before);
-    lent_bytes::put_two_bytes(index, head_at, n + 1);
+    chains::add(index, HEADS_AT, LINKS_AT, hash(entries, n), n);
+}
+
+// Empties the index and brings entry 0 into it.
+pub fn begin(entries: &[u8], index: &mut [u8])
+    requires { ⌜ entries-size ≤ length (now entries) ⌝ }
+    requires { ⌜ index-size ≤ length (now index) ⌝ }
+    ensures { λ _. ⌜ Indexed (now (entries .entry)) (now (index .exit)) 1 ⌝ }
+{
+    lent_bytes::clear(index);
+    add(entries, index, 0);
 }

@@ -78,13 +78,17 @@ pub fn read_file(path: &[u8], buf: &mut [u8]) -> Contents
     contents
 }
 
-// The program's argument of that number, or that it is too long. The usage calls it `what`.
+// The program's argument of that number, or that it is empty or too long. The usage calls it `what`.
 pub fn argument(number: usize, what: &[u8], buf: &mut [u8]) -> Contents
     ensures { λ r. ⌜ Holds r (now (buf .exit)) ⌝ }
 {
     let n = os::arg(number, buf);
     if os::errno() != 0 {
         os::fail(what);
+        return Contents::Failed;
+    }
+    if n == 0 {
+        saying::in_file(what, b"the name is empty");
         return Contents::Failed;
     }
     Contents::Bytes(n)

@@ -25,8 +25,7 @@ fn write_more(fd: i32, path: &[u8], bytes: &[u8], done: usize) -> Written
     }
     let more = io::count(put, &bytes[done..]);
     if more == 0 {
-        io::write_all(libc::STDERR_FILENO, path);
-        io::write_all(libc::STDERR_FILENO, b": nothing was written\n");
+        saying::in_file(path, b"nothing was written");
         return Written::Failed;
     }
     Written::On(done + more)
@@ -92,12 +91,12 @@ fn fill(fd: i32, path: &[u8], bytes: &[u8]) -> bool {
 fn sync_folder(folder: &[u8]) -> bool {
     let fd = os::open_read(folder);
     if fd < 0 {
-        os::fail(folder);
+        os::fail(b"the folder of the table");
         return false;
     }
     if !sync(fd) {
         if os::errno() != libc::EINVAL {
-            os::fail(folder);
+            os::fail(b"the folder of the table");
             libc::close(fd);
             return false;
         }
@@ -106,13 +105,8 @@ fn sync_folder(folder: &[u8]) -> bool {
     true
 }
 
-// The temporary file takes the name, and the folder is told.
-fn replace(temporary: &[u8], path: &[u8]) -> bool {
-    if os::rename(temporary, path) != 0 {
-        os::fail(path);
-        os::unlink(temporary);
-        return false;
-    }
+// The folder of a file, synced.
+fn sync_folder_of(path: &[u8]) -> bool {
     let end = naming::folder_end(path);
     if end == 0 {
         return sync_folder(b".");
@@ -120,24 +114,40 @@ fn replace(temporary: &[u8], path: &[u8]) -> bool {
     sync_folder(&path[..end])
 }
 
-// Makes the temporary file, fills it, and has it replace the file of that name.
-fn save_by(temporary: &[u8], path: &[u8], bytes: &[u8]) -> bool {
-    let fd = os::create(temporary);
-    if fd < 0 {
-        os::fail(temporary);
+// Says that nothing was written, and what that means for a file of this name.
+pub fn unchanged(path: &[u8]) {
+    saying::in_file(
+        path,
+        b"no table was written; a file of this name, if there is one, is unchanged and from before",
+    );
+}
+
+// The temporary file takes the name.
+fn replace(temporary: &[u8], path: &[u8]) -> bool {
+    if os::rename(temporary, path) != 0 {
+        os::fail(path);
+        os::unlink(temporary);
         return false;
     }
-    if !fill(fd, temporary, bytes) {
+    true
+}
+
+// Makes the temporary file, fills it, and has it replace the file of that name.
+fn replace_by(temporary: &[u8], path: &[u8], bytes: &[u8]) -> bool {
+    let fd = os::create(temporary);
+    if fd < 0 {
+        os::fail(path);
+        return false;
+    }
+    if !fill(fd, path, bytes) {
         os::unlink(temporary);
         return false;
     }
     replace(temporary, path)
 }
 
-// Writes a file: first under another name in the same folder, whole and on the device, which then
-// replaces the old one. So at any moment the old file or the new one is there, whole. Where it
-// fails it says why, and leaves no other file behind.
-pub fn save(path: &[u8], bytes: &[u8]) -> bool {
+// The same, with a name for the temporary file.
+fn put_in_place(path: &[u8], bytes: &[u8]) -> bool {
     let mut name = [0u8; 4096];
     let mut random = [0u8; 4];
     if libc::getentropy(&mut random) != 0 {
@@ -145,5 +155,23 @@ pub fn save(path: &[u8], bytes: &[u8]) -> bool {
         return false;
     }
     let n = naming::temporary(path, &random, &mut name);
-    save_by(&name[..n], path, bytes)
+    replace_by(&name[..n], path, bytes)
+}
+
+// Writes a file: first under another name in the same folder, whole and on the device, which then
+// replaces the old one; then the folder is told. So at any moment the old file or the new one is there,
+// whole. Where it fails it says why and which of the two is there, and leaves no other file behind.
+pub fn save(path: &[u8], bytes: &[u8]) -> bool {
+    if !put_in_place(path, bytes) {
+        unchanged(path);
+        return false;
+    }
+    if !sync_folder_of(path) {
+        saying::in_file(
+            path,
+            b"the new table is in place; whether it or the old one is there after a power failure is open, since the folder is not synced",
+        );
+        return false;
+    }
+    true
 }

@@ -11,11 +11,18 @@ use Rattle.base.specs.declared.FollowAnswer.the-variants.{Row, Refused}
 use Rattle.base.proofs.Answers.{if-on, if-refuses}
 use Rattle.logic.specs.Tables.{move}
 use Rattle.reading.specs.TableReading.{laid-out, rows-of, table-actions, table-of}
+use Rattle.base.specs.Answers.{follow-said}
+use Rattle.base.specs.declared.FollowAnswer.{FollowAnswer}
+use Rattle.follower.specs.Following.{Follows}
 use Rattle.outcome.specs.Follow.{stepped, row-after, follow-answer, follow-outcome}
 use Rattle.table_reader.specs.Moves.{target-read}
 use Rattle.table_reader.specs.declared.Target.{Target}
 use Rattle.table_reader.specs.declared.Target.the-variants as Read
 use Rattle.table_reader.proofs.Laws.{target-row, target-nothing}
+
+-- An answer that is the outcome's is promised.
+pub promised : (r : FollowAnswer) (table : List ℕ) (row action : ℕ) → r ≡ follow-outcome table row action → Follows r table row action
+promised r table row action e = record { answer = e; said = ap follow-said e }
 
 module _ (table : List ℕ) (row action : ℕ) where
   -- What the definition gives is what the follower answers.

@@ -1,6 +1,5 @@
 // The follower: what a table does at one action. This is the entry that runs on every clavier.
-ghost use mathlib.Core.Path.{_≡_};
-ghost use Rattle.outcome.specs.Follow.{follow-outcome};
+ghost use Rattle.follower.specs.Following.{Follows};
 use base::FollowAnswer;
 use base::Refusal;
 use table_reader::Target;
@@ -9,7 +8,7 @@ use table_reader::Target;
 // out as a table file, 17 if the row or the action lies outside the table, 18 if the action is not
 // allowed in that row.
 pub fn follow(table: &[u8], row: usize, action: usize) -> FollowAnswer
-    ensures { λ r. ⌜ r ≡ follow-outcome (now (table .entry)) row action ⌝ }
+    ensures { λ r. ⌜ Follows r (now (table .entry)) row action ⌝ }
 {
     if !table_reader::laid_out(table) {
         return FollowAnswer::Refused(Refusal::Layout);

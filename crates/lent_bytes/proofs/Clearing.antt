@@ -1,11 +1,13 @@
 -- A loop that clears an area from its first byte on.
 use Prim.Native.Nat.{ℕ, _+_, _≤_, _<_}
 use native.Mathlib.Omega.{arith}
+use native.Mathlib.Decide.{decLt}
 use native.Mathlib.Numerals.{add-one}
 use mathlib.Core.Path.{_≡_, refl, sym, _∙_, ap}
 use mathlib.Core.List.{List, [], _∷_, _++_}
-use lib.ListN.{length, set, take, replicate, length-set, replicate-append-replicate}
+use lib.ListN.{length, set, take, replicate, length-set, length-replicate, replicate-append-replicate, getD-replicate, List·getD-eq-default}
 use lib.Seq.{take-all, take-suc-set}
+use Rattle.base.specs.Bytes.{byte-at}
 
 -- The first i bytes are cleared.
 pub record Clearing (first : List ℕ) (n : ℕ) (cells : List ℕ) (i : ℕ) : Type 0 where
@@ -32,3 +34,10 @@ module _ (first : List ℕ) (n : ℕ) (cells : List ℕ) (i : ℕ) (going : Clea
   clear-end done =
       let whole : i ≡ length first = omega (arith, going .all, going .low) in
       sym (take-all i cells (omega (arith, going .size))) ∙ going .done ∙ ap (λ m. replicate m 0) whole
+
+-- Every byte of a cleared area is 0.
+pub cleared-byte : (size p : ℕ) → _≡_ {A = ℕ} (byte-at (replicate size 0) p) 0
+cleared-byte size p = elim (decLt p size) [
+  | yes l ↦ getD-replicate size p 0 0 l
+  | no l ↦ List·getD-eq-default (replicate size 0) 0 (omega (arith, length-replicate {A = ℕ} size 0))
+]

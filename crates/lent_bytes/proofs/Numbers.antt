@@ -1,15 +1,16 @@
--- Two-byte numbers in files and lent areas: read, written, and read back.
+-- Numbers of one byte or two in files and lent areas: read, written, and read back.
 use Prim.Native.Nat.{ℕ, suc, _+_, _*_, _/_, _%_, _≤_, _<_}
 use native.Mathlib.Omega.{arith}
 use native.Mathlib.Numerals.{add-one}
-use mathlib.Core.Path.{_≡_, _∙_}
+use mathlib.Core.Path.{_≡_, sym, _∙_}
 use mathlib.Core.Logic.{_⊎_, inl, inr}
 use mathlib.Core.List.{List}
 use lib.ListN.{length, getD, set, take, length-set}
-use lib.Seq.{sets, length-sets, getD-set-same, getD-set-other, take-set-le, getD-take}
+use lib.Seq.{sets, length-sets, getD-set-same, getD-set-other, take-set-le}
 use mir.Syntax.{w8, w64}
 use mir.Val.{Fits}
 use Rattle.base.specs.Bytes.{number-at, number-bytes}
+use Rattle.base.proofs.Bytes.{number-at-one}
 
 -- ---- bytes
 
@@ -38,6 +39,34 @@ byte-fits n = omega arith
 pub two-written : (l : List ℕ) (p n : ℕ) → set (set l p (n % 256)) (p + 1) (n / 256 % 256) ≡ sets l p (number-bytes 2 n)
 unfolding number-bytes
 two-written l p n = rw (add-one p)
+
+-- ---- one byte or two
+
+-- A number that is not of one byte is of two.
+two-wide : (width : ℕ) → 1 ≤ width → width ≤ 2 → (width ≡ 1 → ⊥) → width ≡ 2
+two-wide width h k f = omega arith
+
+-- In one byte: the number is that byte.
+pub number-one : (l : List ℕ) (p width : ℕ) → width ≡ 1 → getD l p 0 ≡ number-at width l p
+number-one l p width e = rw e (sym (number-at-one l p))
+
+-- In two: it is what they spell.
+pub number-two : (l : List ℕ) (p width r : ℕ) → 1 ≤ width → width ≤ 2 → (width ≡ 1 → ⊥) → r ≡ number-at 2 l p → r ≡ number-at width l p
+number-two l p width r h k f e = rw (two-wide width h k f) e
+
+-- Both bytes are there.
+pub two-there : (l : List ℕ) (p width : ℕ) → 1 ≤ width → width ≤ 2 → (width ≡ 1 → ⊥) → p + width ≤ length l → p + 1 < length l
+two-there l p width h k f le = omega (arith, two-wide width h k f)
+
+-- Written in one byte,
+pub one-put : (l : List ℕ) (p width n : ℕ) → width ≡ 1 → set l p (n % 256) ≡ sets l p (number-bytes width n)
+unfolding number-bytes
+one-put l p width n e = rw e
+
+-- and in two.
+pub two-put : (l z : List ℕ) (p width n : ℕ) → 1 ≤ width → width ≤ 2 → (width ≡ 1 → ⊥) → z ≡ sets l p (number-bytes 2 n)
+    → z ≡ sets l p (number-bytes width n)
+two-put l z p width n h k f e = rw (two-wide width h k f) e
 
 -- ---- numbers written
 
@@ -87,11 +116,3 @@ take-stored k l p n h = take-set-le k (set l p (n % 256)) (suc p) (n / 256 % 256
 -- The area is as long as it was.
 pub length-stored : (l : List ℕ) (p n : ℕ) → length (stored l p n) ≡ length l
 length-stored l p n = length-sets l p (number-bytes 2 n)
-
--- A number that ends in a part is read from that part.
-pub number-in-part : (k : ℕ) (l : List ℕ) (p : ℕ) → p + 1 < k → number-at 2 (take k l) p ≡ number-at 2 l p
-unfolding number-at
-number-in-part k l p h =
-    let a = getD-take k l p 0 (omega arith) in
-    let b = getD-take k l (p + 1) 0 (omega arith) in
-    omega arith

@@ -1,5 +1,5 @@
-// Two-byte numbers in files and lent areas, the low byte first, and areas that are cleared.
-ghost use Prim.Native.Nat.{_+_, _<_};
+// Numbers of one byte or two in files and lent areas, the low byte first, and areas that are cleared.
+ghost use Prim.Native.Nat.{_+_, _≤_, _<_};
 ghost use mathlib.Core.Path.{_≡_};
 ghost use lib.ListN.{length, replicate};
 ghost use lib.Seq.{sets};
@@ -20,6 +20,33 @@ pub fn put_two_bytes(bytes: &mut [u8], p: usize, n: usize)
 {
     bytes[p] = (n % 256) as u8;
     bytes[p + 1] = (n / 256 % 256) as u8;
+}
+
+// The number in `width` bytes at p, one or two.
+pub fn number(bytes: &[u8], p: usize, width: usize) -> usize
+    requires { ⌜ 1 ≤ width ⌝ }
+    requires { ⌜ width ≤ 2 ⌝ }
+    requires { ⌜ p + width ≤ length (now bytes) ⌝ }
+    ensures { λ r. ⌜ r ≡ number-at width (now (bytes .entry)) p ⌝ }
+{
+    if width == 1 {
+        return bytes[p] as usize;
+    }
+    two_bytes(bytes, p)
+}
+
+// Writes n in `width` bytes at p, one or two.
+pub fn put_number(bytes: &mut [u8], p: usize, width: usize, n: usize)
+    requires { ⌜ 1 ≤ width ⌝ }
+    requires { ⌜ width ≤ 2 ⌝ }
+    requires { ⌜ p + width ≤ length (now bytes) ⌝ }
+    ensures { λ _. ⌜ now (bytes .exit) ≡ sets (now (bytes .entry)) p (number-bytes width n) ⌝ }
+{
+    if width == 1 {
+        bytes[p] = (n % 256) as u8;
+        return;
+    }
+    put_two_bytes(bytes, p, n);
 }
 
 // Every byte is zero.

@@ -10,11 +10,12 @@ use borrow.Author.Tests.{eq-eqb, ne-eqb}
 use Rattle.base.specs.Lists.{joined, count-from, total}
 use Rattle.base.proofs.Lists.{length-joined}
 use Rattle.base.specs.Text.{ascii}
-use Rattle.logic.specs.Tower.{most-states, most-actions}
+use Rattle.logic.specs.Tower.{most-actions}
 use Rattle.logic.specs.Tables.{row-at}
 use Rattle.logic.specs.TableFile.{most-rows}
 use Rattle.reading.specs.TableReading.{rows-of, steps-of, table-actions, row-state, row-count, row-first, step-action, step-target, steps-right, laid-out, step-of, row-of-table, table-of}
 use Rattle.reading.proofs.LaidOut.{steps-right-out, row-of-table-at}
+use Rattle.reading.proofs.TableHeader.{table-layout-fits}
 use Rattle.table_reader.proofs.Laws.{laid-out-known}
 use Rattle.texts.specs.Decimal.{decimal}
 use Rattle.texts.proofs.Decimals.{few-digits}
@@ -66,7 +67,7 @@ step-short bytes i h l =
     ))
 
 pub row-short : (bytes : List ℕ) (r : ℕ) → laid-out bytes ≡ true → r < rows-of bytes → length (row-line r (row-at (table-of bytes) r)) ≤ 4096
-unfolding row-line row-of-table ascii line-end total most-rows most-states most-actions
+unfolding row-line row-of-table ascii line-end total most-rows most-actions
 row-short bytes r h l =
     let known = laid-out-known bytes h in
     let steps = steps-text (map (step-of bytes) (count-from (row-first bytes r) (row-count bytes r))) in
@@ -74,7 +75,7 @@ row-short bytes r h l =
     (omega (
       arith,
       few-digits 3 r (omega (arith, known .header .few-rows)),
-      few-digits 2 (row-state bytes r) (omega (arith, known .row r l .state, known .header .few-states)),
+      few-digits 2 (row-state bytes r) (omega (arith, known .row r l .state, known .header .few-states, table-layout-fits bytes .few-states)),
       steps-short bytes (row-count bytes r) (row-first bytes r) (λ j k. step-short bytes j h (omega (arith, known .row r l .last))),
       few-steps bytes (row-count bytes r) 0 (row-first bytes r) (known .row r l .steps) (omega arith),
       known .header .few-actions,

@@ -12,7 +12,7 @@ use mir.Val.{Fits}
 use Rattle.base.specs.Lists.{joined, count-from}
 use Rattle.base.specs.Text.{ascii}
 use Rattle.base.specs.Answers.{refusal-said, letter-of}
-use Rattle.base.specs.declared.Reason.the-variants.{Start, Withheld, Step, Stopped, Broken}
+use Rattle.base.specs.declared.Reason.the-variants.{Start, Withheld, WrongStep, Stopped, Broken}
 use Rattle.base.specs.declared.Refusal.{Refusal}
 use Rattle.base.specs.declared.Refusal.the-variants.{TowerSize, Range, Action, Target, Mask, Grammar, Number, Mark, Limit, Timed, Pairs, NoTable, Layout, NotGood, Area, Output, Outside, NotAllowed}
 use Rattle.refusal_numbers.specs.Parts.{said-number, said-place, said-letter}
@@ -169,7 +169,7 @@ said-by NoTable = refl
 said-by Layout = refl
 said-by (NotGood Start) = refl
 said-by (NotGood (Withheld row)) = refl
-said-by (NotGood (Step row)) = refl
+said-by (NotGood (WrongStep row)) = refl
 said-by (NotGood (Stopped row)) = refl
 said-by (NotGood Broken) = refl
 said-by Area = refl

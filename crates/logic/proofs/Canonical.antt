@@ -14,7 +14,7 @@ use Rattle.base.proofs.Pigeonhole.{pigeonhole}
 use Rattle.logic.specs.Tower.{Tower}
 use Rattle.logic.specs.Book.{Book}
 use Rattle.logic.specs.Runs.{leads, IsRun}
-use Rattle.logic.specs.Tables.{Step, Row, Table, row-at, step-to, move, AllowsFrom, Allows, Once, IsTable, GoodStart, StepsRight, Good, GoodAllow, OneRow, Ascending, Meets, FirstMet, Made}
+use Rattle.logic.specs.Tables.{Step, Row, Table, row-at, step-to, move, AllowsFrom, Allows, Once, IsTable, GoodStart, StepsRight, Good, GoodAllow, OneRow, Ascending, Meets, FirstMet, IsMade}
 use Rattle.logic.proofs.Leads.{leads-nil, leads-out, leads-in, append-in, append-out, leads-one, snoc-in}
 
 -- ---- steps
@@ -301,7 +301,7 @@ pub record Canonical (tower : Tower) (table : Table) : Type 0 where
   pub first-met : FirstMet 0 1 table
 
 -- The made table is in canonical form.
-pub made-canonical : (tower : Tower) (book : Book) (table : Table) → Made tower book table → Canonical tower table
+pub made-canonical : (tower : Tower) (book : Book) (table : Table) → IsMade tower book table → Canonical tower table
 made-canonical tower book table m =
     record { follows = good-follows tower book table (m .good); apart = m .apart; ascending = m .ascending; first-met = m .first-met }
 
@@ -471,7 +471,7 @@ canonical-unique tower table other c d same =
         rw e at (met-alike tower table other (c .follows) (d .follows) same [] 0 0 (leads-nil (move table) 0) (leads-nil (move other) 0))
 
 -- Under two books, made tables are equal if good tables allow the same runs.
-pub made-unique : (tower : Tower) (book other-book : Book) (table other : Table) → Made tower book table → Made tower other-book other
+pub made-unique : (tower : Tower) (book other-book : Book) (table other : Table) → IsMade tower book table → IsMade tower other-book other
     → ((w : List ℕ) → GoodAllow tower book w ↔ GoodAllow tower other-book w) → table ≡ other
 made-unique tower book other-book table other m n same =
     canonical-unique tower table other (made-canonical tower book table m) (made-canonical tower other-book other n) (λ w.
@@ -493,7 +493,7 @@ fewest tower table other c g same =
         let alike = met-alike tower table other (c .follows) g same w r s e f in (s, alike .other-row, alike)
 
 -- No table that follows the tower and allows just the runs that good tables allow has fewer rows than the made one.
-pub made-fewest : (tower : Tower) (book : Book) (table other : Table) → Made tower book table → Follows tower other
+pub made-fewest : (tower : Tower) (book : Book) (table other : Table) → IsMade tower book table → Follows tower other
     → ((w : List ℕ) → Allows other w ↔ GoodAllow tower book w) → length table ≤ length other
 made-fewest tower book table other m g same =
     fewest tower table other (made-canonical tower book table m) g (λ w.

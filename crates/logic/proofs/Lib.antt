@@ -1,4 +1,5 @@
 pub mod Leads
 pub mod Canonical
+pub mod Layouts
 pub mod TableFile
 pub mod TowerFile

@@ -1,7 +1,7 @@
 -- A table as bytes: which tables fit a file, how many steps they have, and how long the file is.
 use Prim.Native.Nat.{ℕ, _+_, _*_, _≤_, _<_}
 use native.Mathlib.Omega.{arith}
-use native.Mathlib.Nat.{le-trans, mul-le-mul}
+use native.Mathlib.Nat.{le-trans, mul-le-mul, mul-suc}
 use mathlib.Core.Path.{_≡_, refl, _∙_, ap}
 use mathlib.Core.Option.{some}
 use mathlib.Core.List.{List, [], _∷_, _++_, map, List·Memᴰ, List·Memᴰ·head, List·Memᴰ·tail}
@@ -10,17 +10,20 @@ use Rattle.base.specs.Lists.{joined}
 use Rattle.base.specs.Bytes.{number-bytes}
 use Rattle.base.proofs.Lists.{mem-index, mem-getD}
 use Rattle.base.proofs.Bytes.{AllBytes, length-number-bytes, number-bytes-bytes, no-bytes, append-bytes}
-use Rattle.logic.specs.Tower.{Tower, Listed, most-states, most-actions, state-width}
+use Rattle.logic.specs.declared.FileLayout.{FileLayout}
+use Rattle.logic.specs.Tower.{Tower, Listed, most-actions}
 use Rattle.logic.specs.Book.{Book}
-use Rattle.logic.specs.Tables.{Step, Row, Table, row-at, step-to, move, IsTable, StepsRight, Ascending, Made}
+use Rattle.logic.specs.Tables.{Step, Row, Table, row-at, step-to, move, IsTable, StepsRight, Ascending, IsMade}
 use Rattle.logic.specs.TableFile.{most-rows, rows-at, row-size, step-size, steps-at, all-steps, step-bytes, row-bytes, header-bytes, table-file}
 use Rattle.logic.proofs.Canonical.{step-found, step-member, ascending-once, arrives, first-met-reached, Canonical, made-canonical}
+use Rattle.logic.proofs.Layouts.{IsLayout}
 use Rattle.logic.proofs.TowerFile.{TowerFits, leads-to-state}
 
--- The table fits a file for so many states and actions.
-pub record Fits (states actions : ℕ) (table : Table) : Type 0 where
+-- The table fits a file of this layout for so many states and actions.
+pub record Fits (layout : FileLayout) (states actions : ℕ) (table : Table) : Type 0 where
+  pub laid : IsLayout layout
   pub a-state : 1 ≤ states
-  pub few-states : states ≤ most-states
+  pub few-states : states ≤ layout .most
   pub an-action : 1 ≤ actions
   pub few-actions : actions ≤ most-actions
   pub few-rows : length table ≤ most-rows
@@ -45,10 +48,10 @@ unfolding move
 move-step table r a s e = e
 
 -- Every row of a table that fits does.
-pub fits-row : (states actions : ℕ) (table : Table) → Fits states actions table → (row : Row) → List·Memᴰ row table
-    → RowFits states actions (length table) row
+pub fits-row : (layout : FileLayout) (states actions : ℕ) (table : Table) → Fits layout states actions table → (row : Row)
+    → List·Memᴰ row table → RowFits states actions (length table) row
 unfolding row-at move
-fits-row states actions table f row i = go (mem-index (record { state = 0; steps = [] }) i)
+fits-row layout states actions table f row i = go (mem-index (record { state = 0; steps = [] }) i)
   where
     go : (r : ℕ) × (r < length table) × (row-at table r ≡ row) → RowFits states actions (length table) row
     go (r, lt, e) =
@@ -63,11 +66,12 @@ fits-row states actions table f row i = go (mem-index (record { state = 0; steps
         found s k = rw e (step-found s (row .steps) (rw e at (f .is-table .once r lt)) k)
 
 -- A table fits if there are rows, not too many, for states and actions in range, and every row does.
-pub fits-by-rows : (states actions : ℕ) (table : Table) → 1 ≤ states → states ≤ most-states → 1 ≤ actions → actions ≤ most-actions
-    → 0 < length table → length table ≤ most-rows → ((row : Row) → List·Memᴰ row table → RowFits states actions (length table) row)
-    → Fits states actions table
-fits-by-rows states actions table a b c d there few fit =
+pub fits-by-rows : (layout : FileLayout) (states actions : ℕ) (table : Table) → IsLayout layout → 1 ≤ states → states ≤ layout .most
+    → 1 ≤ actions → actions ≤ most-actions → 0 < length table → length table ≤ most-rows
+    → ((row : Row) → List·Memᴰ row table → RowFits states actions (length table) row) → Fits layout states actions table
+fits-by-rows layout states actions table laid a b c d there few fit =
     record {
+      laid = laid;
       a-state = a;
       few-states = b;
       an-action = c;
@@ -93,11 +97,12 @@ fits-by-rows states actions table a b c d there few fit =
         (rw f at (at r lt .action t i), rw g at (at r lt .target t i))
 
 -- A canonical table for a tower that fits, with not too many rows, fits.
-pub canonical-fits : (tower : Tower) (table : Table) → TowerFits tower → Canonical tower table → length table ≤ most-rows
-    → Fits (tower .states) (tower .actions) table
+pub canonical-fits : (layout : FileLayout) (tower : Tower) (table : Table) → TowerFits layout tower → Canonical tower table
+    → length table ≤ most-rows → Fits layout (tower .states) (tower .actions) table
 unfolding Listed StepsRight
-canonical-fits tower table f c few =
+canonical-fits layout tower table f c few =
     record {
+      laid = f .laid;
       a-state = f .a-state;
       few-states = f .few-states;
       an-action = f .an-action;
@@ -112,9 +117,9 @@ canonical-fits tower table f c few =
     }
 
 -- A made table for a tower that fits, with not too many rows, fits.
-pub made-fits : (tower : Tower) (book : Book) (table : Table) → TowerFits tower → Made tower book table → length table ≤ most-rows
-    → Fits (tower .states) (tower .actions) table
-made-fits tower book table f m few = canonical-fits tower table f (made-canonical tower book table m) few
+pub made-fits : (layout : FileLayout) (tower : Tower) (book : Book) (table : Table) → TowerFits layout tower → IsMade tower book table
+    → length table ≤ most-rows → Fits layout (tower .states) (tower .actions) table
+made-fits layout tower book table f m few = canonical-fits layout tower table f (made-canonical tower book table m) few
 
 -- Ascending steps whose actions are below n, from the first of them on, are no more than there is room for.
 ascending-room : (n : ℕ) (s : Step) (steps : List Step) → Ascending (s ∷ steps) → ((t : Step) → List·Memᴰ t (s ∷ steps) → t .action < n)
@@ -155,27 +160,38 @@ few-steps states actions rows (row ∷ table) f =
     )
 
 -- A table that fits has at most 16,000 steps.
-pub fits-few-steps : (states actions : ℕ) (table : Table) → Fits states actions table → length (all-steps table) ≤ 16000
+pub fits-few-steps : (layout : FileLayout) (states actions : ℕ) (table : Table) → Fits layout states actions table
+    → length (all-steps table) ≤ 16000
 unfolding most-rows most-actions
-fits-few-steps states actions table f =
-    le-trans (few-steps states actions (length table) table (fits-row states actions table f)) (mul-le-mul (f .few-rows) (f .few-actions))
+fits-few-steps layout states actions table f =
+    le-trans (few-steps states actions (length table) table (fits-row layout states actions table f)) (mul-le-mul (f .few-rows) (f .few-actions))
 
 -- ---- lengths
 
 length-written : (width n : ℕ) (rest : List ℕ) → length (number-bytes width n ++ rest) ≡ width + length rest
 length-written width n rest = length-append (number-bytes width n) rest ∙ ap (λ m. m + length rest) (length-number-bytes width n)
 
+-- A row's state, step count and first step.
+row-size-is : (layout : FileLayout) → row-size layout ≡ layout .width + 3
+unfolding row-size
+row-size-is layout = refl
+
 -- The header is twelve bytes.
-pub length-header : (rows steps states actions : ℕ) → length (header-bytes rows steps states actions) ≡ rows-at
+pub length-header : (layout : FileLayout) (rows steps states actions : ℕ) → length (header-bytes layout rows steps states actions) ≡ rows-at
 unfolding header-bytes joined rows-at number-bytes
-length-header rows steps states actions = refl
+length-header layout rows steps states actions = refl
 
 -- A row is so many bytes.
-pub length-row-bytes : (first : ℕ) (rows : List Row) → length (row-bytes first rows) ≡ row-size * length rows
-unfolding row-bytes row-size
-length-row-bytes first [] = omega arith
-length-row-bytes first (row ∷ rows) =
-    simp length-written (omega (arith, length-row-bytes (first + length (row .steps)) rows))
+pub length-row-bytes : (layout : FileLayout) (first : ℕ) (rows : List Row) → length (row-bytes layout first rows) ≡ row-size layout * length rows
+unfolding row-bytes
+length-row-bytes layout first [] = omega arith
+length-row-bytes layout first (row ∷ rows) =
+    simp length-written (omega (
+      arith,
+      length-row-bytes layout (first + length (row .steps)) rows,
+      mul-suc (row-size layout) (length rows),
+      row-size-is layout,
+    ))
 
 -- A step is three bytes.
 pub length-step-bytes : (s : Step) → length (step-bytes s) ≡ step-size
@@ -190,10 +206,10 @@ length-steps-bytes (s ∷ steps) =
     rw (length-append (step-bytes s) (joined (map step-bytes steps)), length-step-bytes s) (omega (arith, length-steps-bytes steps))
 
 -- The length of a table's file: header, rows and steps.
-pub length-table-file : (states actions : ℕ) (table : Table)
-    → length (table-file states actions table) ≡ steps-at (length table) + step-size * length (all-steps table)
+pub length-table-file : (layout : FileLayout) (states actions : ℕ) (table : Table)
+    → length (table-file layout states actions table) ≡ steps-at layout (length table) + step-size * length (all-steps table)
 unfolding table-file steps-at
-length-table-file states actions table =
+length-table-file layout states actions table =
     simp (length-append, length-header, length-row-bytes, length-steps-bytes) (omega arith)
 
 -- ---- bytes
@@ -203,9 +219,9 @@ unfolding joined
 joined-bytes f [] h = no-bytes
 joined-bytes f (x ∷ xs) h = append-bytes (h x) (joined-bytes f xs h)
 
-row-bytes-bytes : (first : ℕ) (rows : List Row) → AllBytes (row-bytes first rows)
+row-bytes-bytes : (layout : FileLayout) (first : ℕ) (rows : List Row) → AllBytes (row-bytes layout first rows)
 unfolding row-bytes
-row-bytes-bytes first [] = no-bytes
-row-bytes-bytes first (row ∷ rows) =
-    append-bytes (number-bytes-bytes state-width (row .state)) (append-bytes (number-bytes-bytes 1 (length (row .steps)))
-    (append-bytes (number-bytes-bytes 2 first) (row-bytes-bytes (first + length (row .steps)) rows)))
+row-bytes-bytes layout first [] = no-bytes
+row-bytes-bytes layout first (row ∷ rows) =
+    append-bytes (number-bytes-bytes (layout .width) (row .state)) (append-bytes (number-bytes-bytes 1 (length (row .steps)))
+    (append-bytes (number-bytes-bytes 2 first) (row-bytes-bytes layout (first + length (row .steps)) rows)))

@@ -30,7 +30,7 @@ pub data Formula : Type 0 where
   -- `N ~t g`
   next : Comparison → Tick → Formula → Formula
   -- `A t g`
-  always : Tick → Formula → Formula
+  always-for : Tick → Formula → Formula
   -- `U t (f, g)`
   until : Tick → Formula → Formula → Formula
 
@@ -57,7 +57,7 @@ timed (proposition w k) = false
 timed (and f g) = timed f || timed g
 timed (or f g) = timed f || timed g
 timed (next c t g) = true
-timed (always t g) = true
+timed (always-for t g) = true
 timed (until t f g) = true
 
 -- At most one side of `|` is timed, and the second part of U is not.
@@ -67,12 +67,17 @@ timed-right (proposition w k) = true
 timed-right (and f g) = timed-right f && timed-right g
 timed-right (or f g) = not (timed f && timed g) && (timed-right f && timed-right g)
 timed-right (next c t g) = timed-right g
-timed-right (always t g) = timed-right g
+timed-right (always-for t g) = timed-right g
 timed-right (until t f g) = not (timed g) && (timed-right f && timed-right g)
 
 -- Every rule of the book has its timed formulas where they may be.
 unfoldable pub FitBook : Book → Type 0
 FitBook book = (rule : Rule) → List·Memᴰ rule book → timed-right (rule .formula) ≡ true
+
+-- Nodes by example. `always !p0 | E 3 p1` has five, in reading order with operands first:
+--   0: `!p0`   1: `T`   2: `p1`   3: `U 3 (T, p1)`, which `E 3 p1` means   4: the whole, a `|`
+-- A second line of five parts has the numbers 5 to 9. Node 4 has its second part in node 3, the one before it; node 3 has three parts, so
+-- the first part of node 4 is node 4 - 1 - 3, which is 0.
 
 -- The parts of a formula are its nodes, in reading order with operands first; the formula itself is the last.
 unfoldable pub parts : Formula → List Formula
@@ -81,7 +86,7 @@ parts (proposition w k) = proposition w k ∷ []
 parts (and f g) = parts f ++ (parts g ++ (and f g ∷ []))
 parts (or f g) = parts f ++ (parts g ++ (or f g ∷ []))
 parts (next c t g) = parts g ++ (next c t g ∷ [])
-parts (always t g) = parts g ++ (always t g ∷ [])
+parts (always-for t g) = parts g ++ (always-for t g ∷ [])
 parts (until t f g) = parts f ++ (parts g ++ (until t f g ∷ []))
 
 -- how many nodes a formula has

@@ -8,7 +8,7 @@ use mathlib.Core.List.{List, [], _∷_, map, List·Memᴰ}
 use lib.ListN.{length, getD, take}
 use Rattle.logic.specs.Time.{ticks, plus, AtMost, position, after, From, Before}
 use Rattle.logic.specs.Tower.{Tower}
-use Rattle.logic.specs.Book.{Formula, constant, proposition, and, or, next, always, until, compares, Form, at-start, everywhere, Rule, Book}
+use Rattle.logic.specs.Book.{Formula, constant, proposition, and, or, next, always-for, until, compares, Form, at-start, everywhere, Rule, Book}
 use Rattle.logic.specs.declared.Tick.{Tick}
 use Rattle.logic.specs.declared.Position.{Position}
 
@@ -74,7 +74,7 @@ KeptAt tower run (and f g) i = KeptAt tower run f i × KeptAt tower run g i
 KeptAt tower run (or f g) i = KeptAt tower run f i ⊎ KeptAt tower run g i
 KeptAt tower run (next c t g) i =
     (compares c (duration tower (moment run i)) t ≡ true) × (Judged run (after i) → KeptAt tower run g (after i))
-KeptAt tower run (always t g) i = (j : Position) → From i j → Judged run j → InTime tower run i j t → KeptAt tower run g j
+KeptAt tower run (always-for t g) i = (j : Position) → From i j → Judged run j → InTime tower run i j t → KeptAt tower run g j
 KeptAt tower run (until t f g) i =
     ((j : Position) × From i j × Judged run j × KeptAt tower run g j × InTime tower run i j t
     × ((k : Position) → From i k → Before k j → KeptAt tower run f k))

@@ -4,7 +4,7 @@ use mathlib.Core.List.{List, [], _∷_, _++_, map}
 use lib.ListN.{length}
 use Rattle.base.specs.Lists.{joined}
 use Rattle.base.specs.Bytes.{number-bytes}
-use Rattle.logic.specs.Tower.{state-width}
+use Rattle.logic.specs.declared.FileLayout.{FileLayout}
 use Rattle.logic.specs.Tables.{Step, Row, Table}
 
 -- the most rows of a file
@@ -16,16 +16,16 @@ unfoldable pub rows-at : ℕ
 rows-at = 12
 
 -- bytes of a row: the state, the step count and a two-byte first step
-unfoldable pub row-size : ℕ
-row-size = state-width + 3
+unfoldable pub row-size : FileLayout → ℕ
+row-size layout = layout .width + 3
 
 -- bytes of a step: the action and a two-byte target row
 unfoldable pub step-size : ℕ
 step-size = 3
 
 -- where the steps begin, in a file of so many rows
-unfoldable pub steps-at : ℕ → ℕ
-steps-at rows = rows-at + row-size * rows
+unfoldable pub steps-at : FileLayout → ℕ → ℕ
+steps-at layout rows = rows-at + row-size layout * rows
 
 -- all steps, packed in row order
 unfoldable pub all-steps : Table → List Step
@@ -36,19 +36,19 @@ unfoldable pub step-bytes : Step → List ℕ
 step-bytes s = number-bytes 1 (s .action) ++ number-bytes 2 (s .target)
 
 -- the rows' bytes; the first step counts from 0 over all steps
-unfoldable pub row-bytes : ℕ → List Row → List ℕ
-row-bytes first [] = []
-row-bytes first (row ∷ rows) =
-    number-bytes state-width (row .state)
-    ++ (number-bytes 1 (length (row .steps)) ++ (number-bytes 2 first ++ row-bytes (first + length (row .steps)) rows))
+unfoldable pub row-bytes : FileLayout → ℕ → List Row → List ℕ
+row-bytes layout first [] = []
+row-bytes layout first (row ∷ rows) =
+    number-bytes (layout .width) (row .state)
+    ++ (number-bytes 1 (length (row .steps)) ++ (number-bytes 2 first ++ row-bytes layout (first + length (row .steps)) rows))
 
 -- the six numbers of the header
-unfoldable pub header-bytes : ℕ → ℕ → ℕ → ℕ → List ℕ
-header-bytes rows steps states actions =
-    joined (map (number-bytes 2) (rows ∷ steps ∷ rows-at ∷ steps-at rows ∷ states ∷ actions ∷ []))
+unfoldable pub header-bytes : FileLayout → ℕ → ℕ → ℕ → ℕ → List ℕ
+header-bytes layout rows steps states actions =
+    joined (map (number-bytes 2) (rows ∷ steps ∷ rows-at ∷ steps-at layout rows ∷ states ∷ actions ∷ []))
 
--- the file of a table for a tower with so many states and actions
-unfoldable pub table-file : ℕ → ℕ → Table → List ℕ
-table-file states actions table =
-    header-bytes (length table) (length (all-steps table)) states actions
-    ++ (row-bytes 0 table ++ joined (map step-bytes (all-steps table)))
+-- the file of a table for a tower with so many states and actions, whose file has this layout
+unfoldable pub table-file : FileLayout → ℕ → ℕ → Table → List ℕ
+table-file layout states actions table =
+    header-bytes layout (length table) (length (all-steps table)) states actions
+    ++ (row-bytes layout 0 table ++ joined (map step-bytes (all-steps table)))

@@ -121,9 +121,26 @@ FirstMet r m (row ∷ rows) = (r < m) × ((n : ℕ) × Meets m (row .steps) n ×
 
 -- The made table for a tower and a book: it holds exactly the runs that good tables allow; no two of its rows are one row;
 -- row 0 is the start and the others are numbered as first met, rows in order, actions ascending.
-pub record Made (tower : Tower) (book : Book) (table : Table) : Type 0 where
+pub record IsMade (tower : Tower) (book : Book) (table : Table) : Type 0 where
   pub good : Good tower book table
   pub runs : (w : List ℕ) → Allows table w ↔ GoodAllow tower book w
   pub apart : (r s : ℕ) → r < length table → s < length table → OneRow table r s → r ≡ s
   pub ascending : (r : ℕ) → r < length table → Ascending (row-at table r .steps)
   pub first-met : FirstMet 0 1 table
+
+-- ---- a table as a tower
+
+-- A table as a tower: its rows are the states. A row has the marks of its state and the step lengths there, and an action leads to the row to
+-- which it is allowed to lead.
+unfoldable pub rows-tower : Tower → Table → Tower
+rows-tower tower table =
+    record {
+      states = length table;
+      actions = tower .actions;
+      marks = tower .marks;
+      start = 0;
+      kind = tower .kind;
+      step-length = λ r a. tower .step-length (row-at table r .state) a;
+      marked = λ r k. tower .marked (row-at table r .state) k;
+      target = λ r a. move table r a;
+    }

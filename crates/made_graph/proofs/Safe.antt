@@ -14,14 +14,14 @@ use Rattle.logic.specs.Tower.{Tower, controllable, goes-on, Listed}
 use Rattle.logic.specs.Book.{Book}
 use Rattle.pending.specs.Pairs.{Pair, first-pair, pair-step, pairs, over-pairs}
 use Rattle.pending.proofs.Steps.{pair-step-out}
-use Rattle.outcome.specs.Game.{forced-right, can-go, fine, kept-through, last-removal, safe}
+use Rattle.outcome.specs.Game.{forced-right, can-go, fine, safe-through, last-removal, safe}
 use Rattle.outcome.proofs.Game.{safe-fine}
 use Rattle.pair_graph.specs.Graph.{Move, not-enabled, broken, to, Graph, LeadsTo, led, Fine, Largest}
-use Rattle.made_graph.specs.GraphOf.{numbered, SaysStep, says-not-enabled, says-broken, says-to, GraphOf}
+use Rattle.pair_graph.specs.GraphOf.{numbered, SaysStep, says-not-enabled, says-broken, says-to, GraphOf}
 
 -- a move that leads to a kept pair is one to it
-pub led-out : (kept : ℕ → Bool) (m : Move) → LeadsTo kept m → (j : ℕ) × (m ≡ to j) × (kept j ≡ true)
-led-out kept m (led j k) = (j, refl, k)
+pub led-out : (staying : ℕ → Bool) (m : Move) → LeadsTo staying m → (j : ℕ) × (m ≡ to j) × (staying j ≡ true)
+led-out staying m (led j k) = (j, refl, k)
 
 -- an action that is not enabled makes no step
 pub not-enabled-none : (tower : Tower) (book : Book) (i a : ℕ) → tower .target (numbered tower book i .state) a ≡ none
@@ -30,19 +30,19 @@ unfolding pair-step bind
 not-enabled-none tower book i a e = rw e
 
 -- a broken step leads to none
-broken-led {ℓ} : {C : Type ℓ} (kept : ℕ → Bool) → LeadsTo kept broken → C
-broken-led kept l = let (j, e, k) = led-out kept broken l in let z : _≡_ {A = ℕ} 0 1 = cc in absurd (omega arith)
+broken-led {ℓ} : {C : Type ℓ} (staying : ℕ → Bool) → LeadsTo staying broken → C
+broken-led staying l = let (j, e, k) = led-out staying broken l in let z : _≡_ {A = ℕ} 0 1 = cc in absurd (omega arith)
 
 module _ (tower : Tower) (book : Book) (graph : Graph) (of : GraphOf tower book graph) where
   -- a move that leads to a kept pair is a step to it
-  led-step : (kept : ℕ → Bool) (test : Pair → Bool) (i a : ℕ) (m : Move) → ((j : ℕ) → j < length (pairs tower book) → kept j ≡ true → test (numbered tower book j) ≡ true)
-      → SaysStep tower book i a m → LeadsTo kept m → there-with test (pair-step tower book (numbered tower book i) a) ≡ true
-  led-step kept test i a (to j) all (says-to _ lt e) (led _ k) = there-with-in test e (all j lt k)
+  led-step : (staying : ℕ → Bool) (test : Pair → Bool) (i a : ℕ) (m : Move) → ((j : ℕ) → j < length (pairs tower book) → staying j ≡ true → test (numbered tower book j) ≡ true)
+      → SaysStep tower book i a m → LeadsTo staying m → there-with test (pair-step tower book (numbered tower book i) a) ≡ true
+  led-step staying test i a (to j) all (says-to _ lt e) (led _ k) = there-with-in test e (all j lt k)
 
-  module _ (kept : ℕ → Bool) (test : Pair → Bool)
-      (agree : (j : ℕ) → j < length (pairs tower book) → kept j ≡ true → test (numbered tower book j) ≡ true) (i : ℕ) (lt : i < graph .pairs) where
+  module _ (staying : ℕ → Bool) (test : Pair → Bool)
+      (agree : (j : ℕ) → j < length (pairs tower book) → staying j ≡ true → test (numbered tower book j) ≡ true) (i : ℕ) (lt : i < graph .pairs) where
     -- an action that may not be withheld stays inside
-    forced-in : Fine graph kept i → (a : ℕ) → a < tower .actions → forced-right tower book test (numbered tower book i) a ≡ true
+    forced-in : Fine graph staying i → (a : ℕ) → a < tower .actions → forced-right tower book test (numbered tower book i) a ≡ true
     unfolding forced-right
     forced-in is a la =
         whether (controllable (tower .kind a)) (λ ours. or-left _ (or-left _ ours))
@@ -53,37 +53,37 @@ module _ (tower : Tower) (book : Book) (graph : Graph) (of : GraphOf tower book 
             || there-with test (pair-step tower book (numbered tower book i) a)) ≡ true
         go not-enabled e (says-not-enabled none-there) forced =
             or-left _ (or-right (controllable (tower .kind a)) (not-in (there-not none-there)))
-        go broken e (says-broken y there stopped) forced = broken-led kept (subst (LeadsTo kept) e (is .forced a (omega (arith, of .actions)) forced (λ f. clash (sym f ∙ e))))
+        go broken e (says-broken y there stopped) forced = broken-led staying (subst (LeadsTo staying) e (is .forced a (omega (arith, of .actions)) forced (λ f. clash (sym f ∙ e))))
           where
             clash : not-enabled ≡ broken → ⊥
             clash f = let z : _≡_ {A = ℕ} 0 1 = cc in omega arith
         go (to j) e says forced =
             or-right (controllable (tower .kind a) || not (is-there (tower .target (numbered tower book i .state) a)))
-            (led-step kept test i a (to j) agree says (subst (LeadsTo kept) e (is .forced a (omega (arith, of .actions)) forced (λ f. clash (sym f ∙ e)))))
+            (led-step staying test i a (to j) agree says (subst (LeadsTo staying) e (is .forced a (omega (arith, of .actions)) forced (λ f. clash (sym f ∙ e)))))
           where
             clash : not-enabled ≡ to j → ⊥
             clash f = let z : _≡_ {A = ℕ} 0 1 = cc in omega arith
 
     -- some action goes on inside
-    goes-in : Fine graph kept i → some-of (can-go tower book test (numbered tower book i)) (below (tower .actions)) ≡ true
+    goes-in : Fine graph staying i → some-of (can-go tower book test (numbered tower book i)) (below (tower .actions)) ≡ true
     unfolding can-go
     goes-in is =
         below-some (can-go tower book test (numbered tower book i)) (tower .actions) (is .action) (omega (arith, of .actions, is .listed))
         (and-both (ap goes-on (sym (of .kinds (is .action))) ∙ is .goes)
-        (led-step kept test i (is .action) (graph .move i (is .action)) agree (of .moves i (is .action) lt (is .listed)) (is .leads)))
+        (led-step staying test i (is .action) (graph .move i (is .action)) agree (of .moves i (is .action) lt (is .listed)) (is .leads)))
 
-    fine-in : Fine graph kept i → fine tower book test (numbered tower book i) ≡ true
+    fine-in : Fine graph staying i → fine tower book test (numbered tower book i) ≡ true
     unfolding fine
     fine-in is = and-both (below-every (forced-right tower book test (numbered tower book i)) (tower .actions) (forced-in is)) (goes-in is)
 
   -- what is kept and fine among the kept is kept through every round
-  kept-rounds : (kept : ℕ → Bool) → ((i : ℕ) → i < graph .pairs → kept i ≡ true → Fine graph kept i)
-      → (n i : ℕ) → i < graph .pairs → kept i ≡ true → kept-through tower book n (numbered tower book i) ≡ true
-  unfolding kept-through
-  kept-rounds kept all zero i lt k = refl
-  kept-rounds kept all (suc n) i lt k =
-      and-both (kept-rounds kept all n i lt k)
-      (fine-in kept (kept-through tower book n) (λ j l e. kept-rounds kept all n j (omega (arith, of .count)) e) i lt (all i lt k))
+  safe-rounds : (staying : ℕ → Bool) → ((i : ℕ) → i < graph .pairs → staying i ≡ true → Fine graph staying i)
+      → (n i : ℕ) → i < graph .pairs → staying i ≡ true → safe-through tower book n (numbered tower book i) ≡ true
+  unfolding safe-through
+  safe-rounds staying all zero i lt k = refl
+  safe-rounds staying all (suc n) i lt k =
+      and-both (safe-rounds staying all n i lt k)
+      (fine-in staying (safe-through tower book n) (λ j l e. safe-rounds staying all n j (omega (arith, of .count)) e) i lt (all i lt k))
 
   -- ---- and what is safe is fine among the safe
 
@@ -168,8 +168,8 @@ module _ (tower : Tower) (book : Book) (graph : Graph) (of : GraphOf tower book 
               }
 
     -- The largest set is that of the safe pairs.
-    pub largest-safe : (kept : ℕ → Bool) → Largest graph kept → (i : ℕ) → i < graph .pairs → kept i ≡ safe tower book (numbered tower book i)
-    largest-safe kept largest i lt =
-        same-truth (kept i) (safe-number i)
-        (λ k. unfold safe in (kept-rounds kept (largest .fine) (last-removal tower book) i lt k))
+    pub largest-safe : (staying : ℕ → Bool) → Largest graph staying → (i : ℕ) → i < graph .pairs → staying i ≡ safe tower book (numbered tower book i)
+    largest-safe staying largest i lt =
+        same-truth (staying i) (safe-number i)
+        (λ k. unfold safe in (safe-rounds staying (largest .fine) (last-removal tower book) i lt k))
         (λ s. largest .holds-all safe-number safe-is-fine i lt s)

@@ -19,10 +19,10 @@ use Rattle.logic.specs.Tables.{Step, Row}
 use Rattle.pending.specs.Pairs.{Pair, same-pair, first-pair, pair-followers, pairs, most-pairs}
 use Rattle.outcome.specs.Game.{safe, safe-step}
 use Rattle.outcome.specs.Rows.{one-row, safe-followers, row-pairs, row-step, made-row, made-table}
-use Rattle.pair_graph.specs.Graph.{Graph, allowed-to, Kept, Classes}
+use Rattle.pair_graph.specs.Graph.{Graph, allowed-to, SafePair, Classes}
 use Rattle.pair_graph.specs.GraphTable.{allowed, allowed-all, same-class, row-order, graph-step, graph-row, graph-table}
-use Rattle.made_graph.specs.GraphOf.{numbered}
-use Rattle.made_graph.proofs.OneRow.{SafeGraph, allowed-step, allowed-kept, class-row}
+use Rattle.pair_graph.specs.GraphOf.{numbered}
+use Rattle.made_graph.proofs.OneRow.{SafeGraph, allowed-step, allowed-safe, class-row}
 
 -- ---- a search on numbers and the same search on what they stand for
 
@@ -176,8 +176,8 @@ map-twice : {X Y Z : Type 0} (f : X → Y) (h : Y → Z) (xs : List X) → map h
 map-twice f h [] = refl
 map-twice f h (x ∷ xs) = ap (λ l. h (f x) ∷ l) (map-twice f h xs)
 
-module _ (tower : Tower) (book : Book) (graph : Graph) (kept : ℕ → Bool) (g : SafeGraph tower book graph kept) (class : ℕ → ℕ)
-    (classes : Classes graph kept class) where
+module _ (tower : Tower) (book : Book) (graph : Graph) (staying : ℕ → Bool) (g : SafeGraph tower book graph staying) (class : ℕ → ℕ)
+    (classes : Classes graph staying class) where
   abbrev num : ℕ → Pair
   num i = numbered tower book i
 
@@ -188,11 +188,11 @@ module _ (tower : Tower) (book : Book) (graph : Graph) (kept : ℕ → Bool) (g 
       let (rest, e) = search-first same-pair (pair-followers tower book) most-pairs (first-pair tower book) in
       ap (λ l. getD l 0 (first-pair tower book)) e
 
-  first-kept : Kept graph kept 0
-  first-kept =
+  first-safe-pair : SafePair graph staying 0
+  first-safe-pair =
       record {
         there = there;
-        is-kept = g .safes 0 there ∙ ap (safe tower book) first-number ∙ g .known .first-safe;
+        is-safe = g .safes 0 there ∙ ap (safe tower book) first-number ∙ g .known .first-safe;
       }
     where
       there : 0 < graph .pairs
@@ -204,68 +204,68 @@ module _ (tower : Tower) (book : Book) (graph : Graph) (kept : ℕ → Bool) (g 
               (let (rest, e) = search-first same-pair (pair-followers tower book) most-pairs (first-pair tower book) in
               subst (λ l. 0 < length l) (sym e) (omega arith))
 
-  agrees : (i j : ℕ) → Kept graph kept i → Kept graph kept j → same-class graph kept class i j ≡ one-row tower book (num i) (num j)
+  agrees : (i j : ℕ) → SafePair graph staying i → SafePair graph staying j → same-class graph staying class i j ≡ one-row tower book (num i) (num j)
   unfolding same-class
-  agrees i j ki kj = class-row tower book graph kept g class classes i j ki kj
+  agrees i j ki kj = class-row tower book graph staying g class classes i j ki kj
 
-  follow : (i : ℕ) → Kept graph kept i → map num (allowed-all graph kept class i) ≡ safe-followers tower book (num i)
+  follow : (i : ℕ) → SafePair graph staying i → map num (allowed-all graph staying class i) ≡ safe-followers tower book (num i)
   unfolding allowed-all allowed safe-followers
   follow i k =
-      present-map num (λ a. allowed-to kept (graph .move i a)) (safe-step tower book (num i)) (below (graph .actions))
-      (λ a m. allowed-step tower book graph kept g i a (k .there) (mem-below (graph .actions) m))
+      present-map num (λ a. allowed-to staying (graph .move i a)) (safe-step tower book (num i)) (below (graph .actions))
+      (λ a m. allowed-step tower book graph staying g i a (k .there) (mem-below (graph .actions) m))
       ∙ ap (λ n. present (map (safe-step tower book (num i)) (below n))) (g .of .actions)
 
-  stay : (i : ℕ) → Kept graph kept i → (j : ℕ) → List·Memᴰ j (allowed-all graph kept class i) → Kept graph kept j
+  stay : (i : ℕ) → SafePair graph staying i → (j : ℕ) → List·Memᴰ j (allowed-all graph staying class i) → SafePair graph staying j
   unfolding allowed-all allowed
   stay i k j m =
-      let (a, here, e) = present-map-out (λ a. allowed-to kept (graph .move i a)) (below (graph .actions)) m in
-      allowed-kept tower book graph kept g i a j (k .there) (mem-below (graph .actions) here) e
+      let (a, here, e) = present-map-out (λ a. allowed-to staying (graph .move i a)) (below (graph .actions)) m in
+      allowed-safe tower book graph staying g i a j (k .there) (mem-below (graph .actions) here) e
 
   -- the rows' numbers stand for the rows' pairs
-  order-pairs : map num (row-order graph kept class) ≡ row-pairs tower book
+  order-pairs : map num (row-order graph staying class) ≡ row-pairs tower book
   unfolding row-order row-pairs
   order-pairs =
-      found-map num (same-class graph kept class) (one-row tower book) (Kept graph kept) agrees (allowed-all graph kept class)
-      (safe-followers tower book) follow stay (graph .pairs) 0 first-kept
+      found-map num (same-class graph staying class) (one-row tower book) (SafePair graph staying) agrees (allowed-all graph staying class)
+      (safe-followers tower book) follow stay (graph .pairs) 0 first-safe-pair
       ∙ ap₂ (search-from (one-row tower book) (safe-followers tower book)) (g .of .count) first-number
 
-  order-kept : (i : ℕ) → List·Memᴰ i (row-order graph kept class) → Kept graph kept i
+  order-safe : (i : ℕ) → List·Memᴰ i (row-order graph staying class) → SafePair graph staying i
   unfolding row-order
-  order-kept i m =
-      found-valid num (same-class graph kept class) (one-row tower book) (Kept graph kept) agrees (allowed-all graph kept class)
-      (safe-followers tower book) follow stay (graph .pairs) 0 first-kept i m
+  order-safe i m =
+      found-valid num (same-class graph staying class) (one-row tower book) (SafePair graph staying) agrees (allowed-all graph staying class)
+      (safe-followers tower book) follow stay (graph .pairs) 0 first-safe-pair i m
 
   -- a step of the graph is that of its pairs
-  step-same : (a : ℕ) (o : Option ℕ) → ((j : ℕ) → o ≡ some j → Kept graph kept j)
-      → graph-step graph kept class a o ≡ row-step tower book a (Option·map num o)
+  step-same : (a : ℕ) (o : Option ℕ) → ((j : ℕ) → o ≡ some j → SafePair graph staying j)
+      → graph-step graph staying class a o ≡ row-step tower book a (Option·map num o)
   unfolding graph-step row-step
   step-same a none all = refl
   step-same a (some j) all =
       ap (λ n. some (record { action = a; target = n }))
-      (place-map num (same-class graph kept class) (one-row tower book) (Kept graph kept) agrees j (row-order graph kept class) (all j refl) order-kept
+      (place-map num (same-class graph staying class) (one-row tower book) (SafePair graph staying) agrees j (row-order graph staying class) (all j refl) order-safe
       ∙ ap (place-of (one-row tower book (num j))) order-pairs)
 
   abbrev row : ℕ → List Step → Row
   row x steps = record { state = x; steps = steps }
 
   -- a row of the graph is a made row
-  row-same : (i : ℕ) → Kept graph kept i → graph-row graph kept class i ≡ made-row tower book (num i)
+  row-same : (i : ℕ) → SafePair graph staying i → graph-row graph staying class i ≡ made-row tower book (num i)
   unfolding graph-row made-row allowed
   row-same i k =
       ap₂ row (g .of .states i (k .there))
       (ap present
-      (map-along (λ a. graph-step graph kept class a (allowed-to kept (graph .move i a))) (λ a. row-step tower book a (safe-step tower book (num i) a))
+      (map-along (λ a. graph-step graph staying class a (allowed-to staying (graph .move i a))) (λ a. row-step tower book a (safe-step tower book (num i) a))
       (below (graph .actions))
       (λ a m.
       let la = mem-below (graph .actions) m in
-      step-same a (allowed-to kept (graph .move i a)) (λ j e. allowed-kept tower book graph kept g i a j (k .there) la e)
-      ∙ ap (row-step tower book a) (sym (allowed-step tower book graph kept g i a (k .there) la))))
+      step-same a (allowed-to staying (graph .move i a)) (λ j e. allowed-safe tower book graph staying g i a j (k .there) la e)
+      ∙ ap (row-step tower book a) (sym (allowed-step tower book graph staying g i a (k .there) la))))
       ∙ ap (λ n. present (map (λ a. row-step tower book a (safe-step tower book (num i) a)) (below n))) (g .of .actions))
 
   -- The table of the graph is the made table.
-  pub same-table : graph-table graph kept class ≡ made-table tower book
+  pub same-table : graph-table graph staying class ≡ made-table tower book
   unfolding graph-table made-table
   same-table =
-      map-along (graph-row graph kept class) (λ i. made-row tower book (num i)) (row-order graph kept class) (λ i m. row-same i (order-kept i m))
-      ∙ sym (map-twice num (made-row tower book) (row-order graph kept class))
+      map-along (graph-row graph staying class) (λ i. made-row tower book (num i)) (row-order graph staying class) (λ i m. row-same i (order-safe i m))
+      ∙ sym (map-twice num (made-row tower book) (row-order graph staying class))
       ∙ ap (map (made-row tower book)) order-pairs

@@ -1,12 +1,13 @@
 // make_table [TOWER BOOK TABLE]: makes the table of a tower and a rule book, and prints its listing;
 // or prints `refused` with number and place, and writes no table (docs/PROGRAMS.md). Without names
-// they are tower.bin, book.txt and table.bin.
+// they are tower.bin, book.txt and table.bin. With `-` for TABLE only the listing is printed.
 ghost use Prim.Native.Nat.{_<_};
 ghost use mathlib.Core.Path.{_≡_};
 ghost use mathlib.Core.Bool.{true};
 ghost use Rattle.reading.specs.TableReading.{rows-of, laid-out};
 ghost use Rattle.make_table.specs.Files.{MadeFile};
 use base::MakeAnswer;
+use base::Refusal;
 use files::Contents;
 
 // Prints the listing's first line.
@@ -33,26 +34,28 @@ fn print_row(table: &[u8], row: usize) -> bool
 }
 
 // Prints the rows one after the other.
-fn print_rows(table: &[u8])
+fn print_rows(table: &[u8]) -> bool
     requires { ⌜ laid-out (now table) ≡ true ⌝ }
 {
     let rows = table_reader::rows(table);
     let mut row = 0;
     while row < rows {
         if !print_row(table, row) {
-            return;
+            return false;
         }
         row += 1;
     }
+    true
 }
 
 // Prints the listing of a table.
-fn print_listing(table: &[u8])
+fn print_listing(table: &[u8]) -> bool
     requires { ⌜ laid-out (now table) ≡ true ⌝ }
 {
-    if print_head(table) {
-        print_rows(table);
+    if !print_head(table) {
+        return false;
     }
+    print_rows(table)
 }
 
 // The answer, with work areas (docs/WORK-AREAS.md).
@@ -62,8 +65,8 @@ fn make(tower: &[u8], text: &[u8], out: &mut [u8; 52012]) -> MakeAnswer
     let mut nodes = [0u8; 512];
     let mut pairs = [0u8; 62062];
     let mut index = [0u8; 8192];
-    let mut steps = [0u8; 32000];
-    let mut flags = [0u8; 1000];
+    let mut graph = [0u8; 34000];
+    let mut flags = [0u8; 37000];
     let mut classes = [0u8; 8192];
     maker::make(
         tower,
@@ -72,10 +75,106 @@ fn make(tower: &[u8], text: &[u8], out: &mut [u8; 52012]) -> MakeAnswer
         &mut nodes,
         &mut pairs,
         &mut index,
-        &mut steps,
+        &mut graph,
         &mut flags,
         &mut classes,
     )
+}
+
+// The name that stands for no table: the listing alone is asked for.
+fn no_file(table: &[u8]) -> bool {
+    if table.len() != 1 {
+        return false;
+    }
+    table[0] == b'-'
+}
+
+// Says that no table was written, where one was to be.
+fn unchanged(table: &[u8]) {
+    if !no_file(table) {
+        files::unchanged(table);
+    }
+}
+
+// Whether the table may be written under its name; says why not.
+fn may_write(tower: &[u8], book: &[u8], table: &[u8]) -> bool {
+    if no_file(table) {
+        return true;
+    }
+    table_target::allowed(table, tower, book)
+}
+
+// Writes the table to its file, if it has one.
+fn save(table: &[u8], bytes: &[u8]) -> bool {
+    if no_file(table) {
+        return true;
+    }
+    files::save(table, bytes)
+}
+
+// Says what is worth knowing of a table that was made: the pairs, and the actions that no row allows.
+fn say_notes(name: &[u8], bytes: &[u8], tower_bytes: &[u8], text: &[u8]) {
+    notes::pairs(name, pair_count::pairs(tower_bytes, text));
+    notes::unused(name, bytes);
+}
+
+// The same by the name of the table, if it has one.
+fn say_of(table: &[u8], bytes: &[u8], tower_bytes: &[u8], text: &[u8]) {
+    if no_file(table) {
+        say_notes(b"the table", bytes, tower_bytes, text);
+        return;
+    }
+    say_notes(table, bytes, tower_bytes, text);
+}
+
+// The listing could not be printed.
+fn not_printed(table: &[u8]) {
+    if !no_file(table) {
+        saying::in_file(
+            table,
+            b"the new table is in place; its listing is not printed whole",
+        );
+    }
+}
+
+// Writes the table to its file, then prints its listing and says what is worth knowing.
+fn finish(bytes: &[u8], table: &[u8], tower_bytes: &[u8], text: &[u8])
+    requires { ⌜ laid-out (now bytes) ≡ true ⌝ }
+{
+    if !save(table, bytes) {
+        return;
+    }
+    if !print_listing(bytes) {
+        not_printed(table);
+        return;
+    }
+    say_of(table, bytes, tower_bytes, text);
+}
+
+// No table is good for the tower under a book without a rule: a dead end of the tower itself.
+fn dead_end(tower: &[u8]) -> bool {
+    let mut spare = [0u8; 52012];
+    match make(tower, b"", &mut spare) {
+        MakeAnswer::Made(n) => false,
+        MakeAnswer::Refused(why) => is_no_table(why),
+    }
+}
+
+// Whether a refusal is 12.
+fn is_no_table(why: Refusal) -> bool {
+    refusal_numbers::number(why) == 12
+}
+
+// Says why the tower or the rules are refused. Where the tower alone has no good table, the rules are
+// not to blame.
+fn refuse(why: Refusal, tower: &[u8], book: &[u8], table: &[u8], tower_bytes: &[u8], text: &[u8]) {
+    if is_no_table(why) {
+        if dead_end(tower_bytes) {
+            explaining::refuse_tower(why, tower, tower_bytes);
+            return;
+        }
+    }
+    explaining::refuse(why, tower, book, table, tower_bytes, text, b"");
 }
 
 // Makes the table; where it is made, writes it to its file and then prints its listing.
@@ -83,28 +182,39 @@ fn make_from(tower_bytes: &[u8], text: &[u8], tower: &[u8], book: &[u8], table: 
     let mut out = [0u8; 52012];
     match make(tower_bytes, text, &mut out) {
         MakeAnswer::Made(n) => {
-            if files::save(table, &out[..n]) {
-                print_listing(&out[..n]);
-            }
+            finish(&out[..n], table, tower_bytes, text);
         }
         MakeAnswer::Refused(why) => {
-            files::refuse(why, tower, book, text.len(), table);
+            refuse(why, tower, book, table, tower_bytes, text);
+            unchanged(table);
         }
     }
 }
 
-// Reads the files and makes the table. Each area has room for one byte more than the longest file that
-// is fit, so that a longer one is refused for its length.
-fn run(tower: &[u8], book: &[u8], table: &[u8]) {
+// Reads the files and makes the table; false if a file cannot be read. Each area has room for one byte
+// more than the longest file that is fit, so that a longer one is refused for its length.
+fn run_files(tower: &[u8], book: &[u8], table: &[u8]) -> bool {
     let mut tower_bytes = [0u8; file_limits::TOWER];
     let Contents::Bytes(t) = files::read_file(tower, &mut tower_bytes) else {
-        return;
+        return false;
     };
     let mut text = [0u8; file_limits::BOOK];
     let Contents::Bytes(b) = files::read_file(book, &mut text) else {
-        return;
+        return false;
     };
     make_from(&tower_bytes[..t], &text[..b], tower, book, table);
+    true
+}
+
+// Looks first at what the table's name leads to.
+fn run(tower: &[u8], book: &[u8], table: &[u8]) {
+    if !may_write(tower, book, table) {
+        unchanged(table);
+        return;
+    }
+    if !run_files(tower, book, table) {
+        unchanged(table);
+    }
 }
 
 // The names are the arguments.

@@ -1,2 +1,2 @@
-mod Kept
+mod SafePairs
 mod Ways

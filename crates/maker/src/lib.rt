@@ -2,12 +2,15 @@
 // book, written to the output, or the first reason why there is none, in the order 15, tower, book, 11, 12, 16.
 ghost use Prim.Native.Nat.{_<_};
 ghost use mathlib.Core.Path.{_≡_};
+ghost use mathlib.Core.List.{[], _∷_};
 ghost use lib.ListN.{length};
 ghost use Rattle.logic.specs.Tower.{FitTower, tower-of};
+ghost use Rattle.base.specs.Bytes.{long-enough};
+ghost use Rattle.outcome.specs.Areas.{make-areas};
 ghost use Rattle.outcome.specs.Make.{made-file};
-ghost use Rattle.pair_graph.specs.Steps.{kept-in};
+ghost use Rattle.pair_graph.specs.Steps.{safe-in};
 ghost use Rattle.pending_entries.specs.PendingEntries.{TowerWithBook};
-ghost use Rattle.maker.specs.Making.{made-book, Ends, lengths-right, Room, PairsMet, KeptWritten, RowsMade, TableMade, AllCleared, Makes};
+ghost use Rattle.maker.specs.Making.{made-book, Ends, Room, PairsMet, SafeWritten, RowsMade, TableMade, AllCleared, Makes};
 use base::BookAnswer;
 use base::MakeAnswer;
 use base::Refusal;
@@ -23,40 +26,40 @@ const PAIRS_AREA: usize = 62062;
 
 const INDEX_AREA: usize = 8192;
 
-const STEPS_AREA: usize = 32000;
+const GRAPH_AREA: usize = 34000;
 
-const FLAGS_AREA: usize = 1000;
+const FLAGS_AREA: usize = 37000;
 
 const CLASSES_AREA: usize = 8192;
 
-// The flag of a pair that removal keeps.
-const KEPT: u8 = 1;
+// The pairs are those of the tower, not of a table's rows.
+const BY_ROWS: bool = false;
 
-// The first pair is kept.
-fn first_kept(flags: &[u8]) -> bool
+// The first pair is safe.
+fn first_safe(flags: &[u8]) -> bool
     requires { ⌜ 0 < length (now flags) ⌝ }
-    ensures { λ b. ⌜ b ≡ kept-in (now (flags .entry)) 0 ⌝ }
+    ensures { λ b. ⌜ b ≡ safe-in (now (flags .entry)) 0 ⌝ }
 {
-    flags[0] == KEPT
+    pair_graph::is_safe(flags, 0)
 }
 
-// The table of the kept pairs, written: 16, or made.
-fn write_kept(
+// The table of the safe pairs, written: 16, or made.
+fn write_safe(
     tower: &[u8],
     out: &mut [u8],
-    pairs: &[u8],
-    steps: &[u8],
+    graph: &[u8],
     flags: &[u8],
     classes: &mut [u8],
     n: usize,
 ) -> MakeAnswer
-    requires { ⌜ PairsMet (now tower) (now pairs) (now steps) (now flags) (now classes) n ⌝ }
-    ensures { λ r. ⌜ KeptWritten r (now (tower .entry)) (now (pairs .entry)) (now (steps .entry)) (now (flags .entry)) n (now (out .entry)) (now (out .exit)) ⌝ }
+    requires { ⌜ PairsMet (now tower) (now graph) (now flags) (now classes) n ⌝ }
+    ensures { λ r. ⌜ SafeWritten r (now (tower .entry)) (now (graph .entry)) (now (flags .entry)) n (now (out .entry)) (now (out .exit)) ⌝ }
 {
     let states = tower_reader::states(tower);
     let actions = tower_reader::actions(tower);
-    row_classes::classify(steps, flags, pairs, actions, n, classes);
-    let written = table_writer::write_table(steps, flags, pairs, classes, out, n, states, actions);
+    row_classes::classify(graph, flags, actions, n, classes);
+    let layout = file_layout::layout_of(tower);
+    let written = table_writer::write_table(graph, flags, classes, out, layout, n, states, actions);
     match written {
         Written::Made(size) => MakeAnswer::Made(size),
         Written::NoRoom => MakeAnswer::Refused(Refusal::Output),
@@ -67,20 +70,19 @@ fn write_kept(
 fn make_rows(
     tower: &[u8],
     out: &mut [u8],
-    pairs: &[u8],
-    steps: &[u8],
+    graph: &[u8],
     flags: &mut [u8],
     classes: &mut [u8],
     n: usize,
 ) -> MakeAnswer
-    requires { ⌜ PairsMet (now tower) (now pairs) (now steps) (now flags) (now classes) n ⌝ }
-    ensures { λ r. ⌜ RowsMade r (now (tower .entry)) (now (pairs .entry)) (now (steps .entry)) n (now (out .entry)) (now (out .exit)) ⌝ }
+    requires { ⌜ PairsMet (now tower) (now graph) (now flags) (now classes) n ⌝ }
+    ensures { λ r. ⌜ RowsMade r (now (tower .entry)) (now (graph .entry)) n (now (out .entry)) (now (out .exit)) ⌝ }
 {
-    removal::remove(tower, steps, n, flags);
-    if !first_kept(flags) {
+    removal::remove(tower, graph, n, flags);
+    if !first_safe(flags) {
         return MakeAnswer::Refused(Refusal::NoTable);
     }
-    write_kept(tower, out, pairs, steps, flags, classes, n)
+    write_safe(tower, out, graph, flags, classes, n)
 }
 
 // The table, where tower and book are read: 11, 12, 16, or made.
@@ -92,18 +94,28 @@ fn make_table(
     out: &mut [u8],
     pairs: &mut [u8],
     index: &mut [u8],
-    steps: &mut [u8],
+    graph: &mut [u8],
     flags: &mut [u8],
     classes: &mut [u8],
 ) -> MakeAnswer
     requires { ⌜ TowerWithBook (now tower) (now nodes) lines count ⌝ }
-    requires { ⌜ Room (now nodes) (now pairs) (now index) (now steps) (now flags) (now classes) ⌝ }
+    requires { ⌜ Room (now nodes) (now pairs) (now index) (now graph) (now flags) (now classes) ⌝ }
     ensures { λ r. ⌜ TableMade r (now (tower .entry)) (now (nodes .entry)) lines count (now (out .entry)) (now (out .exit)) ⌝ }
 {
-    let found = pair_search::explore(tower, nodes, lines, count, pairs, index, steps);
+    let found = pair_search::explore(
+        tower,
+        tower,
+        BY_ROWS,
+        nodes,
+        lines,
+        count,
+        pairs,
+        index,
+        graph,
+    );
     match found {
         Found::TooMany => MakeAnswer::Refused(Refusal::Pairs),
-        Found::Met(n) => make_rows(tower, out, pairs, steps, flags, classes, n),
+        Found::Met(n) => make_rows(tower, out, graph, flags, classes, n),
     }
 }
 
@@ -115,13 +127,13 @@ fn make_book(
     nodes: &mut [u8],
     pairs: &mut [u8],
     index: &mut [u8],
-    steps: &mut [u8],
+    graph: &mut [u8],
     flags: &mut [u8],
     classes: &mut [u8],
 ) -> MakeAnswer
     requires { ⌜ FitTower (now tower) ⌝ }
-    requires { ⌜ Room (now nodes) (now pairs) (now index) (now steps) (now flags) (now classes) ⌝ }
-    ensures { λ r. ⌜ Ends (made-book (tower-of (now (tower .entry))) (now (text .entry))) (now (out .entry)) r (now (out .exit)) ⌝ }
+    requires { ⌜ Room (now nodes) (now pairs) (now index) (now graph) (now flags) (now classes) ⌝ }
+    ensures { λ r. ⌜ Ends (made-book (now (tower .entry)) (now (text .entry))) (now (out .entry)) r (now (out .exit)) ⌝ }
 {
     let book = book_reader::read_lines(tower_reader::marks(tower), text, nodes);
     match book {
@@ -137,7 +149,7 @@ fn make_book(
             out,
             pairs,
             index,
-            steps,
+            graph,
             flags,
             classes,
         ),
@@ -152,47 +164,47 @@ fn make_files(
     nodes: &mut [u8],
     pairs: &mut [u8],
     index: &mut [u8],
-    steps: &mut [u8],
+    graph: &mut [u8],
     flags: &mut [u8],
     classes: &mut [u8],
 ) -> MakeAnswer
-    requires { ⌜ Room (now nodes) (now pairs) (now index) (now steps) (now flags) (now classes) ⌝ }
+    requires { ⌜ Room (now nodes) (now pairs) (now index) (now graph) (now flags) (now classes) ⌝ }
     ensures { λ r. ⌜ Ends (made-file (now (tower .entry)) (now (text .entry))) (now (out .entry)) r (now (out .exit)) ⌝ }
 {
     let read = tower_reader::read_tower(tower);
     if let TowerRead::Refused(why) = read {
         return MakeAnswer::Refused(why);
     }
-    make_book(tower, text, out, nodes, pairs, index, steps, flags, classes)
+    make_book(tower, text, out, nodes, pairs, index, graph, flags, classes)
 }
 
 // The areas are long enough.
-fn lengths_right(
-    nodes: usize,
-    pairs: usize,
-    index: usize,
-    steps: usize,
-    flags: usize,
-    classes: usize,
+fn long_enough(
+    nodes: &[u8],
+    pairs: &[u8],
+    index: &[u8],
+    graph: &[u8],
+    flags: &[u8],
+    classes: &[u8],
 ) -> bool
-    ensures { λ b. ⌜ b ≡ lengths-right nodes pairs index steps flags classes ⌝ }
+    ensures { λ b. ⌜ b ≡ long-enough make-areas (now (nodes .entry) ∷ now (pairs .entry) ∷ now (index .entry) ∷ now (graph .entry) ∷ now (flags .entry) ∷ now (classes .entry) ∷ []) ⌝ }
 {
-    if nodes < NODES_AREA {
+    if nodes.len() < NODES_AREA {
         return false;
     }
-    if pairs < PAIRS_AREA {
+    if pairs.len() < PAIRS_AREA {
         return false;
     }
-    if index < INDEX_AREA {
+    if index.len() < INDEX_AREA {
         return false;
     }
-    if steps < STEPS_AREA {
+    if graph.len() < GRAPH_AREA {
         return false;
     }
-    if flags < FLAGS_AREA {
+    if flags.len() < FLAGS_AREA {
         return false;
     }
-    CLASSES_AREA <= classes
+    CLASSES_AREA <= classes.len()
 }
 
 // Every byte of every area is zero.
@@ -200,16 +212,16 @@ fn clear_all(
     nodes: &mut [u8],
     pairs: &mut [u8],
     index: &mut [u8],
-    steps: &mut [u8],
+    graph: &mut [u8],
     flags: &mut [u8],
     classes: &mut [u8],
 )
-    ensures { λ _. ⌜ AllCleared (now (nodes .entry)) (now (pairs .entry)) (now (index .entry)) (now (steps .entry)) (now (flags .entry)) (now (classes .entry)) (now (nodes .exit)) (now (pairs .exit)) (now (index .exit)) (now (steps .exit)) (now (flags .exit)) (now (classes .exit)) ⌝ }
+    ensures { λ _. ⌜ AllCleared (now (nodes .entry)) (now (pairs .entry)) (now (index .entry)) (now (graph .entry)) (now (flags .entry)) (now (classes .entry)) (now (nodes .exit)) (now (pairs .exit)) (now (index .exit)) (now (graph .exit)) (now (flags .exit)) (now (classes .exit)) ⌝ }
 {
     lent_bytes::clear(nodes);
     lent_bytes::clear(pairs);
     lent_bytes::clear(index);
-    lent_bytes::clear(steps);
+    lent_bytes::clear(graph);
     lent_bytes::clear(flags);
     lent_bytes::clear(classes);
 }
@@ -224,23 +236,16 @@ pub fn make(
     nodes: &mut [u8],
     pairs: &mut [u8],
     index: &mut [u8],
-    steps: &mut [u8],
+    graph: &mut [u8],
     flags: &mut [u8],
     classes: &mut [u8],
 ) -> MakeAnswer
-    ensures { λ r. ⌜ Makes r (now (tower .entry)) (now (text .entry)) (now (out .entry)) (now (nodes .entry)) (now (pairs .entry)) (now (index .entry)) (now (steps .entry)) (now (flags .entry)) (now (classes .entry)) (now (out .exit)) (now (nodes .exit)) (now (pairs .exit)) (now (index .exit)) (now (steps .exit)) (now (flags .exit)) (now (classes .exit)) ⌝ }
+    ensures { λ r. ⌜ Makes r (now (tower .entry)) (now (text .entry)) (now (out .entry)) (now (nodes .entry)) (now (pairs .entry)) (now (index .entry)) (now (graph .entry)) (now (flags .entry)) (now (classes .entry)) (now (out .exit)) (now (nodes .exit)) (now (pairs .exit)) (now (index .exit)) (now (graph .exit)) (now (flags .exit)) (now (classes .exit)) ⌝ }
 {
-    if !lengths_right(
-        nodes.len(),
-        pairs.len(),
-        index.len(),
-        steps.len(),
-        flags.len(),
-        classes.len(),
-    ) {
+    if !long_enough(nodes, pairs, index, graph, flags, classes) {
         return MakeAnswer::Refused(Refusal::Area);
     }
-    let answer = make_files(tower, text, out, nodes, pairs, index, steps, flags, classes);
-    clear_all(nodes, pairs, index, steps, flags, classes);
+    let answer = make_files(tower, text, out, nodes, pairs, index, graph, flags, classes);
+    clear_all(nodes, pairs, index, graph, flags, classes);
     answer
 }

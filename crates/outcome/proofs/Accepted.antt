@@ -1,44 +1,44 @@
 -- What the maker makes, the checker accepts: a made table has no more rows with what is pending than there are pairs.
-use Prim.Native.Nat.{_≤_, _<_}
+use Prim.Native.Nat.{ℕ, _≤_, _<_}
 use mathlib.Core.Path.{_≡_, sym, _∙_, ap, ap₂, subst}
 use mathlib.Core.Logic.{_⊎_, inl, inr}
 use mathlib.Core.Bool.{true, false}
 use mathlib.Core.Option.{map-eq-some-iff}
 use mathlib.Core.List.{map, Memᴰ·of-map}
-use lib.ListN.{length, length-map}
+use lib.ListN.{length-map}
 use Rattle.base.specs.Answers.{give, refuse}
 use Rattle.base.specs.declared.Refusal.the-variants.{Pairs}
 use Rattle.base.proofs.Lists.{never-both, some-one, distinct-map}
 use Rattle.logic.specs.Tower.{Tower}
 use Rattle.logic.specs.Book.{Book}
 use Rattle.logic.specs.Runs.{leads}
-use Rattle.logic.specs.Tables.{Table, Made}
-use Rattle.logic.specs.TableFile.{most-rows}
+use Rattle.logic.specs.Tables.{Table}
+use Rattle.pending.specs.Pending.{Pending}
 use Rattle.pending.specs.Pairs.{Pair, first-pair, over-pairs, most-pairs}
 use Rattle.outcome.specs.Game.{safe, safe-step}
 use Rattle.outcome.specs.Rows.{made-table}
 use Rattle.outcome.specs.Make.{table-for}
-use Rattle.outcome.specs.Check.{Item, judge}
+use Rattle.outcome.specs.Check.{judge}
+use Rattle.outcome.specs.MadeRight.{Makeable, GivenTable}
 use Rattle.outcome.specs.Reached.{ReachedPair, ReachedItem, MoreThan}
 use Rattle.outcome.proofs.RowPairs.{row-number}
-use Rattle.outcome.proofs.Items.{item, pair-of, RunTo, run-to}
-use Rattle.outcome.proofs.Counted.{item-reached, over-pairs-iff}
+use Rattle.outcome.proofs.Items.{pair-of, RunTo, run-to}
+use Rattle.outcome.proofs.Counted.{over-pairs-iff}
 use Rattle.outcome.proofs.Checker.{good-accepted}
-use Rattle.outcome.proofs.Maker.{Makeable, so, follows, safe-leads, made-good, made-made, table-made}
+use Rattle.outcome.proofs.Maker.{so, follows, safe-leads, made-good, made-made, table-made}
 
 module _ (tower : Tower) (book : Book) (able : Makeable tower book)
     (few : over-pairs tower book ≡ false) (first-safe : safe tower book (first-pair tower book) ≡ true) where
   -- the pair of a row with what is pending
-  pair : Item → Pair
-  pair v = pair-of tower book (made-table tower book) (v .row) (v .pending)
+  pair : Pair → Pair
+  pair v = pair-of tower book (made-table tower book) (v .state) (v .pending)
 
-  run : (v : Item) → ReachedItem tower book (made-table tower book) v → RunTo tower book (made-table tower book) v
+  run : (v : Pair) → ReachedItem tower book (made-table tower book) v → RunTo tower book (made-table tower book) v
   run v reached =
-      run-to tower book (made-table tower book) (follows tower book able few first-safe) v
-      (item-reached tower book (made-table tower book) (so tower book able few first-safe .is-table) v .1 reached)
+      run-to tower book (made-table tower book) (follows tower book able few first-safe) v reached
 
   -- the row is that of the pair
-  row-is : (v : Item) → ReachedItem tower book (made-table tower book) v → row-number tower book (pair v) ≡ v .row
+  row-is : (v : Pair) → ReachedItem tower book (made-table tower book) v → row-number tower book (pair v) ≡ v .state
   unfolding pair
   row-is v reached =
       let to = run v reached in
@@ -47,8 +47,11 @@ module _ (tower : Tower) (book : Book) (able : Makeable tower book)
       (sym (so tower book able few first-safe .runs (to .run)) ∙ to .row) in
       ap (row-number tower book) (some-one (to .pair) (safe-leads tower book able (to .run) (first-pair tower book) z f)) ∙ g
 
+  abbrev item : ℕ → Pending → Pair
+  item r p = record { state = r; pending = p }
+
   -- so different rows with what is pending have different pairs
-  pair-apart : (v w : Item) → ReachedItem tower book (made-table tower book) v → ReachedItem tower book (made-table tower book) w → pair v ≡ pair w → v ≡ w
+  pair-apart : (v w : Pair) → ReachedItem tower book (made-table tower book) v → ReachedItem tower book (made-table tower book) w → pair v ≡ pair w → v ≡ w
   pair-apart v w rv rw e =
       ap₂ item (sym (row-is v rv) ∙ ap (row-number tower book) e ∙ row-is w rw) (unfold pair in ap (λ z. z .pending) e)
 
@@ -64,7 +67,7 @@ module _ (tower : Tower) (book : Book) (able : Makeable tower book)
         subst (ReachedPair tower book) e (reached v (run v (all v here))),
   )
     where
-      reached : (v : Item) → RunTo tower book (made-table tower book) v → ReachedPair tower book (pair v)
+      reached : (v : Pair) → RunTo tower book (made-table tower book) v → ReachedPair tower book (pair v)
       reached v to = unfold ReachedPair pair in (to .run, to .pair)
 
   -- What is made is accepted.
@@ -80,12 +83,6 @@ module _ (tower : Tower) (book : Book) (able : Makeable tower book)
           → judge tower book (made-table tower book) ≡ give tt
       go (inl (e, fewer)) = e
       go (inr (e, many)) = never-both (over-pairs-iff tower book (able .listed) .1 (items-few many)) few
-
--- What is known of a table that the maker gives: it is the made table of the logic, has at most 1,000 rows, and is accepted.
-pub record GivenTable (tower : Tower) (book : Book) (table : Table) : Type 0 where
-  pub made : Made tower book table
-  pub few-rows : length table ≤ most-rows
-  pub accepted : judge tower book table ≡ give tt
 
 pub given-table : (tower : Tower) (book : Book) → Makeable tower book → (table : Table) → table-for tower book ≡ give table
     → GivenTable tower book table

@@ -1,6 +1,7 @@
 -- From the outcomes on bytes to the answers on towers, books and tables.
 use Prim.Native.Nat.{ℕ, _+_, _≤_}
 use mathlib.Core.Path.{_≡_, refl, sym, _∙_, ap, subst}
+use mathlib.Core.Logic.{_⊎_, inl, inr}
 use mathlib.Core.Bool.{Bool, true, false}
 use mathlib.Core.List.{List}
 use native.Mathlib.Omega.{arith}
@@ -13,12 +14,13 @@ use Rattle.base.specs.Bytes.{long-enough, cleared}
 use Rattle.base.specs.Answers.{Answer, refuse, give, _if_else_, _then_}
 use Rattle.base.proofs.Lists.{whether, never-both}
 use Rattle.base.proofs.Answers.{gives-not-refuses, if-gives, then-gives, then-on}
+use Rattle.base.specs.declared.Reason.{Reason}
 use Rattle.base.specs.declared.Refusal.{Refusal}
 use Rattle.base.specs.declared.Refusal.the-variants.{TowerSize, Range, Action, Target, Mask, Grammar, Number, Mark, Limit, Timed, Pairs, NoTable, Layout, NotGood, Area, Output, Outside, NotAllowed}
 use Rattle.base.specs.declared.MakeAnswer.the-variants.{Made, Refused}
 use Rattle.base.specs.declared.Verdict.{Verdict}
 use Rattle.base.specs.declared.Verdict.the-variants as Check
-use Rattle.logic.specs.Tower.{Tower}
+use Rattle.logic.specs.Tower.{Tower, layout-of}
 use Rattle.logic.specs.Book.{Book}
 use Rattle.logic.specs.Tables.{Table}
 use Rattle.logic.specs.TableFile.{table-file}
@@ -82,25 +84,25 @@ made-call tower-file text n file call =
 -- The file is that of the table for the tower and the book.
 pub file-of : (tower-file text file : List ℕ) (tower : Tower) (book : Book) → FitFiles tower-file text tower book
     → made-file tower-file text ≡ give file
-    → (table : Table) × (table-for tower book ≡ give table) × (table-file (tower .states) (tower .actions) table ≡ file)
+    → (table : Table) × (table-for tower book ≡ give table) × (table-file (layout-of tower-file) (tower .states) (tower .actions) table ≡ file)
 unfolding made-file
 file-of tower-file text file tower book fit e =
     let reads = sym (then-on _ (fit .tower-read) ∙ then-on _ (fit .book-read)) ∙ e in
-    let (table, made, same) = then-gives (table-for tower book) (λ table. give (table-file (tower .states) (tower .actions) table)) reads in
+    let (table, made, same) = then-gives (table-for tower book) (λ table. give (table-file (layout-of tower-file) (tower .states) (tower .actions) table)) reads in
     (table, made, give-one same)
 
 -- And a table for the tower and the book is written so.
 pub of-file : (tower-file text : List ℕ) (tower : Tower) (book : Book) → FitFiles tower-file text tower book → (o : Answer Table)
-    → table-for tower book ≡ o → made-file tower-file text ≡ (o then λ table. give (table-file (tower .states) (tower .actions) table))
+    → table-for tower book ≡ o → made-file tower-file text ≡ (o then λ table. give (table-file (layout-of tower-file) (tower .states) (tower .actions) table))
 unfolding made-file
 of-file tower-file text tower book fit o e =
-    then-on _ (fit .tower-read) ∙ then-on _ (fit .book-read) ∙ ap (λ o. o then λ table. give (table-file (tower .states) (tower .actions) table)) e
+    then-on _ (fit .tower-read) ∙ then-on _ (fit .book-read) ∙ ap (λ o. o then λ table. give (table-file (layout-of tower-file) (tower .states) (tower .actions) table)) e
 
 -- how a call of the maker ends on fit files
 ending : (tower-file text output : List ℕ) (areas : List (List ℕ)) (tower : Tower) (book : Book) → FitFiles tower-file text tower book
     → long-enough make-areas areas ≡ true → (o : Answer Table) → table-for tower book ≡ o
     → make-outcome tower-file text output areas
-    ≡ written ((o then λ table. give (table-file (tower .states) (tower .actions) table)) then λ file. fitting (length output) file) output (cleared areas)
+    ≡ written ((o then λ table. give (table-file (layout-of tower-file) (tower .states) (tower .actions) table)) then λ file. fitting (length output) file) output (cleared areas)
 unfolding make-outcome
 ending tower-file text output areas tower book fit enough o e =
     rw (enough, of-file tower-file text tower book fit o e)
@@ -144,9 +146,9 @@ call-refused tower-file text output areas tower book fit r not-area not-output e
         absurd (not-output (room f))
       where
         file : List ℕ
-        file = table-file (tower .states) (tower .actions) table
+        file = table-file (layout-of tower-file) (tower .states) (tower .actions) table
 
-        room : written ((give table then λ table. give (table-file (tower .states) (tower .actions) table)) then λ file. fitting (length output) file) output (cleared areas) .answer ≡ Refused r
+        room : written ((give table then λ table. give (table-file (layout-of tower-file) (tower .states) (tower .actions) table)) then λ file. fitting (length output) file) output (cleared areas) .answer ≡ Refused r
             → Output ≡ r
         room f = no-room (ltb (length output) (length file)) file output (cleared areas) r (unfold fitting _then_ in f)
 
@@ -173,26 +175,35 @@ good Check.Good = true
 good (Check.NotGood q) = false
 good (Check.Refused r) = false
 
+-- a refusal is turned down as itself, but 14 with its reason
+pub turned-down-as : (r : Refusal) → (turned-down r ≡ Check.Refused r) ⊎ ((why : Reason) × (r ≡ NotGood why) × (turned-down r ≡ Check.NotGood why))
+unfolding turned-down
+turned-down-as TowerSize = inl refl
+turned-down-as Range = inl refl
+turned-down-as Action = inl refl
+turned-down-as Target = inl refl
+turned-down-as Mask = inl refl
+turned-down-as (Grammar l) = inl refl
+turned-down-as (Number l) = inl refl
+turned-down-as (Mark l) = inl refl
+turned-down-as (Limit l) = inl refl
+turned-down-as (Timed l) = inl refl
+turned-down-as Pairs = inl refl
+turned-down-as NoTable = inl refl
+turned-down-as Layout = inl refl
+turned-down-as (NotGood why) = inr (why, refl, refl)
+turned-down-as Area = inl refl
+turned-down-as Output = inl refl
+turned-down-as Outside = inl refl
+turned-down-as NotAllowed = inl refl
+
 not-good : (r : Refusal) → good (turned-down r) ≡ false
-unfolding good turned-down
-not-good TowerSize = refl
-not-good Range = refl
-not-good Action = refl
-not-good Target = refl
-not-good Mask = refl
-not-good (Grammar l) = refl
-not-good (Number l) = refl
-not-good (Mark l) = refl
-not-good (Limit l) = refl
-not-good (Timed l) = refl
-not-good Pairs = refl
-not-good NoTable = refl
-not-good Layout = refl
-not-good (NotGood q) = refl
-not-good Area = refl
-not-good Output = refl
-not-good Outside = refl
-not-good NotAllowed = refl
+unfolding good
+not-good r = go (turned-down-as r)
+  where
+    go : (turned-down r ≡ Check.Refused r) ⊎ ((why : Reason) × (r ≡ NotGood why) × (turned-down r ≡ Check.NotGood why)) → good (turned-down r) ≡ false
+    go (inl e) = ap good e
+    go (inr (why, f, e)) = ap good e
 
 -- only what is given is called good
 verdict-good : (o : Answer (Unit {0})) → verdict o ≡ Check.Good → o ≡ give tt

@@ -16,24 +16,18 @@ use Rattle.base.specs.declared.Reason.the-variants.{Start, Withheld, Stopped, B
 use Rattle.base.specs.declared.Reason.the-variants as Why
 use Rattle.base.specs.declared.Refusal.the-variants.{Pairs, NotGood}
 use Rattle.logic.specs.Tower.{Tower, Listed}
-use Rattle.logic.specs.Book.{Book, FitBook}
-use Rattle.logic.specs.Tables.{Table, row-at, Allows, AllowsFrom, IsTable, NoneBroken, Good}
+use Rattle.logic.specs.Book.{Book}
+use Rattle.logic.specs.Tables.{Table, row-at, rows-tower, Allows, AllowsFrom, NoneBroken, Good}
 use Rattle.logic.specs.Runs.{IsRun, leads}
 use Rattle.logic.proofs.Canonical.{Follows, arrives, below-suc}
 use Rattle.pending.specs.Pairs.{Pair, pair-step, first-pair, most-pairs}
 use Rattle.pending.proofs.Theorems.{unbroken-iff}
 use Rattle.outcome.specs.Check.{wrong-start, withheld, wrong-step, stopped, judge-row, judge-rows, judge, over-items, some-broken}
 use Rattle.outcome.specs.Reached.{ReachedItem, MoreThan}
-use Rattle.outcome.specs.Judged.{RowRight, RightBelow, FirstReason, reason-a, reason-b, reason-c, reason-d, too-many, reason-e, good}
+use Rattle.outcome.specs.VerdictRight.{Judgeable, RowRight, RightBelow, FirstReason, reason-a, reason-b, reason-c, reason-d, too-many, reason-e, good}
 use Rattle.outcome.proofs.Reasons.{start-right, none-withheld, steps-right, goes-right}
-use Rattle.outcome.proofs.Items.{all-walked, none-found}
+use Rattle.outcome.proofs.Items.{rows-listed, all-walked, none-found}
 use Rattle.outcome.proofs.Counted.{over-items-iff}
-
--- What the checker may take for granted when it judges: a fit tower, a fit book, and bytes that are laid out as a table.
-pub record Judgeable (tower : Tower) (book : Book) (table : Table) : Type 0 where
-  pub listed : Listed tower
-  pub fit : FitBook book
-  pub is-table : IsTable table
 
 module _ (tower : Tower) (book : Book) (table : Table) (known : Judgeable tower book table) where
   -- no allowed run is broken exactly if every allowed run goes over unbroken steps
@@ -51,21 +45,25 @@ module _ (tower : Tower) (book : Book) (table : Table) (known : Judgeable tower 
   right-follows : RightBelow tower table (length table) → Follows tower table
   right-follows right = record { is-table = known .is-table; start = right .a; steps = λ r lt. right .rows r lt .c }
 
+  -- what is allowed is one of the tower's actions
+  right-listed : RightBelow tower table (length table) → Listed (rows-tower tower table)
+  right-listed right = rows-listed tower table (known .listed) (right-follows right)
+
   good-right : Good tower book table → RightBelow tower table (length table)
   good-right g = record { a = g .a; rows = λ r lt. record { b = g .b r lt; c = g .c r lt; d = g .d r lt } }
 
   -- what is asked behind the rows: 11 and e
   abbrev behind : Answer (Unit {0})
-  behind = Pairs if over-items tower book table else (NotGood Broken if some-broken tower book table else give tt)
+  behind = Pairs if over-items tower book table else (NotGood Broken if some-broken (rows-tower tower table) book else give tt)
 
   last : RightBelow tower table (length table)
       → FirstReason tower book table behind
   last right =
       whether (over-items tower book table)
-      (λ many. subst (FirstReason tower book table) (sym (if-refuses Pairs _ many)) (too-many right (over-items-iff tower book table (known .is-table) .0 many)))
+      (λ many. subst (FirstReason tower book table) (sym (if-refuses Pairs _ many)) (too-many right (over-items-iff tower book table (right-listed right) .0 many)))
       (λ few.
       subst (FirstReason tower book table) (sym (if-on Pairs _ few))
-      (whether (some-broken tower book table)
+      (whether (some-broken (rows-tower tower table) book)
       (λ broken. subst (FirstReason tower book table) (sym (if-refuses (NotGood Broken) _ broken)) (reason-e right (not-many few) (λ none. never-both broken (found none))))
       (λ whole. subst (FirstReason tower book table) (sym (if-on (NotGood Broken) _ whole)) (good (sound few whole) (not-many few)))))
     where
@@ -73,12 +71,12 @@ module _ (tower : Tower) (book : Book) (table : Table) (known : Judgeable tower 
       follows = right-follows right
 
       not-many : over-items tower book table ≡ false → MoreThan most-pairs (ReachedItem tower book table) → ⊥
-      not-many few many = never-both (over-items-iff tower book table (known .is-table) .1 many) few
+      not-many few many = never-both (over-items-iff tower book table (right-listed right) .1 many) few
 
-      found : NoneBroken tower book table → some-broken tower book table ≡ false
-      found none = none-found tower book table follows (none-broken-iff follows .0 none)
+      found : NoneBroken tower book table → some-broken (rows-tower tower table) book ≡ false
+      found none = none-found tower book table follows (right-listed right) (none-broken-iff follows .0 none)
 
-      sound : over-items tower book table ≡ false → some-broken tower book table ≡ false → Good tower book table
+      sound : over-items tower book table ≡ false → some-broken (rows-tower tower table) book ≡ false → Good tower book table
       sound few whole =
           record {
             is-table = known .is-table;
@@ -86,7 +84,7 @@ module _ (tower : Tower) (book : Book) (table : Table) (known : Judgeable tower 
             b = λ r lt. right .rows r lt .b;
             c = λ r lt. right .rows r lt .c;
             d = λ r lt. right .rows r lt .d;
-            e = none-broken-iff follows .1 (all-walked tower book table follows few whole);
+            e = none-broken-iff follows .1 (all-walked tower book table follows (right-listed right) few whole);
           }
 
   -- ---- the rows in turn
@@ -105,11 +103,11 @@ module _ (tower : Tower) (book : Book) (table : Table) (known : Judgeable tower 
       subst (FirstReason tower book table) (sym (if-on (NotGood (Withheld r)) _ e))
       (whether (some-of (wrong-step tower table r) (row-at table r .steps))
       (λ f.
-      subst (FirstReason tower book table) (sym (if-refuses (NotGood (Why.Step r)) _ f))
+      subst (FirstReason tower book table) (sym (if-refuses (NotGood (Why.WrongStep r)) _ f))
       (reason-c r lt right b (λ c. never-both f (steps-right tower table r (known .is-table .once r lt) .1 c))))
       (λ f.
       let c = steps-right tower table r (known .is-table .once r lt) .0 f in
-      subst (FirstReason tower book table) (sym (if-on (NotGood (Why.Step r)) _ f))
+      subst (FirstReason tower book table) (sym (if-on (NotGood (Why.WrongStep r)) _ f))
       (whether (stopped tower table r)
       (λ g.
       subst (FirstReason tower book table) (sym (if-refuses (NotGood (Stopped r)) _ g))
@@ -143,7 +141,7 @@ module _ (tower : Tower) (book : Book) (table : Table) (known : Judgeable tower 
   unfolding judge-row
   row-passed r after lt right =
       if-on (NotGood (Withheld r)) _ (none-withheld tower table r (known .listed) .1 (right .b))
-      ∙ if-on (NotGood (Why.Step r)) _ (steps-right tower table r (known .is-table .once r lt) .1 (right .c))
+      ∙ if-on (NotGood (Why.WrongStep r)) _ (steps-right tower table r (known .is-table .once r lt) .1 (right .c))
       ∙ if-on (NotGood (Stopped r)) _ (goes-right tower table r .1 (right .d))
 
   -- and so are n rows from row k on
@@ -178,8 +176,8 @@ module _ (tower : Tower) (book : Book) (table : Table) (known : Judgeable tower 
   unfolding judge-rows count-from
   judge-behind right = judge-from (length table) 0 (omega arith) right
 
-  few : (MoreThan most-pairs (ReachedItem tower book table) → ⊥) → over-items tower book table ≡ false
-  few not-many = false-by (over-items tower book table) (λ e. not-many (over-items-iff tower book table (known .is-table) .0 e))
+  few : RightBelow tower table (length table) → (MoreThan most-pairs (ReachedItem tower book table) → ⊥) → over-items tower book table ≡ false
+  few right not-many = false-by (over-items tower book table) (λ e. not-many (over-items-iff tower book table (right-listed right) .0 e))
 
   -- Only one answer is the right one.
   pub judge-is : (o : Answer (Unit {0})) → FirstReason tower book table o → judge tower book table ≡ o
@@ -194,25 +192,25 @@ module _ (tower : Tower) (book : Book) (table : Table) (known : Judgeable tower 
       judge-at r o lt right
       (λ after.
       if-on (NotGood (Withheld r)) _ (none-withheld tower table r (known .listed) .1 b)
-      ∙ if-refuses (NotGood (Why.Step r)) _
+      ∙ if-refuses (NotGood (Why.WrongStep r)) _
       (true-by (some-of (wrong-step tower table r) (row-at table r .steps)) (λ e. wrong (steps-right tower table r (known .is-table .once r lt) .0 e))))
   judge-is o (reason-d r lt right b c wrong) =
       judge-at r o lt right
       (λ after.
       if-on (NotGood (Withheld r)) _ (none-withheld tower table r (known .listed) .1 b)
-      ∙ if-on (NotGood (Why.Step r)) _ (steps-right tower table r (known .is-table .once r lt) .1 c)
+      ∙ if-on (NotGood (Why.WrongStep r)) _ (steps-right tower table r (known .is-table .once r lt) .1 c)
       ∙ if-refuses (NotGood (Stopped r)) _ (true-by (stopped tower table r) (λ e. wrong (goes-right tower table r .0 e))))
-  judge-is o (too-many right many) = judge-behind right ∙ if-refuses Pairs _ (over-items-iff tower book table (known .is-table) .1 many)
+  judge-is o (too-many right many) = judge-behind right ∙ if-refuses Pairs _ (over-items-iff tower book table (right-listed right) .1 many)
   judge-is o (reason-e right not-many wrong) =
       judge-behind right
-      ∙ if-on Pairs _ (few not-many)
+      ∙ if-on Pairs _ (few right not-many)
       ∙ if-refuses (NotGood Broken) _
-      (true-by (some-broken tower book table)
-      (λ e. wrong (none-broken-iff (right-follows right) .1 (all-walked tower book table (right-follows right) (few not-many) e))))
+      (true-by (some-broken (rows-tower tower table) book)
+      (λ e. wrong (none-broken-iff (right-follows right) .1 (all-walked tower book table (right-follows right) (right-listed right) (few right not-many) e))))
   judge-is o (good g not-many) =
       judge-behind (good-right g)
-      ∙ if-on Pairs _ (few not-many)
-      ∙ if-on (NotGood Broken) _ (none-found tower book table (right-follows (good-right g)) (none-broken-iff (right-follows (good-right g)) .0 (g .e)))
+      ∙ if-on Pairs _ (few (good-right g) not-many)
+      ∙ if-on (NotGood Broken) _ (none-found tower book table (right-follows (good-right g)) (right-listed (good-right g)) (none-broken-iff (right-follows (good-right g)) .0 (g .e)))
 
   -- A table is accepted only if it is good by the logic.
   pub accepted-good : judge tower book table ≡ give tt → Good tower book table
@@ -234,8 +232,8 @@ module _ (tower : Tower) (book : Book) (table : Table) (known : Judgeable tower 
   good-accepted g =
       whether (over-items tower book table)
       (λ many.
-      let more = over-items-iff tower book table (known .is-table) .0 many in inr (judge-is (refuse Pairs) (too-many (good-right g) more), more))
+      let more = over-items-iff tower book table (right-listed (good-right g)) .0 many in inr (judge-is (refuse Pairs) (too-many (good-right g) more), more))
       (λ not-over.
       let not-many : MoreThan most-pairs (ReachedItem tower book table) → ⊥ =
-      λ more. never-both (over-items-iff tower book table (known .is-table) .1 more) not-over in
+      λ more. never-both (over-items-iff tower book table (right-listed (good-right g)) .1 more) not-over in
       inl (judge-is (give tt) (good g not-many), not-many))

@@ -1,32 +1,28 @@
 -- Refusal 11 says what the paper says: more than 1,000 distinct ones are reached. The search's own count is never spoken of.
-use Prim.Native.Nat.{ℕ, _≤_}
-use mathlib.Core.Path.{_≡_, _∙_, ap₂, subst}
+use Prim.Native.Nat.{ℕ}
+use mathlib.Core.Path.{_≡_, subst}
 use mathlib.Core.Logic.{_↔_}
 use mathlib.Core.Bool.{Bool, true}
-use mathlib.Core.Option.{Option, some, bind, bind-eq-some-iff}
+use mathlib.Core.Option.{Option, some}
 use mathlib.Core.List.{List, [], _∷_, _++_, List·Memᴰ}
 use native.Mathlib.Omega.{arith}
-use lib.ListN.{length, List·getD-eq-default}
+use lib.ListN.{length}
 use lib.Dec.{ltb}
 use borrow.Author.Tests.{ltb-true, ltb-false}
 use Rattle.base.specs.Lists.{below}
 use Rattle.base.specs.Search.{search-from}
-use Rattle.base.proofs.Lists.{whether, true-by, present-map-in, present-map-out, below-mem, some-one}
+use Rattle.base.proofs.Lists.{true-by, present-map-in, present-map-out, below-mem, some-one}
 use Rattle.base.proofs.Search.{Reached, start, onward, search-at-most, search-more}
 use Rattle.logic.specs.Tower.{Tower, Listed}
 use Rattle.logic.specs.Book.{Book}
 use Rattle.logic.specs.Runs.{leads}
-use Rattle.logic.specs.Tables.{Table, row-at, move, Once, IsTable}
+use Rattle.logic.specs.Tables.{Table, rows-tower}
 use Rattle.logic.proofs.Leads.{leads-nil, leads-out, snoc-in}
-use Rattle.logic.proofs.Canonical.{step-found}
-use Rattle.pending.specs.Pending.{Pending, progressed}
 use Rattle.pending.specs.Pairs.{Pair, same-pair, first-pair, pair-step, pair-followers, pairs, over-pairs, most-pairs}
 use Rattle.pending.proofs.Same.{same-pair-eq, same-pair-refl}
 use Rattle.pending.proofs.Steps.{pair-step-listed}
-use Rattle.outcome.specs.Check.{Item, same-item, first-item, item-at, item-pending, item-followers, items, over-items}
-use Rattle.outcome.specs.Reached.{ReachedPair, item-step, ReachedItem, MoreThan}
-use Rattle.outcome.proofs.Reasons.{step-in}
-use Rattle.outcome.proofs.Items.{item-eq, item-refl, ItemReached}
+use Rattle.outcome.specs.Check.{over-items}
+use Rattle.outcome.specs.Reached.{ReachedPair, ReachedItem, MoreThan}
 
 -- ---- any search whose test decides equality
 
@@ -98,49 +94,8 @@ module _ (tower : Tower) (book : Book) (listed : Listed tower) where
 
 -- ---- rows with what is pending
 
--- no row has an action twice, a row outside the table neither
-once-any : (table : Table) → IsTable table → (r : ℕ) → Once (row-at table r .steps)
-once-any table is r =
-    whether (ltb r (length table)) (λ e. is .once r (ltb-true r (length table) e))
-    (λ e. outside (ltb-false r (length table) e))
-  where
-    outside : length table ≤ r → Once (row-at table r .steps)
-    outside h = unfold row-at Once in (rw (List·getD-eq-default table (record { state = 0; steps = [] }) h) tt)
-
-module _ (tower : Tower) (book : Book) (table : Table) (is : IsTable table) where
-  -- a follower of an item is the step of some action
-  follower-step : (x y : Item) → List·Memᴰ y (item-followers tower book table x) → (a : ℕ) × (item-step tower book table x a ≡ some y)
-  unfolding item-followers item-pending item-step move bind
-  follower-step x y m =
-      let (s, here, e) = present-map-out (λ s. item-at (s .target) (item-pending tower book table x s)) (row-at table (x .row) .steps) m in
-      let to : move table (x .row) (s .action) ≡ some (s .target) =
-      step-found s (row-at table (x .row) .steps) (once-any table is (x .row)) here in
-      (s .action, rw to e)
-
-  -- the step of an action leads to a follower
-  step-follower : (x y : Item) (a : ℕ) → item-step tower book table x a ≡ some y → List·Memᴰ y (item-followers tower book table x)
-  unfolding item-followers item-pending item-step move
-  step-follower x y a e =
-      let (r, to, f) = (bind-eq-some-iff (move table (x .row) a) (λ r. item-at r (next-pending x a))) .0 e in
-      let (s, here, act, tar) = step-in (row-at table (x .row) .steps) a r to in
-      present-map-in (λ s. item-at (s .target) (item-pending tower book table x s)) (row-at table (x .row) .steps) here
-      (ap₂ (λ z b. item-at z (next-pending x b)) tar act ∙ f)
-    where
-      next-pending : Item → ℕ → Option Pending
-      next-pending x a = progressed tower book (row-at table (x .row) .state) (tower .step-length (row-at table (x .row) .state) a) (x .pending)
-
-  -- an item is reached by followers exactly if some allowed run over unbroken steps leads to it
-  pub item-reached : (v : Item) → ItemReached tower book table v ↔ ReachedItem tower book table v
-  unfolding ReachedItem
-  item-reached v = (
-    reached-led (item-step tower book table) (item-followers tower book table) follower-step (first-item book) v,
-    λ (w, e).
-        led-reached (item-step tower book table) (item-followers tower book table) step-follower (first-item book) (first-item book) v w start e,
-  )
-
-  -- 11 exactly if more than 1,000 distinct rows with what is pending are reached over unbroken allowed steps
-  pub over-items-iff : over-items tower book table ≡ true ↔ MoreThan most-pairs (ReachedItem tower book table)
-  unfolding over-items items
-  over-items-iff =
-      counted same-item item-eq item-refl (item-followers tower book table) most-pairs (first-item book) (ReachedItem tower book table)
-      (λ v. item-reached v .0) (λ v. item-reached v .1)
+-- 11 exactly if more than 1,000 distinct rows with what is pending are reached over unbroken allowed steps
+pub over-items-iff : (tower : Tower) (book : Book) (table : Table) → Listed (rows-tower tower table)
+    → over-items tower book table ≡ true ↔ MoreThan most-pairs (ReachedItem tower book table)
+unfolding over-items ReachedItem
+over-items-iff tower book table listed = over-pairs-iff (rows-tower tower table) book listed

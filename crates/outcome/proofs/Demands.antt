@@ -1,97 +1,184 @@
--- Demands 2 and 3 of the customer's letter, each sentence with its theorem. They are about the outcomes on bytes with which the contracts
--- of the entries are equations: `check-outcome` and `make-outcome`. The words are those of crate `logic`; nothing here speaks of how an
--- answer is found. `FitFiles`, `FitTable` and `MadeCall` are in specs/Calls.antt, `MoreThan` and what is reached in specs/Reached.antt.
+-- The customer's letter, demands 1 to 3, each sentence above its theorems. They are about the outcomes on bytes with which the contracts of the
+-- entries are equations: `read-outcome`, `make-outcome`, `check-outcome` and `follow-outcome`. The words are those of crate `logic`; nothing
+-- here speaks of how an answer is found. Where the other words stand, in specs/ here:
+--   `FitFiles`, `FitTable`, `MadeCall`: Calls · the right answer of each entry: RightAnswer, with `FirstReason` in VerdictRight · what holds of every
+--   call: EveryCall · what an answer shows: Shown · `MoreThan` and what is reached: Reached · the follower: FollowChain.
+-- Numbers and places of answers are in base/specs/Answers.antt. The proofs are in Answering.antt, Refusals.antt and Following.antt.
 use Prim.Native.Nat.{ℕ, _≤_}
-use mathlib.Core.Path.{_≡_, sym, _∙_, ap, subst}
-use mathlib.Core.Logic.{_↔_, _⊎_, inl, inr, Iff·trans}
+use mathlib.Core.Path.{_≡_, sym, _∙_, subst}
+use mathlib.Core.Logic.{_↔_, _⊎_}
 use mathlib.Core.Bool.{true}
 use mathlib.Core.List.{List}
-use native.Mathlib.Omega.{arith}
 use lib.ListN.{length}
 use Rattle.base.specs.Bytes.{long-enough}
-use Rattle.base.specs.Answers.{Answer, give, refuse}
-use Rattle.base.specs.declared.Refusal.the-variants.{Pairs, NoTable, Area, Output}
+use Rattle.base.specs.Answers.{book-said, make-said, verdict-said, follow-said, Answer, give}
+use Rattle.base.specs.declared.Reason.{Reason}
+use Rattle.base.specs.declared.Refusal.{Refusal}
+use Rattle.base.specs.declared.Refusal.the-variants.{Pairs, NoTable, Area}
+use Rattle.base.specs.declared.BookAnswer.{BookAnswer}
+use Rattle.base.specs.declared.BookAnswer.the-variants as Book
+use Rattle.base.specs.declared.MakeAnswer.{MakeAnswer}
 use Rattle.base.specs.declared.MakeAnswer.the-variants.{Refused}
+use Rattle.base.specs.declared.Verdict.{Verdict}
 use Rattle.base.specs.declared.Verdict.the-variants as Check
-use Rattle.logic.specs.Tower.{Tower}
-use Rattle.logic.specs.Book.{Book}
-use Rattle.logic.specs.Tables.{Table, IsTable, Allows, Good, GoodAllow, Made}
-use Rattle.logic.specs.TableFile.{table-file}
-use Rattle.logic.proofs.Canonical.{good-follows, made-fewest}
-use Rattle.logic.proofs.TableFile.{Fits, made-fits}
-use Rattle.reading.specs.TableReading.{rows-of, table-of}
-use Rattle.reading.proofs.FitInput.{tower-fits, table-read, laid-out-read}
-use Rattle.reading.proofs.BookLines.{book-fit}
-use Rattle.reading.proofs.HeldTable.{FileHolds, file-holds}
-use Rattle.reading.proofs.TableReading.{laid-out-fits, file-laid-out, file-table, made-same-file}
+use Rattle.base.specs.declared.FollowAnswer.{FollowAnswer}
+use Rattle.base.specs.declared.FollowAnswer.the-variants as Follow
+use Rattle.logic.specs.Tower.{Tower, most-marks}
+use Rattle.logic.specs.Book.{Book, nodes}
+use Rattle.logic.specs.Tables.{Table, Allows, Good, GoodAllow}
+use Rattle.reading.specs.BookReading.{read-book}
+use Rattle.reading.specs.TableReading.{laid-out, table-of}
 use Rattle.pending.specs.Pairs.{most-pairs}
-use Rattle.outcome.specs.Areas.{make-areas, check-areas}
-use Rattle.outcome.specs.Check.{judge, verdict, turned-down, check-outcome}
+use Rattle.outcome.specs.Areas.{book-areas, make-areas, check-areas}
+use Rattle.outcome.specs.ReadBook.{read-outcome}
 use Rattle.outcome.specs.Make.{make-outcome}
+use Rattle.outcome.specs.Check.{verdict, check-outcome}
+use Rattle.outcome.specs.Follow.{follow-outcome}
 use Rattle.outcome.specs.Reached.{ReachedPair, ReachedItem, MoreThan}
+use Rattle.outcome.specs.VerdictRight.{FirstReason}
 use Rattle.outcome.specs.Calls.{FitFiles, FitTable, MadeCall}
-use Rattle.outcome.specs.Judged.{FirstReason}
-use Rattle.outcome.specs.MadeRight.{too-many, none-good}
-use Rattle.outcome.proofs.Checker.{Judgeable, judged, judge-is, accepted-good, good-accepted}
-use Rattle.outcome.proofs.Maker.{Makeable, table-only, no-table-out, over-out}
-use Rattle.outcome.proofs.Accepted.{GivenTable, given-table}
-use Rattle.outcome.proofs.CallLaws.{made-call, file-of, refused-call, call-refused, check-call, accepted-call, accepted-files}
+use Rattle.outcome.specs.EveryCall.{book-numbers, make-numbers, check-numbers, follow-numbers, RefusesWith, AreasRight}
+use Rattle.outcome.specs.FollowChain.{FollowsTo, Chain}
+use Rattle.outcome.specs.RightAnswer.{RightRead, read-given, RightMake, make-pairs, make-none, RightCheck, check-judged, RightFollow}
+use Rattle.outcome.specs.Shown.{HoldsGood, NoneGood, TooManyPairs, MadeWell, EqualExactly, FewestRows, MakesTable}
+use Rattle.outcome.proofs.CallLaws.{accepted-call}
+use Rattle.outcome.proofs.Refusals as Refusals
+use Rattle.outcome.proofs.Answering as Answering
+use Rattle.outcome.proofs.Following as Following
 
--- ---- what fit files give
+-- ---- 1. 'Where a tower file, rule book, table, row, action or lent area is not fit to use, the call refuses with the number that our paper
+-- gives;'
 
-pub makeable : (tower-file text : List ℕ) (tower : Tower) (book : Book) → FitFiles tower-file text tower book → Makeable tower book
-makeable tower-file text tower book fit =
-    record { listed = tower-fits tower-file tower (fit .tower-read) .listed; fit = book-fit (tower .marks) text book (fit .book-read) }
+-- 01: 'A number is given when its condition holds and nothing before it in the order does, and never else.' The answer is x exactly if x is the
+-- right one of the cases in specs/RightAnswer.antt, which stand in the paper's order.
+pub reads-exactly : (marks : ℕ) (text : List ℕ) (areas : List (List ℕ)) (x : BookAnswer)
+    → (read-outcome marks text areas .answer ≡ x) ↔ RightRead marks text areas x
+reads-exactly marks text areas x =
+    (λ e. subst (RightRead marks text areas) e (Answering.read-right marks text areas), Answering.read-only marks text areas x)
 
-pub judgeable : (tower-file text file : List ℕ) (tower : Tower) (book : Book) (table : Table) → FitFiles tower-file text tower book
-    → FitTable tower file table → Judgeable tower book table
-unfolding FitTable
-judgeable tower-file text file tower book table fit laid =
-    let able = makeable tower-file text tower book fit in
-    let (is-laid, states, actions, same) = table-read tower file table laid in
-    record { listed = able .listed; fit = able .fit; is-table = subst IsTable same (laid-out-fits file is-laid .is-table) }
+pub makes-exactly : (tower-file text output : List ℕ) (areas : List (List ℕ)) (x : MakeAnswer)
+    → (make-outcome tower-file text output areas .answer ≡ x) ↔ RightMake tower-file text output areas x
+makes-exactly tower-file text output areas x = (
+  λ e. subst (RightMake tower-file text output areas) e (Answering.make-right tower-file text output areas),
+  Answering.make-only tower-file text output areas x,
+)
 
--- what a call that made a table wrote: the file of a table that is given
-pub record Wrote (n : ℕ) (file : List ℕ) (tower : Tower) (book : Book) : Type 0 where
-  pub table : Table
-  pub given : GivenTable tower book table
-  pub same : table-file (tower .states) (tower .actions) table ≡ file
-  pub size : length file ≡ n
+pub checks-exactly : (tower-file text file : List ℕ) (areas : List (List ℕ)) (x : Verdict)
+    → (check-outcome tower-file text file areas .answer ≡ x) ↔ RightCheck tower-file text file areas x
+checks-exactly tower-file text file areas x = (
+  λ e. subst (RightCheck tower-file text file areas) e (Answering.check-right tower-file text file areas),
+  Answering.check-only tower-file text file areas x,
+)
 
-wrote : (tower-file text file : List ℕ) (n : ℕ) (tower : Tower) (book : Book) → FitFiles tower-file text tower book
-    → MadeCall tower-file text n file → Wrote n file tower book
-wrote tower-file text file n tower book fit call =
-    let (gives, size) = made-call tower-file text n file call in
-    let (table, is, same) = file-of tower-file text file tower book fit gives in
-    record { table = table; given = given-table tower book (makeable tower-file text tower book fit) table is; same = same; size = size }
+pub follows-exactly : (file : List ℕ) (row action : ℕ) (x : FollowAnswer) → (follow-outcome file row action ≡ x) ↔ RightFollow file row action x
+follows-exactly file row action x = (
+  λ e. subst (RightFollow file row action) e (Following.follow-right file row action),
+  Following.follow-only file row action x,
+)
+
+-- 15 is answered exactly if an area is too short, and then every area is as it was. In every other case every area is zero over its whole length.
+pub read-areas-right : (marks : ℕ) (text : List ℕ) (areas : List (List ℕ))
+    → AreasRight book-areas areas (read-outcome marks text areas .answer ≡ Book.Refused Area) (read-outcome marks text areas .areas)
+read-areas-right marks text areas = Refusals.book-areas-right marks text areas
+
+pub make-areas-right : (tower-file text output : List ℕ) (areas : List (List ℕ))
+    → AreasRight make-areas areas (make-outcome tower-file text output areas .answer ≡ Refused Area) (make-outcome tower-file text output areas .areas)
+make-areas-right tower-file text output areas = Refusals.make-areas-right tower-file text output areas
+
+pub check-areas-right : (tower-file text file : List ℕ) (areas : List (List ℕ))
+    → AreasRight check-areas areas (check-outcome tower-file text file areas .answer ≡ Check.Refused Area) (check-outcome tower-file text file areas .areas)
+check-areas-right tower-file text file areas = Refusals.check-areas-right tower-file text file areas
+
+-- No entry refuses with a number that the paper does not list for it.
+pub read-refuses : (marks : ℕ) (text : List ℕ) (areas : List (List ℕ)) → RefusesWith book-numbers (book-said (read-outcome marks text areas .answer))
+read-refuses marks text areas = Refusals.book-refuses marks text areas
+
+pub make-refuses : (tower-file text output : List ℕ) (areas : List (List ℕ))
+    → RefusesWith make-numbers (make-said (make-outcome tower-file text output areas .answer))
+make-refuses tower-file text output areas = Refusals.make-refuses tower-file text output areas
+
+pub check-refuses : (tower-file text file : List ℕ) (areas : List (List ℕ))
+    → RefusesWith check-numbers (verdict-said (check-outcome tower-file text file areas .answer))
+check-refuses tower-file text file areas = Refusals.check-refuses tower-file text file areas
+
+pub follow-refuses : (file : List ℕ) (row action : ℕ) → RefusesWith follow-numbers (follow-said (follow-outcome file row action))
+follow-refuses file row action = Refusals.follow-refuses file row action
+
+-- 'if it is fit and within the stated sizes, the call answers.'
+
+-- the book reader: the numbers of lines and nodes
+pub reads : (marks : ℕ) (text : List ℕ) (areas : List (List ℕ)) (book : Book) → marks ≤ most-marks → read-book marks text ≡ give book
+    → long-enough book-areas areas ≡ true → read-outcome marks text areas .answer ≡ Book.Read (length book) (length (nodes book))
+reads marks text areas book few e enough = Answering.read-only marks text areas _ (read-given enough few book e)
+
+-- the maker: with not more than 1,000 pairs and some good table it makes one, and says 16 exactly where the output is shorter
+pub makes : (tower-file text : List ℕ) (tower : Tower) (book : Book) → FitFiles tower-file text tower book
+    → (MoreThan most-pairs (ReachedPair tower book) → ⊥) → (table : Table) → Good tower book table → MakesTable tower-file text tower book
+makes tower-file text tower book fit few table good = Answering.makes tower-file text tower book fit few table good
+
+-- the checker: with not more than 1,000 rows with what is pending it says that the table is good, or the reason why not
+pub checks : (tower-file text file : List ℕ) (areas : List (List ℕ)) (tower : Tower) (book : Book) (table : Table)
+    → FitFiles tower-file text tower book → FitTable tower file table → long-enough check-areas areas ≡ true
+    → (MoreThan most-pairs (ReachedItem tower book table) → ⊥)
+    → (check-outcome tower-file text file areas .answer ≡ Check.Good)
+    ⊎ ((why : Reason) × (check-outcome tower-file text file areas .answer ≡ Check.NotGood why))
+checks tower-file text file areas tower book table fit laid enough few =
+    Answering.checks tower-file text file areas tower book table fit laid enough few
+
+-- the follower: it answers row s exactly if the file is laid out, row and action lie inside, and the table allows that action there with
+-- target row s
+pub follows : (file : List ℕ) (row action s : ℕ) → (follow-outcome file row action ≡ Follow.Row s) ↔ FollowsTo file row action s
+follows file row action s = (Following.follows-out file row action s, Following.follows-in file row action s)
+
+-- and a chain of its answers from row 0 on is a run that the table allows, each such run being a chain
+pub follows-runs : (file : List ℕ) → laid-out file ≡ true → (w : List ℕ) → ((s : ℕ) × Chain file 0 w s) ↔ Allows (table-of file) w
+follows-runs file laid w = Following.chain-iff file laid w
+
+-- 'Every call ends.' The outcomes are functions, defined for every input, and each function of the code is proved to end in its outcome.
+-- 'A refusal changes no byte of the output,' The maker is the only entry with an output.
+
+pub refusal-keeps-output : (tower-file text output : List ℕ) (areas : List (List ℕ)) (r : Refusal)
+    → make-outcome tower-file text output areas .answer ≡ Refused r → make-outcome tower-file text output areas .output ≡ output
+refusal-keeps-output tower-file text output areas r e = Refusals.make-keeps-output tower-file text output areas r e
+
+-- 'and no entry relies on its caller to have tested anything.' No entry's contract has a `requires`. Nor does an entry rely on what areas and
+-- output hold before the call: the answer depends on how long they are alone, and the bytes of a made table do not depend on them at all.
+
+pub same-read : (marks : ℕ) (text : List ℕ) (areas lent : List (List ℕ)) → long-enough book-areas areas ≡ true → long-enough book-areas lent ≡ true
+    → read-outcome marks text areas .answer ≡ read-outcome marks text lent .answer
+same-read marks text areas lent enough lent-enough =
+    Refusals.book-enough marks text areas enough .0 ∙ sym (Refusals.book-enough marks text lent lent-enough .0)
+
+pub same-check : (tower-file text file : List ℕ) (areas lent : List (List ℕ)) → long-enough check-areas areas ≡ true
+    → long-enough check-areas lent ≡ true → check-outcome tower-file text file areas .answer ≡ check-outcome tower-file text file lent .answer
+same-check tower-file text file areas lent enough lent-enough =
+    Refusals.check-enough tower-file text file areas enough .0 ∙ sym (Refusals.check-enough tower-file text file lent lent-enough .0)
+
+pub same-make : (tower-file text output other : List ℕ) (areas lent : List (List ℕ)) → long-enough make-areas areas ≡ true
+    → long-enough make-areas lent ≡ true → length output ≡ length other
+    → make-outcome tower-file text output areas .answer ≡ make-outcome tower-file text other lent .answer
+same-make tower-file text output other areas lent enough lent-enough same =
+    Refusals.make-same-answer tower-file text output other areas lent enough lent-enough same
+
+pub same-made : (tower-file text : List ℕ) (n m : ℕ) (file other-file : List ℕ) → MadeCall tower-file text n file
+    → MadeCall tower-file text m other-file → (n ≡ m) × (file ≡ other-file)
+same-made tower-file text n m file other-file call other-call =
+    Answering.same-made tower-file text n m file other-file call other-call
 
 -- ---- 2. 'The checking end accepts a table, whoever made it, only if it is good by the metric temporal logic of the paper,'
 
 pub accepts-only-good : (tower-file text file : List ℕ) (areas : List (List ℕ)) → check-outcome tower-file text file areas .answer ≡ Check.Good
-    → (tower : Tower) × ((book : Book) × ((table : Table) × FitFiles tower-file text tower book × FitTable tower file table × Good tower book table))
-accepts-only-good tower-file text file areas e =
-    let (tower, (book, (table, fit, laid, judged))) = accepted-files tower-file text file (accepted-call tower-file text file areas e) in
-    (tower, (book, (table, fit, laid, accepted-good tower book table (judgeable tower-file text file tower book table fit laid) judged)))
+    → HoldsGood tower-file text file
+accepts-only-good tower-file text file areas e = Answering.accepted-holds tower-file text file (accepted-call tower-file text file areas e)
 
 -- 'and turns down a good one only for the stated size.'
 
-pub good-or-size : (tower-file text file : List ℕ) (areas : List (List ℕ)) (tower : Tower) (book : Book) (table : Table)
-    → FitFiles tower-file text tower book → FitTable tower file table → long-enough check-areas areas ≡ true → Good tower book table
+pub good-or-size : (tower-file text file : List ℕ) (areas : List (List ℕ)) → long-enough check-areas areas ≡ true
+    → (holds : HoldsGood tower-file text file)
     → (check-outcome tower-file text file areas .answer ≡ Check.Good)
-    ⊎ ((check-outcome tower-file text file areas .answer ≡ Check.Refused Pairs) × MoreThan most-pairs (ReachedItem tower book table))
-unfolding verdict turned-down
-good-or-size tower-file text file areas tower book table fit laid enough good =
-    go (good-accepted tower book table (judgeable tower-file text file tower book table fit laid) good)
-  where
-    says : check-outcome tower-file text file areas .answer ≡ verdict (judge tower book table)
-    says = check-call tower-file text file areas tower book table fit laid enough
-
-    go : ((judge tower book table ≡ give tt) × (MoreThan most-pairs (ReachedItem tower book table) → ⊥))
-        ⊎ ((judge tower book table ≡ refuse Pairs) × MoreThan most-pairs (ReachedItem tower book table))
-        → (check-outcome tower-file text file areas .answer ≡ Check.Good)
-        ⊎ ((check-outcome tower-file text file areas .answer ≡ Check.Refused Pairs) × MoreThan most-pairs (ReachedItem tower book table))
-    go (inl (e, few)) = inl (says ∙ ap verdict e)
-    go (inr (e, many)) = inr (says ∙ ap verdict e, many)
+    ⊎ ((check-outcome tower-file text file areas .answer ≡ Check.Refused Pairs)
+    × MoreThan most-pairs (ReachedItem (holds .tower) (holds .book) (holds .table)))
+good-or-size tower-file text file areas enough holds = Answering.good-or-size tower-file text file areas enough holds
 
 -- The checker's answer in full: on fit files it is the first reason that holds, and no other.
 
@@ -99,132 +186,55 @@ pub checker-says : (tower-file text file : List ℕ) (areas : List (List ℕ)) (
     → FitFiles tower-file text tower book → FitTable tower file table → long-enough check-areas areas ≡ true → (o : Answer (Unit {0}))
     → FirstReason tower book table o → check-outcome tower-file text file areas .answer ≡ verdict o
 checker-says tower-file text file areas tower book table fit laid enough o first =
-    check-call tower-file text file areas tower book table fit laid enough
-    ∙ ap verdict (judge-is tower book table (judgeable tower-file text file tower book table fit laid) o first)
+    Answering.check-only tower-file text file areas _ (check-judged enough tower book table fit laid o first)
 
 -- 'The making end refuses for want of a table only if no good table of any length exists,'
 
-pub none-exists : (tower-file text output : List ℕ) (areas : List (List ℕ)) (tower : Tower) (book : Book) → FitFiles tower-file text tower book
-    → make-outcome tower-file text output areas .answer ≡ Refused NoTable → (table : Table) → Good tower book table → ⊥
-none-exists tower-file text output areas tower book fit e =
-    no-table-out tower book (makeable tower-file text tower book fit)
-    (call-refused tower-file text output areas tower book fit NoTable not-area not-output e)
-  where
-    not-area : Area ≡ NoTable → ⊥
-    not-area f = let z : _≡_ {A = ℕ} 0 1 = cc in omega arith
-
-    not-output : Output ≡ NoTable → ⊥
-    not-output f = let z : _≡_ {A = ℕ} 0 1 = cc in omega arith
+pub none-exists : (tower-file text output : List ℕ) (areas : List (List ℕ))
+    → make-outcome tower-file text output areas .answer ≡ Refused NoTable → NoneGood tower-file text
+none-exists tower-file text output areas e = Answering.none-exists tower-file text output areas e
 
 -- 'and for size only beyond the 1,000 pairs of our paper.'
 
-pub beyond-size : (tower-file text output : List ℕ) (areas : List (List ℕ)) (tower : Tower) (book : Book) → FitFiles tower-file text tower book
-    → make-outcome tower-file text output areas .answer ≡ Refused Pairs → MoreThan most-pairs (ReachedPair tower book)
-beyond-size tower-file text output areas tower book fit e =
-    over-out tower book (makeable tower-file text tower book fit)
-    (call-refused tower-file text output areas tower book fit Pairs not-area not-output e)
-  where
-    not-area : Area ≡ Pairs → ⊥
-    not-area f = let z : _≡_ {A = ℕ} 0 1 = cc in omega arith
-
-    not-output : Output ≡ Pairs → ⊥
-    not-output f = let z : _≡_ {A = ℕ} 0 1 = cc in omega arith
+pub beyond-size : (tower-file text output : List ℕ) (areas : List (List ℕ))
+    → make-outcome tower-file text output areas .answer ≡ Refused Pairs → TooManyPairs tower-file text
+beyond-size tower-file text output areas e = Answering.beyond-size tower-file text output areas e
 
 -- Both exactly: with areas that are long enough, each is said wherever its condition holds and nothing before it does.
 
-pub says-beyond-size : (tower-file text output : List ℕ) (areas : List (List ℕ)) (tower : Tower) (book : Book) → FitFiles tower-file text tower book
-    → long-enough make-areas areas ≡ true → MoreThan most-pairs (ReachedPair tower book)
-    → make-outcome tower-file text output areas .answer ≡ Refused Pairs
-says-beyond-size tower-file text output areas tower book fit enough many =
-    refused-call tower-file text output areas tower book fit enough Pairs
-    (table-only tower book (makeable tower-file text tower book fit) (refuse Pairs) (too-many many))
+pub says-beyond-size : (tower-file text output : List ℕ) (areas : List (List ℕ)) → long-enough make-areas areas ≡ true
+    → TooManyPairs tower-file text → make-outcome tower-file text output areas .answer ≡ Refused Pairs
+says-beyond-size tower-file text output areas enough over =
+    Answering.make-only tower-file text output areas _ (make-pairs enough (over .tower) (over .book) (over .fit) (over .many))
 
-pub says-none-exists : (tower-file text output : List ℕ) (areas : List (List ℕ)) (tower : Tower) (book : Book) → FitFiles tower-file text tower book
-    → long-enough make-areas areas ≡ true → (MoreThan most-pairs (ReachedPair tower book) → ⊥) → ((table : Table) → Good tower book table → ⊥)
+pub says-none-exists : (tower-file text output : List ℕ) (areas : List (List ℕ)) → long-enough make-areas areas ≡ true
+    → (lost : NoneGood tower-file text) → (MoreThan most-pairs (ReachedPair (lost .tower) (lost .book)) → ⊥)
     → make-outcome tower-file text output areas .answer ≡ Refused NoTable
-says-none-exists tower-file text output areas tower book fit enough few lost =
-    refused-call tower-file text output areas tower book fit enough NoTable
-    (table-only tower book (makeable tower-file text tower book fit) (refuse NoTable) (none-good few lost))
+says-none-exists tower-file text output areas enough lost few =
+    Answering.make-only tower-file text output areas _ (make-none enough (lost .tower) (lost .book) (lost .fit) few (lost .no-table))
 
 -- 'What it makes is accepted, and allows every run that any good table allows.'
 
-pub record MadeWell (tower-file text file : List ℕ) (tower : Tower) (book : Book) : Type 0 where
-  pub table : Table
-  pub laid : FitTable tower file table
-  pub made : Made tower book table
-  pub accepted : (areas : List (List ℕ)) → long-enough check-areas areas ≡ true → check-outcome tower-file text file areas .answer ≡ Check.Good
-  pub rows : rows-of file ≡ length table
+pub makes-well : (tower-file text : List ℕ) (n : ℕ) (file : List ℕ) → MadeCall tower-file text n file → MadeWell tower-file text n file
+makes-well tower-file text n file call = Answering.makes-well tower-file text n file call
 
-pub makes-well : (tower-file text file : List ℕ) (n : ℕ) (tower : Tower) (book : Book) → FitFiles tower-file text tower book
-    → MadeCall tower-file text n file → MadeWell tower-file text file tower book
-makes-well tower-file text file n tower book fit call =
-    of-wrote (wrote tower-file text file n tower book fit call)
-  where
-    of-wrote : Wrote n file tower book → MadeWell tower-file text file tower book
-    of-wrote it =
-        record {
-          table = table;
-          laid = laid;
-          made = it .given .made;
-          accepted = λ areas enough.
-              check-call tower-file text file areas tower book table fit laid enough ∙ (unfold verdict in (ap verdict (it .given .accepted)));
-          rows = ap rows-of (sym (it .same)) ∙ holds .rows;
-        }
-      where
-        table : Table
-        table = it .table
-
-        fits : Fits (tower .states) (tower .actions) table
-        fits = made-fits tower book table (tower-fits tower-file tower (fit .tower-read)) (it .given .made) (it .given .few-rows)
-
-        holds : FileHolds (tower .states) (tower .actions) table (table-file (tower .states) (tower .actions) table)
-        holds = file-holds (tower .states) (tower .actions) table fits
-
-        laid : FitTable tower file table
-        laid =
-            subst (λ bytes. FitTable tower bytes table) (it .same)
-            (unfold FitTable in
-            (laid-out-read tower (table-file (tower .states) (tower .actions) table) (file-laid-out (tower .states) (tower .actions) table fits)
-            (holds .for-states) (holds .for-actions)
-            ∙ ap give (file-table (tower .states) (tower .actions) table fits)))
+pub just-the-runs : (tower-file text : List ℕ) (n : ℕ) (file : List ℕ) (well : MadeWell tower-file text n file) (w : List ℕ)
+    → Allows (table-of file) w ↔ GoodAllow (well .tower) (well .book) w
+just-the-runs tower-file text n file well w = Answering.just-the-runs tower-file text n file well w
 
 -- ---- 3. 'Take one and the same tower and any two rule books, and let a table be made from each without refusal, whatever the lent areas held
--- before. Each table allows just the runs that good tables allow under its book, and has the rows of our paper.' This is `makes-well`.
+-- before. Each table allows just the runs that good tables allow under its book, and has the rows of our paper.' This is
+-- `just-the-runs` and `makes-well` of each, whose field `made` is the made table of the logic.
 -- 'The two are of one length and equal in every byte exactly when every run that some good table allows under the one book is allowed by some
 -- good table under the other, and the other way round.'
 
-pub same-bytes : (tower-file text other-text file other-file : List ℕ) (n m : ℕ) (tower : Tower) (book other-book : Book)
-    → FitFiles tower-file text tower book → FitFiles tower-file other-text tower other-book
-    → MadeCall tower-file text n file → MadeCall tower-file other-text m other-file
-    → ((n ≡ m) × (file ≡ other-file)) ↔ ((w : List ℕ) → GoodAllow tower book w ↔ GoodAllow tower other-book w)
-same-bytes tower-file text other-text file other-file n m tower book other-book fit other-fit call other-call =
-    go (wrote tower-file text file n tower book fit call) (wrote tower-file other-text other-file m tower other-book other-fit other-call)
-  where
-    go : Wrote n file tower book → Wrote m other-file tower other-book
-        → ((n ≡ m) × (file ≡ other-file)) ↔ ((w : List ℕ) → GoodAllow tower book w ↔ GoodAllow tower other-book w)
-    go one two = (
-      λ (sizes, bytes). files .1 (one .same ∙ bytes ∙ sym (two .same)),
-      λ runs.
-          let bytes : file ≡ other-file = sym (one .same) ∙ files .0 runs ∙ two .same in
-          (sym (one .size) ∙ ap length bytes ∙ two .size, bytes),
-    )
-      where
-        files : ((w : List ℕ) → GoodAllow tower book w ↔ GoodAllow tower other-book w)
-            ↔ (table-file (tower .states) (tower .actions) (one .table) ≡ table-file (tower .states) (tower .actions) (two .table))
-        files =
-            made-same-file tower book other-book (one .table) (two .table) (tower-fits tower-file tower (fit .tower-read)) (one .given .made)
-            (two .given .made) (one .given .few-rows) (two .given .few-rows)
+pub same-bytes : (tower-file text other-text : List ℕ) (n m : ℕ) (file other-file : List ℕ) → MadeCall tower-file text n file
+    → MadeCall tower-file other-text m other-file → EqualExactly tower-file text other-text n m file other-file
+same-bytes tower-file text other-text n m file other-file call other-call =
+    Answering.same-bytes tower-file text other-text n m file other-file call other-call
 
 -- 'And every other good table for that tower, under either book and of any length, that allows just the runs of a made one has no fewer rows
 -- than the header of the made one gives.'
 
-pub fewest-rows : (tower-file text file : List ℕ) (n : ℕ) (tower : Tower) (book any-book : Book) → FitFiles tower-file text tower book
-    → MadeCall tower-file text n file → (other : Table) → Good tower any-book other
-    → ((w : List ℕ) → Allows other w ↔ Allows (table-of file) w) → rows-of file ≤ length other
-unfolding FitTable
-fewest-rows tower-file text file n tower book any-book fit call other good same =
-    let well = makes-well tower-file text file n tower book fit call in
-    let (laid, states, actions, is) = table-read tower file (well .table) (well .laid) in
-    subst (λ k. k ≤ length other) (sym (well .rows))
-    (made-fewest tower book (well .table) other (well .made) (good-follows tower any-book other good)
-    (λ w. Iff·trans (subst (λ z. Allows other w ↔ Allows z w) is (same w)) (well .made .runs w)))
+pub fewest-rows : (tower-file text : List ℕ) (n : ℕ) (file : List ℕ) → MadeCall tower-file text n file → FewestRows tower-file file
+fewest-rows tower-file text n file call = Answering.fewest-rows tower-file text n file call

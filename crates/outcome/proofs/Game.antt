@@ -21,7 +21,7 @@ use Rattle.logic.proofs.Canonical.{good-arrives, good-run}
 use Rattle.pending.specs.Pairs.{Pair, same-pair, first-pair, pair-step, pair-followers, pairs, over-pairs, most-pairs}
 use Rattle.pending.proofs.Same.{same-pair-eq, same-pair-refl}
 use Rattle.pending.proofs.Steps.{pair-step-listed}
-use Rattle.outcome.specs.Game.{forced-right, can-go, fine, kept-through, last-removal, safe}
+use Rattle.outcome.specs.Game.{forced-right, can-go, fine, safe-through, last-removal, safe}
 
 module _ (tower : Tower) (book : Book) where
   -- where a list of actions leads over unbroken steps
@@ -61,10 +61,10 @@ module _ (tower : Tower) (book : Book) (listed : Listed tower) (exact : Exact to
             (u, ap (λ z. pair-step tower book z a) (some-one (at .pair) (out .1)) ∙ out .2, record { row = row; pair = met })
 
   -- an action that may not be withheld stays inside whatever holds of the pairs that the table reaches
-  forced : (kept : Pair → Bool) (w : List ℕ) (r : ℕ) (v : Pair) → Together w r v
-      → ((u : List ℕ) (s : ℕ) (z : Pair) → Together u s z → kept z ≡ true) → (a : ℕ) → forced-right tower book kept v a ≡ true
+  forced : (staying : Pair → Bool) (w : List ℕ) (r : ℕ) (v : Pair) → Together w r v
+      → ((u : List ℕ) (s : ℕ) (z : Pair) → Together u s z → staying z ≡ true) → (a : ℕ) → forced-right tower book staying v a ≡ true
   unfolding forced-right NoneWithheld AllowsAction
-  forced kept w r v at all a =
+  forced staying w r v at all a =
       whether (controllable (tower .kind a))
       (λ yes-ours. or-left _ (or-left _ yes-ours))
       (λ not-ours.
@@ -74,28 +74,28 @@ module _ (tower : Tower) (book : Book) (listed : Listed tower) (exact : Exact to
       let allowed = good .b r (inside w r v at) a y (ap (λ x. tower .target x a) (same-state w r v at) ∙ e) not-ours in
       let next = onward w r v at a (allowed .0) (allowed .1) in
       or-right (controllable (tower .kind a) || not (is-there (tower .target (v .state) a)))
-      (there-with-in kept (next .1) (all (w ++ (a ∷ [])) (allowed .0) (next .0) (next .2)))))
+      (there-with-in staying (next .1) (all (w ++ (a ∷ [])) (allowed .0) (next .0) (next .2)))))
 
-  goes : (kept : Pair → Bool) (w : List ℕ) (r : ℕ) (v : Pair) → Together w r v
-      → ((u : List ℕ) (s : ℕ) (z : Pair) → Together u s z → kept z ≡ true) → some-of (can-go tower book kept v) (below (tower .actions)) ≡ true
+  goes : (staying : Pair → Bool) (w : List ℕ) (r : ℕ) (v : Pair) → Together w r v
+      → ((u : List ℕ) (s : ℕ) (z : Pair) → Together u s z → staying z ≡ true) → some-of (can-go tower book staying v) (below (tower .actions)) ≡ true
   unfolding can-go GoesOn AllowsAction StepsRight Listed
-  goes kept w r v at all =
+  goes staying w r v at all =
       let (a, allowed, on) = good .d r (inside w r v at) in
       let next = onward w r v at a (allowed .0) (allowed .1) in
       let enabled = good .c r (inside w r v at) a (allowed .0) (allowed .1) in
-      below-some (can-go tower book kept v) (tower .actions) a (listed (row-at table r .state) a _ enabled)
-      (and-both on (there-with-in kept (next .1) (all (w ++ (a ∷ [])) (allowed .0) (next .0) (next .2))))
+      below-some (can-go tower book staying v) (tower .actions) a (listed (row-at table r .state) a _ enabled)
+      (and-both on (there-with-in staying (next .1) (all (w ++ (a ∷ [])) (allowed .0) (next .0) (next .2))))
 
   -- Whatever a good table reaches is kept through every round.
-  pub good-kept : (n : ℕ) (w : List ℕ) (r : ℕ) (v : Pair) → Together w r v → kept-through tower book n v ≡ true
-  unfolding kept-through fine
-  good-kept zero w r v at = refl
-  good-kept (suc n) w r v at =
-      and-both (good-kept n w r v at)
+  pub good-stays : (n : ℕ) (w : List ℕ) (r : ℕ) (v : Pair) → Together w r v → safe-through tower book n v ≡ true
+  unfolding safe-through fine
+  good-stays zero w r v at = refl
+  good-stays (suc n) w r v at =
+      and-both (good-stays n w r v at)
       (and-both
-      (below-every (forced-right tower book (kept-through tower book n) v) (tower .actions)
-      (λ a lt. forced (kept-through tower book n) w r v at (good-kept n) a))
-      (goes (kept-through tower book n) w r v at (good-kept n)))
+      (below-every (forced-right tower book (safe-through tower book n) v) (tower .actions)
+      (λ a lt. forced (safe-through tower book n) w r v at (good-stays n) a))
+      (goes (safe-through tower book n) w r v at (good-stays n)))
 
 -- ---- what is kept to the end is fine
 
@@ -111,40 +111,40 @@ module _ (tower : Tower) (book : Book) (listed : Listed tower) (few : over-pairs
       (present-map-in (pair-step tower book v) (below (tower .actions)) (below-mem (tower .actions) a (pair-step-listed tower book listed v w a e)) e))
 
   -- a pair is fine among the kept, whichever of two tests that agree on its steps says what is kept
-  fine-along : (kept other : Pair → Bool) (v : Pair) → ((a : ℕ) (w : Pair) → pair-step tower book v a ≡ some w → kept w ≡ other w)
-      → fine tower book kept v ≡ fine tower book other v
+  fine-along : (staying other : Pair → Bool) (v : Pair) → ((a : ℕ) (w : Pair) → pair-step tower book v a ≡ some w → staying w ≡ other w)
+      → fine tower book staying v ≡ fine tower book other v
   unfolding fine
-  fine-along kept other v same =
+  fine-along staying other v same =
       ap₂ _&&_
       (ap (λ test. every test (below (tower .actions))) (fun-ext λ a. forced-along a))
       (ap (λ test. some-of test (below (tower .actions))) (fun-ext λ a. going-along a))
     where
-      step-along : (a : ℕ) (o : Option Pair) → pair-step tower book v a ≡ o → there-with kept o ≡ there-with other o
+      step-along : (a : ℕ) (o : Option Pair) → pair-step tower book v a ≡ o → there-with staying o ≡ there-with other o
       step-along a none e = unfold there-with in refl
       step-along a (some w) e = unfold there-with in same a w e
 
-      forced-along : (a : ℕ) → forced-right tower book kept v a ≡ forced-right tower book other v a
+      forced-along : (a : ℕ) → forced-right tower book staying v a ≡ forced-right tower book other v a
       forced-along a =
           unfold forced-right in
           (ap (λ b. controllable (tower .kind a) || not (is-there (tower .target (v .state) a)) || b) (step-along a (pair-step tower book v a) refl))
 
-      going-along : (a : ℕ) → can-go tower book kept v a ≡ can-go tower book other v a
+      going-along : (a : ℕ) → can-go tower book staying v a ≡ can-go tower book other v a
       going-along a = unfold can-go in (ap (λ b. goes-on (tower .kind a) && b) (step-along a (pair-step tower book v a) refl))
 
   -- the rounds of removal only remove, and once a round removes none, no later one does
-  removal-falls : Falling (kept-through tower book) (pairs tower book)
-  unfolding kept-through
+  removal-falls : Falling (safe-through tower book) (pairs tower book)
+  unfolding safe-through
   removal-falls =
       record {
-        falls = λ k v m e. and-left (kept-through tower book k v) (fine tower book (kept-through tower book k) v) e;
+        falls = λ k v m e. and-left (safe-through tower book k v) (fine tower book (safe-through tower book k) v) e;
         rests = λ k same v m.
             ap₂ _&&_ (same v m)
-            (fine-along (kept-through tower book k) (kept-through tower book (suc k)) v (λ a w e. same w (met-step v a w m e)));
+            (fine-along (safe-through tower book k) (safe-through tower book (suc k)) v (λ a w e. same w (met-step v a w m e)));
       }
 
   -- A pair that is never removed is fine among those that are never removed.
   pub safe-fine : (v : Pair) → List·Memᴰ v (pairs tower book) → safe tower book v ≡ true → fine tower book (safe tower book) v ≡ true
-  unfolding safe last-removal kept-through
+  unfolding safe last-removal safe-through
   safe-fine v m e =
-      and-right (kept-through tower book (last-removal tower book) v) (fine tower book (kept-through tower book (last-removal tower book)) v)
-      (sym (rest-round-rests (kept-through tower book) (pairs tower book) removal-falls v m) ∙ e)
+      and-right (safe-through tower book (last-removal tower book) v) (fine tower book (safe-through tower book (last-removal tower book)) v)
+      (sym (rest-round-rests (safe-through tower book) (pairs tower book) removal-falls v m) ∙ e)

@@ -10,10 +10,10 @@ use Rattle.base.specs.Answers.{Answer, refuse, give}
 use Rattle.base.proofs.Lists.{whether, never-both, not-in, only-if-in}
 use Rattle.base.proofs.Answers.{gives-not-refuses, if-on, if-refuses, if-gives}
 use Rattle.base.specs.declared.Refusal.the-variants.{Pairs, NoTable}
-use Rattle.logic.specs.Tower.{Tower, Listed}
-use Rattle.logic.specs.Book.{Book, FitBook}
+use Rattle.logic.specs.Tower.{Tower}
+use Rattle.logic.specs.Book.{Book}
 use Rattle.logic.specs.Runs.{leads, IsRun}
-use Rattle.logic.specs.Tables.{Table, row-at, move, Allows, AllowsFrom, NoneBroken, Good, GoodAllow, Made}
+use Rattle.logic.specs.Tables.{Table, row-at, move, Allows, AllowsFrom, NoneBroken, Good, GoodAllow, IsMade}
 use Rattle.logic.proofs.Leads.{leads-nil, leads-in, leads-out}
 use Rattle.logic.proofs.Canonical.{Follows, arrives, made-unique}
 use Rattle.pending.specs.Pairs.{Pair, first-pair, pair-step, over-pairs, most-pairs}
@@ -22,17 +22,12 @@ use Rattle.outcome.specs.Game.{last-removal, safe, safe-step}
 use Rattle.outcome.specs.Rows.{made-table}
 use Rattle.outcome.specs.Make.{table-for}
 use Rattle.outcome.specs.Reached.{ReachedPair, MoreThan}
-use Rattle.outcome.specs.MadeRight.{RightTable, too-many, none-good, made}
-use Rattle.outcome.proofs.Game.{Exact, Together, onward, good-kept, met-step, safe-fine}
+use Rattle.outcome.specs.MadeRight.{Makeable, RightTable, too-many, none-good, made}
+use Rattle.outcome.proofs.Game.{Exact, Together, onward, good-stays, met-step, safe-fine}
 use Rattle.outcome.proofs.Alike.{Known, safe-step-out}
 use Rattle.outcome.proofs.RowPairs.{row-number}
 use Rattle.outcome.proofs.MadeTable.{MadeSo, made-so}
 use Rattle.outcome.proofs.Counted.{over-pairs-iff}
-
--- What the maker may take for granted when it makes: a fit tower and a fit book.
-pub record Makeable (tower : Tower) (book : Book) : Type 0 where
-  pub listed : Listed tower
-  pub fit : FitBook book
 
 module _ (tower : Tower) (book : Book) (able : Makeable tower book) where
   exact : Exact tower book
@@ -54,9 +49,9 @@ module _ (tower : Tower) (book : Book) (able : Makeable tower book) where
     first : Together tower book (able .listed) exact table good [] 0 (first-pair tower book)
     first = record { row = leads-nil (move table) 0; pair = leads-nil (pair-step tower book) (first-pair tower book) }
 
-    kept : (w : List ℕ) (r : ℕ) (v : Pair) → Together tower book (able .listed) exact table good w r v → safe tower book v ≡ true
+    staying : (w : List ℕ) (r : ℕ) (v : Pair) → Together tower book (able .listed) exact table good w r v → safe tower book v ≡ true
     unfolding safe
-    kept w r v at = good-kept tower book (able .listed) exact table good (last-removal tower book) w r v at
+    staying w r v at = good-stays tower book (able .listed) exact table good (last-removal tower book) w r v at
 
     -- from where both are, every run that the table allows goes over safe steps
     inside : (u w : List ℕ) (r s : ℕ) (v : Pair) → Together tower book (able .listed) exact table good w r v → leads (move table) r u ≡ some s
@@ -66,7 +61,7 @@ module _ (tower : Tower) (book : Book) (able : Makeable tower book) where
         let (t, to, on) = leads-out (move table) r s a u e in
         let (y, step, next) = onward tower book (able .listed) exact table good w r v at a t to in
         let (z, rest) = inside u (w ++ (a ∷ [])) t s y next on in
-        (z, leads-in (safe-step tower book) v y z a u (safe-in v y a step (kept (w ++ (a ∷ [])) t y next)) rest)
+        (z, leads-in (safe-step tower book) v y z a u (safe-in v y a step (staying (w ++ (a ∷ [])) t y next)) rest)
 
     -- What a good table allows goes over safe steps.
     good-inside : (w : List ℕ) → Allows table w → (z : Pair) × (leads (safe-step tower book) (first-pair tower book) w ≡ some z)
@@ -75,7 +70,7 @@ module _ (tower : Tower) (book : Book) (able : Makeable tower book) where
 
     -- Where a good table exists, the first pair is safe.
     good-safe : safe tower book (first-pair tower book) ≡ true
-    good-safe = kept [] 0 (first-pair tower book) first
+    good-safe = staying [] 0 (first-pair tower book) first
 
   -- ---- the made table
 
@@ -131,7 +126,7 @@ module _ (tower : Tower) (book : Book) (able : Makeable tower book) where
         is-run w allowed = unfold IsRun Allows AllowsFrom in (row-at (made-table tower book) (allowed .0) .state, arrives tower (made-table tower book) follows w (allowed .0) (allowed .1) .state)
 
     -- The table is the made table of the logic.
-    pub made-made : Made tower book (made-table tower book)
+    pub made-made : IsMade tower book (made-table tower book)
     unfolding GoodAllow
     made-made =
         record {

@@ -10,7 +10,8 @@ use native.Mathlib.Omega.{arith}
 use borrow.Author.Tests.{ltb-false}
 use Rattle.base.specs.Lists.{some-of, below, place-of}
 use Rattle.base.proofs.Lists.{same-truth, same-option-out, none-some, some-one, some-of-mem, mem-getD, mem-along, present-map-out, present-map-in, below-mem, place-of-some, place-of-at}
-use Rattle.base.proofs.Search.{Reached, start, onward, Apart, Fitting, apart-at, apart-few, search-first, search-reached, search-apart, search-all}
+use Rattle.base.specs.Search.{Apart}
+use Rattle.base.proofs.Search.{Reached, start, onward, Fitting, apart-at, apart-few, search-first, search-reached, search-apart, search-all}
 use Rattle.logic.specs.Tower.{Tower}
 use Rattle.logic.specs.Book.{Book}
 use Rattle.logic.specs.Runs.{leads}

@@ -18,6 +18,12 @@ pub record FitFiles (tower-file text : List ℕ) (tower : Tower) (book : Book) :
   pub tower-read : read-tower tower-file ≡ give tower
   pub book-read : read-book (tower .marks) text ≡ give book
 
+-- The files are fit: some tower and some book are in them.
+pub record Fit (tower-file text : List ℕ) : Type 0 where
+  pub tower : Tower
+  pub book : Book
+  pub fit : FitFiles tower-file text tower book
+
 -- The bytes are laid out as a table for the tower: they are those of this table.
 unfoldable pub FitTable : Tower → List ℕ → Table → Type 0
 FitTable tower file table = read-table tower file ≡ give table

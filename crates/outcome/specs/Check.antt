@@ -1,12 +1,11 @@
 -- The checker's outcome: 15, tower, book, 13, 14 a, 14 b to d by row, 11 counted over rows with what is pending, 14 e.
 use Prim.Native.Nat.{ℕ}
 use mathlib.Core.Bool.{Bool, _&&_, not}
-use mathlib.Core.Option.{Option, none, some}
-use mathlib.Core.List.{List, [], _∷_, map}
+use mathlib.Core.List.{List, [], _∷_}
 use lib.ListN.{length}
-use lib.Dec.{ltb, eqb}
+use lib.Dec.{eqb}
 use Rattle.base.specs.Choice.{pick}
-use Rattle.base.specs.Lists.{every, some-of, below, present, is-there, there-with}
+use Rattle.base.specs.Lists.{every, some-of, below, is-there, there-with}
 use Rattle.base.specs.Bytes.{long-enough, cleared}
 use Rattle.base.specs.Answers.{Answer, refuse, give, _if_else_, _then_}
 use Rattle.base.specs.declared.Reason.the-variants.{Start, Withheld, Stopped, Broken}
@@ -17,14 +16,12 @@ use Rattle.base.specs.declared.Verdict.{Verdict}
 use Rattle.base.specs.declared.Verdict.the-variants as Check
 use Rattle.logic.specs.Tower.{Tower, controllable, goes-on}
 use Rattle.logic.specs.Book.{Book}
-use Rattle.logic.specs.Tables.{Step, Row, Table, row-at, move}
+use Rattle.logic.specs.Tables.{Step, Table, row-at, move, rows-tower}
 use Rattle.reading.specs.TowerReading.{read-tower}
 use Rattle.reading.specs.BookReading.{read-book}
 use Rattle.reading.specs.TableReading.{read-table}
-use Rattle.pending.specs.Pending.{Pending, same-pending, progressed, first-pending}
+use Rattle.pending.specs.Pairs.{Pair, pair-step, pairs, over-pairs}
 use Rattle.outcome.specs.Areas.{check-areas}
-use Rattle.base.specs.Search.{search-from}
-use Rattle.pending.specs.Pairs.{most-pairs}
 
 -- ---- reasons a to d
 
@@ -50,7 +47,7 @@ stopped tower table r = every (λ s. not (goes-on (tower .kind (s .action)))) (r
 unfoldable pub judge-row : Tower → Table → ℕ → Answer (Unit {0}) → Answer (Unit {0})
 judge-row tower table r after =
     NotGood (Withheld r) if some-of (withheld tower table r) (below (tower .actions)) else
-    NotGood (Why.Step r) if some-of (wrong-step tower table r) (row-at table r .steps) else
+    NotGood (Why.WrongStep r) if some-of (wrong-step tower table r) (row-at table r .steps) else
     NotGood (Stopped r) if stopped tower table r else
     after
 
@@ -59,60 +56,33 @@ unfoldable pub judge-rows : Tower → Table → List ℕ → Answer (Unit {0}) �
 judge-rows tower table [] after = after
 judge-rows tower table (r ∷ rs) after = judge-row tower table r (judge-rows tower table rs after)
 
--- ---- 11 and reason e: rows with what is pending
+-- ---- 11 and reason e: rows with what is pending, which are the pairs of the table as a tower
 
--- A row with what is pending there.
-pub record Item : Type 0 where
-  pub row : ℕ
-  pub pending : Pending
-
-unfoldable pub same-item : Item → Item → Bool
-same-item v w = eqb (v .row) (w .row) && same-pending (v .pending) (w .pending)
-
--- row 0 with the `start` formulas pending
-unfoldable pub first-item : Book → Item
-first-item book = record { row = 0; pending = first-pending book }
-
--- what is pending after a step of an item's row; nothing if the step is broken
-unfoldable pub item-pending : Tower → Book → Table → Item → Step → Option Pending
-item-pending tower book table v s =
-    progressed tower book (row-at table (v .row) .state) (tower .step-length (row-at table (v .row) .state) (s .action)) (v .pending)
-
-unfoldable pub item-at : ℕ → Option Pending → Option Item
-item-at r none = none
-item-at r (some p) = some (record { row = r; pending = p })
-
--- the items that unbroken allowed steps lead to
-unfoldable pub item-followers : Tower → Book → Table → Item → List Item
-item-followers tower book table v =
-    present (map (λ s. item-at (s .target) (item-pending tower book table v s)) (row-at table (v .row) .steps))
-
--- the rows with what is pending that are reached over unbroken steps
-unfoldable pub items : Tower → Book → Table → List Item
-items tower book table = search-from same-item (item-followers tower book table) most-pairs (first-item book)
-
--- 11: more than 1,000 of them
+-- 11: more than 1,000 rows with what is pending are reached over unbroken allowed steps
 unfoldable pub over-items : Tower → Book → Table → Bool
-over-items tower book table = ltb most-pairs (length (items tower book table))
+over-items tower book table = over-pairs (rows-tower tower table) book
 
--- a step of the item is broken
-unfoldable pub breaks : Tower → Book → Table → Item → Bool
-breaks tower book table v =
-    some-of (λ s. not (is-there (item-pending tower book table v s))) (row-at table (v .row) .steps)
+-- an action that is enabled in the pair's state makes a broken step
+unfoldable pub broken-step : Tower → Book → Pair → ℕ → Bool
+broken-step tower book v a = is-there (tower .target (v .state) a) && not (is-there (pair-step tower book v a))
 
--- (e) Some allowed run is broken.
-unfoldable pub some-broken : Tower → Book → Table → Bool
-some-broken tower book table = some-of (breaks tower book table) (items tower book table)
+-- a step of the pair is broken
+unfoldable pub breaks : Tower → Book → Pair → Bool
+breaks tower book v = some-of (broken-step tower book v) (below (tower .actions))
+
+-- some run of the tower is broken
+unfoldable pub some-broken : Tower → Book → Bool
+some-broken tower book = some-of (breaks tower book) (pairs tower book)
 
 -- ---- the verdict
 
--- a table for a tower and a book: 14 a; 14 b to d; 11; 14 e
+-- a table for a tower and a book: 14 a; 14 b to d; 11; 14 e, that some allowed run is broken
 unfoldable pub judge : Tower → Book → Table → Answer (Unit {0})
 judge tower book table =
     NotGood Start if wrong-start tower table else
     judge-rows tower table (below (length table))
     (Pairs if over-items tower book table else
-    NotGood Broken if some-broken tower book table else
+    NotGood Broken if some-broken (rows-tower tower table) book else
     give tt)
 
 -- files of a tower, a book and a table

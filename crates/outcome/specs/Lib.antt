@@ -6,7 +6,13 @@ pub mod Make
 pub mod Check
 pub mod Follow
 pub mod Reached
-pub mod Judged
+pub mod VerdictRight
 pub mod MadeRight
 pub mod Calls
+pub mod EveryCall
+pub mod FollowChain
+pub mod RightAnswer
+pub mod Shown
 pub mod SmallTower
+pub mod TinyTowers
+pub mod RefusalTable

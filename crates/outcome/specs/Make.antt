@@ -11,7 +11,7 @@ use Rattle.base.specs.Answers.{Answer, refuse, give, _if_else_, _then_}
 use Rattle.base.specs.declared.Refusal.the-variants.{Pairs, NoTable, Area, Output}
 use Rattle.base.specs.declared.MakeAnswer.{MakeAnswer}
 use Rattle.base.specs.declared.MakeAnswer.the-variants.{Made, Refused}
-use Rattle.logic.specs.Tower.{Tower}
+use Rattle.logic.specs.Tower.{Tower, layout-of}
 use Rattle.logic.specs.Book.{Book}
 use Rattle.logic.specs.Tables.{Table}
 use Rattle.logic.specs.TableFile.{table-file}
@@ -29,13 +29,13 @@ table-for tower book =
     NoTable if not (safe tower book (first-pair tower book)) else
     give (made-table tower book)
 
--- the file of the made table, for files of a tower and a book
+-- the file of the made table, in the layout of the tower's file, for files of a tower and a book
 unfoldable pub made-file : List ℕ → List ℕ → Answer (List ℕ)
 made-file tower text =
     read-tower tower then λ t.
     read-book (t .marks) text then λ book.
     table-for t book then λ table.
-    give (table-file (t .states) (t .actions) table)
+    give (table-file (layout-of tower) (t .states) (t .actions) table)
 
 -- 16: the output is shorter than the file
 unfoldable pub fitting : ℕ → List ℕ → Answer (List ℕ)

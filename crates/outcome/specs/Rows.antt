@@ -13,8 +13,8 @@ use Rattle.base.specs.Search.{search-from, rest-round}
 use Rattle.pending.specs.Pairs.{Pair, first-pair, pairs}
 use Rattle.outcome.specs.Game.{safe-step}
 
--- Two safe pairs that are told apart in fewer than n + 1 steps are two rows: equal state, and after each action both or neither, not told
--- apart in fewer than n.
+-- Two safe pairs are alike for n steps: they have equal state, and for each action both or neither allow it, and lead to pairs that are
+-- alike for n - 1 steps. Two pairs that some n tells apart are two rows.
 unfoldable pub alike-for : Tower → Book → ℕ → Pair → Pair → Bool
 alike-for tower book zero v w = eqb (v .state) (w .state)
 alike-for tower book (suc n) v w =
@@ -42,6 +42,10 @@ one-row tower book v w = alike-for tower book (last-split tower book) v w
 -- the pairs that allowed actions lead to, actions ascending
 unfoldable pub safe-followers : Tower → Book → Pair → List Pair
 safe-followers tower book v = present (map (safe-step tower book v) (below (tower .actions)))
+
+-- Rows by example, the small tower's book 1. Row 0 is the start, state 0. Its actions in turn: 0 leads to state 1, met first: row 1; 2 leads to
+-- state 2: row 2. Row 1 allows action 1, to state 0 with other runs onward than row 0 has: row 3. Row 2 allows action 3, to state 0 again: row 4.
+-- Row 3 leads by action 2 to row 2, row 4 by action 0 to row 1, and nothing new is met.
 
 -- one pair for each row: the start, then the others as first met, rows in order, actions ascending
 unfoldable pub row-pairs : Tower → Book → List Pair

@@ -1,15 +1,15 @@
 -- 01, 'Tower file' and 'Small-tower table': the small tower, its books, and the table of its eleven outcomes as a statement.
-use Prim.Native.Nat.{ℕ, _-_}
+use Prim.Native.Nat.{ℕ}
 use Prim.Native.String.{String}
 use mathlib.Core.Path.{_≡_}
 use mathlib.Core.List.{List, [], _∷_, _++_}
-use lib.ListN.{take, replicate}
+use lib.ListN.{take, drop}
 use Rattle.base.specs.Text.{byte, ascii}
 use Rattle.base.specs.Bytes.{cleared}
 use Rattle.base.specs.Answers.{answered, refused, make-said, verdict-said}
 use Rattle.reading.specs.TableReading.{rows-of, steps-of}
 use Rattle.outcome.specs.Make.{MakeOutcome, make-outcome}
-use Rattle.outcome.specs.Check.{check-outcome}
+use Rattle.outcome.specs.Check.{CheckOutcome, check-outcome}
 
 -- the small tower, 34 bytes
 unfoldable pub small-tower : List ℕ
@@ -55,17 +55,17 @@ book-10 = "always N <= 1 T\n"
 
 -- ---- the calls
 
--- an output of 60 bytes, each of them 170 before the call
-unfoldable pub output : List ℕ
-output = replicate 60 170
-
--- the maker called for the small tower and a book, with the areas lent to it
-unfoldable pub made : List (List ℕ) → String → MakeOutcome
-made areas book = make-outcome small-tower (ascii book) output areas
+-- the maker called for the small tower and a book, with an output and the areas lent to it
+unfoldable pub made : List ℕ → List (List ℕ) → String → MakeOutcome
+made output areas book = make-outcome small-tower (ascii book) output areas
 
 -- the table that such a call made, of so many bytes
-unfoldable pub table : ℕ → List (List ℕ) → String → List ℕ
-table n areas book = take n (made areas book .output)
+unfoldable pub table : ℕ → List ℕ → List (List ℕ) → String → List ℕ
+table n output areas book = take n (made output areas book .output)
+
+-- the checker called for the small tower and a book, with the bytes of a table and the areas lent to it
+unfoldable pub checked : List ℕ → List (List ℕ) → String → CheckOutcome
+checked file areas book = check-outcome small-tower (ascii book) file areas
 
 -- the 50 bytes of outcome 1
 unfoldable pub table-1 : List ℕ
@@ -117,31 +117,36 @@ table-7 =
     ∷ 3 ∷ 2 ∷ 0
     ∷ []
 
--- A made table of so many bytes, r rows and s steps; the output behind it and the areas as 01 says.
-pub record MadeTable (areas : List (List ℕ)) (book : String) (bytes r s : ℕ) : Type 0 where
-  pub said : make-said (made areas book .answer) ≡ answered (bytes ∷ [])
-  pub rows : rows-of (table bytes areas book) ≡ r
-  pub steps : steps-of (table bytes areas book) ≡ s
-  pub behind : made areas book .output ≡ table bytes areas book ++ replicate (60 - bytes) 170
-  pub clear : made areas book .areas ≡ cleared areas
+-- A made table of so many bytes, r rows and s steps; the output behind it is as it was, and the areas are clear.
+pub record MadeTable (output : List ℕ) (areas : List (List ℕ)) (book : String) (bytes r s : ℕ) : Type 0 where
+  pub said : make-said (made output areas book .answer) ≡ answered (bytes ∷ [])
+  pub rows : rows-of (table bytes output areas book) ≡ r
+  pub steps : steps-of (table bytes output areas book) ≡ s
+  pub behind : made output areas book .output ≡ table bytes output areas book ++ drop bytes output
+  pub clear : made output areas book .areas ≡ cleared areas
 
 -- A refusal with this number at place 0; the output is as it was, and the areas are clear.
-pub record NotMade (areas : List (List ℕ)) (book : String) (number : ℕ) : Type 0 where
-  pub said : make-said (made areas book .answer) ≡ refused number 0 []
-  pub output : made areas book .output ≡ output
-  pub clear : made areas book .areas ≡ cleared areas
+pub record NotMade (output : List ℕ) (areas : List (List ℕ)) (book : String) (number : ℕ) : Type 0 where
+  pub said : make-said (made output areas book .answer) ≡ refused number 0 []
+  pub unchanged : made output areas book .output ≡ output
+  pub clear : made output areas book .areas ≡ cleared areas
 
--- 'Small-tower table', row by row, whatever the lent areas hold.
-pub record SmallTowerTable (areas lent : List (List ℕ)) : Type 0 where
-  pub outcome-1 : MadeTable areas book-1 50 5 6
-  pub bytes-1 : table 50 areas book-1 ≡ table-1
-  pub outcome-2 : made areas book-2 ≡ made areas book-1
-  pub outcome-3 : made areas book-3 ≡ made areas book-1
-  pub outcome-4 : NotMade areas book-4 12
-  pub outcome-5 : MadeTable areas book-5 36 3 4
-  pub outcome-6 : MadeTable areas book-6 26 2 2
-  pub outcome-7 : MadeTable areas book-7 43 4 5
-  pub outcome-8 : made areas book-8 ≡ made areas book-5
-  pub outcome-9 : NotMade areas book-9 12
-  pub outcome-10 : made areas book-10 ≡ made areas book-5
-  pub outcome-11 : verdict-said (check-outcome small-tower (ascii book-1) (table 36 areas book-5) lent .answer) ≡ refused 14 0 (byte "e" ∷ [])
+-- The checker turns a table down with 14 and this letter; the areas are clear.
+pub record TurnedDown (file : List ℕ) (areas : List (List ℕ)) (book : String) (letter : ℕ) : Type 0 where
+  pub said : verdict-said (checked file areas book .answer) ≡ refused 14 0 (letter ∷ [])
+  pub clear : checked file areas book .areas ≡ cleared areas
+
+-- 'Small-tower table', row by row, whatever the output and the lent areas hold.
+pub record SmallTowerTable (output : List ℕ) (areas lent : List (List ℕ)) : Type 0 where
+  pub outcome-1 : MadeTable output areas book-1 50 5 6
+  pub bytes-1 : table 50 output areas book-1 ≡ table-1
+  pub outcome-2 : made output areas book-2 ≡ made output areas book-1
+  pub outcome-3 : made output areas book-3 ≡ made output areas book-1
+  pub outcome-4 : NotMade output areas book-4 12
+  pub outcome-5 : MadeTable output areas book-5 36 3 4
+  pub outcome-6 : MadeTable output areas book-6 26 2 2
+  pub outcome-7 : MadeTable output areas book-7 43 4 5
+  pub outcome-8 : made output areas book-8 ≡ made output areas book-5
+  pub outcome-9 : NotMade output areas book-9 12
+  pub outcome-10 : made output areas book-10 ≡ made output areas book-5
+  pub outcome-11 : TurnedDown (table 36 output areas book-5) lent book-1 (byte "e")

@@ -25,45 +25,45 @@ pub record Graph : Type 0 where
   pub kind : ℕ → ℕ
   pub move : ℕ → ℕ → Move
 
--- The move leads to a pair that is kept.
-pub data LeadsTo (kept : ℕ → Bool) : Move → Type 0 where
-  led : (j : ℕ) → kept j ≡ true → LeadsTo kept (to j)
+-- The move leads to a pair that is safe.
+pub data LeadsTo (safe : ℕ → Bool) : Move → Type 0 where
+  led : (j : ℕ) → safe j ≡ true → LeadsTo safe (to j)
 
--- Pair i is fine among the kept: no action that may not be withheld leads out of them, and some action goes on inside them.
-pub record Fine (graph : Graph) (kept : ℕ → Bool) (i : ℕ) : Type 0 where
+-- Pair i is fine among the safe: no action that may not be withheld leads out of them, and some action goes on inside them.
+pub record Fine (graph : Graph) (safe : ℕ → Bool) (i : ℕ) : Type 0 where
   pub forced : (a : ℕ) → a < graph .actions → controllable (graph .kind a) ≡ false → (graph .move i a ≡ not-enabled → ⊥)
-      → LeadsTo kept (graph .move i a)
+      → LeadsTo safe (graph .move i a)
   pub action : ℕ
   pub listed : action < graph .actions
   pub goes : goes-on (graph .kind action) ≡ true
-  pub leads : LeadsTo kept (graph .move i action)
+  pub leads : LeadsTo safe (graph .move i action)
 
 -- The largest set of pairs that are fine among themselves: what removal leaves.
-pub record Largest (graph : Graph) (kept : ℕ → Bool) : Type 0 where
-  pub fine : (i : ℕ) → i < graph .pairs → kept i ≡ true → Fine graph kept i
+pub record Largest (graph : Graph) (safe : ℕ → Bool) : Type 0 where
+  pub fine : (i : ℕ) → i < graph .pairs → safe i ≡ true → Fine graph safe i
   pub holds-all : (other : ℕ → Bool) → ((i : ℕ) → i < graph .pairs → other i ≡ true → Fine graph other i)
-      → (i : ℕ) → i < graph .pairs → other i ≡ true → kept i ≡ true
+      → (i : ℕ) → i < graph .pairs → other i ≡ true → safe i ≡ true
 
--- the pair that an allowed action leads to: one that is kept
+-- the pair that an allowed action leads to: one that is safe
 unfoldable pub allowed-to : (ℕ → Bool) → Move → Option ℕ
-allowed-to kept not-enabled = none
-allowed-to kept broken = none
-allowed-to kept (to j) = pick (kept j) (λ _. some j) (λ _. none)
+allowed-to safe not-enabled = none
+allowed-to safe broken = none
+allowed-to safe (to j) = pick (safe j) (λ _. some j) (λ _. none)
 
 -- Two pairs that no action tells apart at once: equal state, and each action allowed in both or in neither, leading to the same.
-pub record AlikeNow (graph : Graph) (kept : ℕ → Bool) (same : ℕ → ℕ → Bool) (i j : ℕ) : Type 0 where
+pub record AlikeNow (graph : Graph) (safe : ℕ → Bool) (same : ℕ → ℕ → Bool) (i j : ℕ) : Type 0 where
   pub state : graph .state i ≡ graph .state j
-  pub steps : (a : ℕ) → a < graph .actions → same-option same (allowed-to kept (graph .move i a)) (allowed-to kept (graph .move j a)) ≡ true
+  pub steps : (a : ℕ) → a < graph .actions → same-option same (allowed-to safe (graph .move i a)) (allowed-to safe (graph .move j a)) ≡ true
 
--- pair i is there and kept
-pub record Kept (graph : Graph) (kept : ℕ → Bool) (i : ℕ) : Type 0 where
+-- pair i is there and safe
+pub record SafePair (graph : Graph) (safe : ℕ → Bool) (i : ℕ) : Type 0 where
   pub there : i < graph .pairs
-  pub is-kept : kept i ≡ true
+  pub is-safe : safe i ≡ true
 
--- The classes of kept pairs: no two of one class are ever told apart, and two that are never told apart are of one class.
-pub record Classes (graph : Graph) (kept : ℕ → Bool) (class : ℕ → ℕ) : Type 0 where
-  pub stable : (i j : ℕ) → Kept graph kept i → Kept graph kept j → class i ≡ class j
-      → AlikeNow graph kept (λ k l. eqb (class k) (class l)) i j
+-- The classes of safe pairs: no two of one class are ever told apart, and two that are never told apart are of one class.
+pub record Classes (graph : Graph) (safe : ℕ → Bool) (class : ℕ → ℕ) : Type 0 where
+  pub stable : (i j : ℕ) → SafePair graph safe i → SafePair graph safe j → class i ≡ class j
+      → AlikeNow graph safe (λ k l. eqb (class k) (class l)) i j
   pub coarsest : (same : ℕ → ℕ → Bool)
-      → ((i j : ℕ) → Kept graph kept i → Kept graph kept j → same i j ≡ true → AlikeNow graph kept same i j)
-      → (i j : ℕ) → Kept graph kept i → Kept graph kept j → same i j ≡ true → class i ≡ class j
+      → ((i j : ℕ) → SafePair graph safe i → SafePair graph safe j → same i j ≡ true → AlikeNow graph safe same i j)
+      → (i j : ℕ) → SafePair graph safe i → SafePair graph safe j → same i j ≡ true → class i ≡ class j

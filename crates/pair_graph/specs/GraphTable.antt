@@ -1,4 +1,4 @@
--- The table of a graph of pairs with its kept pairs and their classes: rows are classes, numbered as first met from pair 0 on, rows in order,
+-- The table of a graph of pairs with its safe pairs and their classes: rows are classes, numbered as first met from pair 0 on, rows in order,
 -- actions ascending.
 use Prim.Native.Nat.{ℕ}
 use mathlib.Core.Bool.{Bool}
@@ -10,10 +10,10 @@ use Rattle.base.specs.Search.{search-from}
 use Rattle.logic.specs.Tables.{Step, Row, Table}
 use Rattle.pair_graph.specs.Graph.{Graph, allowed-to}
 
-module _ (graph : Graph) (kept : ℕ → Bool) (class : ℕ → ℕ) where
+module _ (graph : Graph) (safe : ℕ → Bool) (class : ℕ → ℕ) where
   -- the pair that an allowed action leads to
   unfoldable pub allowed : ℕ → ℕ → Option ℕ
-  allowed i a = allowed-to kept (graph .move i a)
+  allowed i a = allowed-to safe (graph .move i a)
 
   -- the pairs that allowed actions lead to, actions ascending
   unfoldable pub allowed-all : ℕ → List ℕ

@@ -1,3 +1,5 @@
 pub mod Graph
 pub mod Steps
 pub mod GraphTable
+pub mod GraphOf
+pub mod Predecessors

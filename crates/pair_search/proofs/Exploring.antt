@@ -1,181 +1,184 @@
 -- The pairs in turn: what the search of the definitions still finds from here on is what it finds in all.
 use Prim.Native.Nat.{ℕ, _+_, _-_, _*_, _≤_, _<_}
 use native.Mathlib.Omega.{arith}
-use mathlib.Core.Path.{_≡_, refl, sym, _∙_, ap, ap₂}
+use native.Mathlib.Decide.{decLt}
+use mathlib.Core.Path.{_≡_, refl, sym, _∙_, ap, ap₂, subst}
+use mathlib.Core.Logic.{inl}
 use mathlib.Core.Option.{some}
 use mathlib.Core.List.{List, [], _∷_}
 use lib.ListN.{length, getD, drop}
 use borrow.Author.Tests.{lt-ltb, le-ltb}
 use Rattle.base.specs.Lists.{below, count-from}
 use Rattle.base.specs.Search.{search-on, search-from}
-use Rattle.logic.specs.Tower.{tower-of}
+use Rattle.logic.specs.Tower.{Tower}
 use Rattle.logic.specs.Book.{Book}
 use Rattle.pending.specs.Pairs.{Pair, same-pair, most-pairs, first-pair, pair-step, pair-followers, pairs, over-pairs}
 use Rattle.progression.specs.NodeBytes.{IsHeld}
-use Rattle.tower_reader.proofs.Laws.{fit-bounds, start-within}
+use Rattle.lent_bytes.proofs.Numbers.{stored, stored-read, stored-beside}
 use Rattle.entry_index.specs.Entries.{entries-of, Indexed}
-use Rattle.pending_entries.specs.PendingEntries.{First, TowerWithBook}
-use Rattle.pending_entries.proofs.Entries.{number-of-entry}
+use Rattle.pending_entries.specs.PendingEntries.{entry-number, First}
 use Rattle.pending_entries.proofs.Turns.{search-next, search-end, search-over}
 use Rattle.pair_graph.specs.Graph.{Move, to}
-use Rattle.pair_graph.specs.Steps.{action-room, cell, move-at, graph-of}
-use Rattle.made_graph.specs.GraphOf.{numbered, SaysStep, says-not-enabled, says-broken, says-to}
-use Rattle.pair_search.specs.Explored.{found, HoldsPairs, Explored, pair-of, pairs-of, pair-in, Filled, SaysMove, moves-not, moves-broken, moves-to, RightCells, with-new, Grown, Started}
+use Rattle.pair_graph.specs.Steps.{cell, state-in, move-of, move-at, graph-of}
+use Rattle.pair_graph.specs.GraphOf.{numbered, SaysStep, says-not-enabled, says-broken, says-to}
+use Rattle.pair_search.specs.Walked.{Searchable}
+use Rattle.pair_search.specs.Explored.{found, HoldsPairs, Explored, pair-of, pairs-of, pair-in, Filled, SaysMove, moves-not, moves-broken, moves-to, RightGraph, with-new, Grown, Begun}
 use Rattle.pair_search.specs.declared.Found.the-variants.{TooMany, Met}
 use Rattle.pair_search.proofs.PairEntries.{pairs-length, pairs-at, getD-there, state-of-pair}
 
 -- ---- the loop
 
 -- what is found from here on
-abbrev found-on : List ℕ → Book → ℕ → List Pair → List Pair → List Pair
-found-on tower book n seen todo = search-on same-pair (pair-followers (tower-of tower) book) 1000 n seen todo
+abbrev found-on : Tower → Book → ℕ → List Pair → List Pair → List Pair
+found-on tower book n seen todo = search-on same-pair (pair-followers tower book) 1000 n seen todo
 
 -- Before pair i is expanded, with n pairs met.
-pub record Exploring (tower nodes : List ℕ) (lines count : ℕ) (area index steps : List ℕ) (i n : ℕ) : Type 0 where
+pub record Exploring (tower : Tower) (nodes : List ℕ) (lines count : ℕ) (area index graph : List ℕ) (i n : ℕ) : Type 0 where
   pub inside : i ≤ n
   pub least : 1 ≤ n
   pub most : n ≤ 1000
   pub filled : Filled tower count area n
   pub indexed : Indexed area index n
-  pub cells : RightCells tower nodes lines count area n steps (16 * i)
+  pub right : RightGraph tower nodes lines count area n graph i (16 * i)
   pub room : 8192 ≤ length index
-  pub steps-room : 32000 ≤ length steps
+  pub graph-room : 34000 ≤ length graph
   pub same : (h : IsHeld nodes lines count)
-      → found-on tower (h .book) (1001 - i) (pairs-of count area n) (drop i (pairs-of count area n)) ≡ pairs (tower-of tower) (h .book)
+      → found-on tower (h .book) (1001 - i) (pairs-of count area n) (drop i (pairs-of count area n)) ≡ pairs tower (h .book)
 
-pub explore-start : (tower nodes : List ℕ) (lines count : ℕ) (area index steps : List ℕ) → Started tower nodes lines count area → Indexed area index 1
-    → 8192 ≤ length index → 32000 ≤ length steps → Exploring tower nodes lines count area index steps 0 1
+pub explore-start : (tower : Tower) (nodes : List ℕ) (lines count : ℕ) (area index graph : List ℕ) → Begun tower nodes lines count area index
+    → 8192 ≤ length index → 34000 ≤ length graph → Exploring tower nodes lines count area index graph 0 1
 unfolding pairs search-from most-pairs
-explore-start tower nodes lines count area index steps started indexed room steps-room =
+explore-start tower nodes lines count area index graph begun room graph-room =
     record {
       inside = omega arith;
       least = omega arith;
       most = omega arith;
-      filled = started .filled;
-      indexed = indexed;
-      cells = record { says = λ h j a l k. absurd (omega arith) };
+      filled = begun .filled;
+      indexed = begun .indexed;
+      right = record { states = λ j l. absurd (omega arith); says = λ h j a l k. absurd (omega arith) };
       room = room;
-      steps-room = steps-room;
-      same = λ h. ap (λ z. found-on tower (h .book) 1001 z z) (started .first h);
+      graph-room = graph-room;
+      same = λ h. ap (λ z. found-on tower (h .book) 1001 z z) (begun .first h);
     }
 
-module _ (tower nodes : List ℕ) (lines count : ℕ) (area index steps : List ℕ) (i n : ℕ)
-    (exploring : Exploring tower nodes lines count area index steps i n) where
+module _ (tower : Tower) (nodes : List ℕ) (lines count : ℕ) (area index graph : List ℕ) (i n : ℕ)
+    (exploring : Exploring tower nodes lines count area index graph i n) where
   all-seen : length (pairs-of count area n) ≡ n
   all-seen = pairs-length count area n
 
   -- ---- one turn
 
-  module _ (m : ℕ) (after later later-steps : List ℕ) (l : i < n)
-      (grown : Grown m tower nodes lines count area i n after later later-steps) where
+  module _ (m : ℕ) (after later later-graph : List ℕ) (l : i < n)
+      (grown : Grown m tower nodes lines count area i n after later later-graph) where
     -- The search goes on from the pairs that are met after this one.
     turned : (h : IsHeld nodes lines count)
-        → found-on tower (h .book) (1001 - (i + 1)) (with-new (tower-of tower) (h .book) (pairs-of count area n) (pair-in count area i))
-        (drop (i + 1) (with-new (tower-of tower) (h .book) (pairs-of count area n) (pair-in count area i)))
-        ≡ pairs (tower-of tower) (h .book)
+        → found-on tower (h .book) (1001 - (i + 1)) (with-new tower (h .book) (pairs-of count area n) (pair-in count area i))
+        (drop (i + 1) (with-new tower (h .book) (pairs-of count area n) (pair-in count area i)))
+        ≡ pairs tower (h .book)
     unfolding with-new
     turned h =
-        sym (search-next same-pair (pair-followers (tower-of tower) (h .book)) 1000 1001 (pairs-of count area n) i (pair-in count area 0)
+        sym (search-next same-pair (pair-followers tower (h .book)) 1000 1001 (pairs-of count area n) i (pair-in count area 0)
         (pair-in count area i) (pairs-at count area n i l) (omega (arith, all-seen)) (omega (arith, all-seen, exploring .most))
         (omega (arith, exploring .most)))
         ∙ exploring .same h
 
-    pub explore-many : 1000 < m → Explored TooMany tower nodes lines count after later-steps
+    pub explore-many : 1000 < m → Explored TooMany tower nodes lines count later-graph
     unfolding found over-pairs most-pairs
     explore-many over =
         record {
           says = λ h.
               let many = grown .many over h in
-              let seen = with-new (tower-of tower) (h .book) (pairs-of count area n) (pair-in count area i) in
-              let all = sym (turned h) ∙ search-over same-pair (pair-followers (tower-of tower) (h .book)) 1000 (1001 - (i + 1)) seen
+              let seen = with-new tower (h .book) (pairs-of count area n) (pair-in count area i) in
+              let all = sym (turned h) ∙ search-over same-pair (pair-followers tower (h .book)) 1000 (1001 - (i + 1)) seen
               (drop (i + 1) seen) many in
-              let more : 1000 < length (pairs (tower-of tower) (h .book)) = omega (arith, ap length all, many) in
-              rw (lt-ltb 1000 (length (pairs (tower-of tower) (h .book))) more);
+              let more : 1000 < length (pairs tower (h .book)) = omega (arith, ap length all, many) in
+              rw (lt-ltb 1000 (length (pairs tower (h .book))) more);
           pairs-held = λ k e. let z : _≡_ {A = ℕ} 0 1 = cc in absurd (omega arith);
         }
 
-    pub explore-more : m ≤ 1000 → length later ≡ length index → length later-steps ≡ length steps
-        → Exploring tower nodes lines count after later later-steps (i + 1) m
-    explore-more few kept kept-steps =
+    pub explore-more : m ≤ 1000 → length later ≡ length index → length later-graph ≡ length graph
+        → Exploring tower nodes lines count after later later-graph (i + 1) m
+    explore-more few kept kept-graph =
         record {
           inside = omega (arith, grown .least);
           least = omega (arith, grown .least, exploring .least);
           most = few;
           filled = grown .filled;
           indexed = grown .indexed;
-          cells = grown .cells few;
+          right = grown .right few;
           room = omega (arith, exploring .room);
-          steps-room = omega (arith, exploring .steps-room);
+          graph-room = omega (arith, exploring .graph-room);
           same = λ h. ap (λ z. found-on tower (h .book) (1001 - (i + 1)) z (drop (i + 1) z)) (grown .done few h) ∙ turned h;
         }
 
   -- ---- the end
 
-  module _ (world : TowerWithBook tower nodes lines count) (l : n ≤ i) where
+  module _ (world : IsHeld nodes lines count) (bounds : Searchable tower) (l : n ≤ i) where
     -- All pairs are expanded: they are what the search finds.
-    all-found : (h : IsHeld nodes lines count) → pairs (tower-of tower) (h .book) ≡ pairs-of count area n
+    all-found : (h : IsHeld nodes lines count) → pairs tower (h .book) ≡ pairs-of count area n
     all-found h =
         sym (exploring .same h)
-        ∙ search-end same-pair (pair-followers (tower-of tower) (h .book)) 1000 (1001 - i) (pairs-of count area n) i (omega (arith, all-seen))
+        ∙ search-end same-pair (pair-followers tower (h .book)) 1000 (1001 - i) (pairs-of count area n) i (omega (arith, all-seen))
 
-    all-counted : (h : IsHeld nodes lines count) → n ≡ length (pairs (tower-of tower) (h .book))
+    all-counted : (h : IsHeld nodes lines count) → n ≡ length (pairs tower (h .book))
     all-counted h = sym all-seen ∙ ap length (sym (all-found h))
 
-    numbered-is : (h : IsHeld nodes lines count) (j : ℕ) → j < n → numbered (tower-of tower) (h .book) j ≡ pair-in count area j
+    numbered-is : (h : IsHeld nodes lines count) (j : ℕ) → j < n → numbered tower (h .book) j ≡ pair-in count area j
     unfolding numbered
     numbered-is h j k =
-        ap (λ z. getD z j (first-pair (tower-of tower) (h .book))) (all-found h)
-        ∙ getD-there (pairs-of count area n) j (first-pair (tower-of tower) (h .book)) (pair-in count area 0) (omega (arith, all-seen))
+        ap (λ z. getD z j (first-pair tower (h .book))) (all-found h)
+        ∙ getD-there (pairs-of count area n) j (first-pair tower (h .book)) (pair-in count area 0) (omega (arith, all-seen))
         ∙ pairs-at count area n j k
 
-    -- The cell of every action of every pair is right.
-    cell-says : (h : IsHeld nodes lines count) (j a : ℕ) → j < n → a < tower-of tower .actions
-        → SaysMove (tower-of tower) (h .book) count area n (pair-in count area j) a (move-at steps j a)
-    cell-says h j a k m = exploring .cells .says h j a m (omega (arith, fit-bounds (world .fit) .actions-most))
+    -- The move of every action of every pair is right.
+    move-says : (h : IsHeld nodes lines count) (j a : ℕ) → j < n → a < tower .actions
+        → SaysMove tower (h .book) count area n (pair-in count area j) a (move-at graph j a)
+    move-says h j a k m = exploring .right .says h j a m (omega (arith, bounds .actions-most))
 
     says-step : (h : IsHeld nodes lines count) (j a : ℕ) → j < n → (move : Move)
-        → SaysMove (tower-of tower) (h .book) count area n (pair-in count area j) a move → SaysStep (tower-of tower) (h .book) j a move
-    says-step h j a k _ (moves-not e) = says-not-enabled (ap (λ v. tower-of tower .target (v .state) a) (numbered-is h j k) ∙ e)
+        → SaysMove tower (h .book) count area n (pair-in count area j) a move → SaysStep tower (h .book) j a move
+    says-step h j a k _ (moves-not e) = says-not-enabled (ap (λ v. tower .target (v .state) a) (numbered-is h j k) ∙ e)
     says-step h j a k _ (moves-broken y e f) =
-        says-broken y (ap (λ v. tower-of tower .target (v .state) a) (numbered-is h j k) ∙ e)
-        (ap (λ v. pair-step (tower-of tower) (h .book) v a) (numbered-is h j k) ∙ f)
+        says-broken y (ap (λ v. tower .target (v .state) a) (numbered-is h j k) ∙ e)
+        (ap (λ v. pair-step tower (h .book) v a) (numbered-is h j k) ∙ f)
     says-step h j a k _ (moves-to t m e) =
         says-to t (omega (arith, all-counted h))
-        (ap (λ v. pair-step (tower-of tower) (h .book) v a) (numbered-is h j k) ∙ e ∙ ap some (sym (numbered-is h t m)))
+        (ap (λ v. pair-step tower (h .book) v a) (numbered-is h j k) ∙ e ∙ ap some (sym (numbered-is h t m)))
 
     leads-inside : (h : IsHeld nodes lines count) (j a t : ℕ) (move : Move)
-        → SaysMove (tower-of tower) (h .book) count area n (pair-in count area j) a move → move ≡ to t → t < n
+        → SaysMove tower (h .book) count area n (pair-in count area j) a move → move ≡ to t → t < n
     leads-inside h j a t _ (moves-not e) f = let z : _≡_ {A = ℕ} 0 1 = cc in absurd (omega arith)
     leads-inside h j a t _ (moves-broken y e g) f = let z : _≡_ {A = ℕ} 0 1 = cc in absurd (omega arith)
     leads-inside h j a t _ (moves-to s m e) f = let same : s ≡ t = cc in omega arith
 
-    held : HoldsPairs tower nodes lines count area steps n
-    unfolding graph-of cell action-room
+    held : HoldsPairs tower nodes lines count graph n
+    unfolding graph-of
     held =
         record {
           least = exploring .least;
-          most = exploring .most;
           holds =
               record {
-                room = omega (arith, exploring .most, exploring .steps-room);
-                targets = λ j a t k m e. leads-inside (world .held) j a t (move-at steps j a) (cell-says (world .held) j a k m) e;
+                room = exploring .graph-room;
+                pairs-most = exploring .most;
+                actions-most = bounds .actions-most;
+                targets = λ j a t k m e. leads-inside world j a t (move-at graph j a) (move-says world j a k m) e;
               };
-          graph = λ h. record {
+          pairs-graph = λ h. record {
             count = all-counted h;
             actions = refl;
             kinds = λ a. refl;
-            states = λ j k. sym (number-of-entry area j) ∙ sym (state-of-pair count area j) ∙ ap (λ (v : Pair). v .state) (sym (numbered-is h j k));
-            moves = λ j a k m. says-step h j a k (move-at steps j a) (cell-says h j a k m);
+            states = λ j k. exploring .right .states j (omega arith) ∙ sym (state-of-pair count area j) ∙ ap (λ (v : Pair). v .state) (sym (numbered-is h j k));
+            moves = λ j a k m. says-step h j a k (move-at graph j a) (move-says h j a k m);
           };
         }
 
-    pub explore-done : Explored (Met n) tower nodes lines count area steps
+    pub explore-done : Explored (Met n) tower nodes lines count graph
     unfolding found over-pairs most-pairs
     explore-done =
         record {
           says = λ h.
-              let few : length (pairs (tower-of tower) (h .book)) ≤ 1000 = omega (arith, all-counted h, exploring .most) in
-              let not-over = le-ltb 1000 (length (pairs (tower-of tower) (h .book))) few in
+              let few : length (pairs tower (h .book)) ≤ 1000 = omega (arith, all-counted h, exploring .most) in
+              let not-over = le-ltb 1000 (length (pairs tower (h .book))) few in
               sym (rw (not-over, ← all-counted h));
           pairs-held = λ k e. let same : k ≡ n = cc in rw same held;
         }
@@ -186,25 +189,51 @@ pairs-one : (count : ℕ) (area : List ℕ) → pairs-of count area 1 ≡ pair-i
 unfolding pairs-of entries-of below count-from
 pairs-one count area = refl
 
-pub start-small : (tower nodes : List ℕ) (lines count x : ℕ) → x ≡ tower-of tower .start → TowerWithBook tower nodes lines count → x < 65536
-start-small tower nodes lines count x e world =
-    omega (arith, start-within tower x (world .fit) e, fit-bounds (world .fit) .states-most)
+pub start-small : (tower : Tower) (x : ℕ) → x ≡ tower .start → Searchable tower → x < 65536
+start-small tower x e bounds = omega (arith, bounds .start-below, bounds .states-most)
 
-pub start-ready : (tower nodes : List ℕ) (lines count x : ℕ) (area : List ℕ) → x ≡ tower-of tower .start → TowerWithBook tower nodes lines count
-    → First nodes lines count x area → Started tower nodes lines count area
-start-ready tower nodes lines count x area e world first =
+pub start-ready : (tower : Tower) (nodes : List ℕ) (lines count x : ℕ) (area index : List ℕ) → x ≡ tower .start → Searchable tower
+    → First nodes lines count x area → Indexed area index 1 → Begun tower nodes lines count area index
+start-ready tower nodes lines count x area index e bounds first indexed =
     record {
       filled =
           record {
             size = first .size;
             states = λ j l.
                 let zeroth : j ≡ 0 = omega arith in
-                rw (zeroth, first .number-is) (start-within tower x (world .fit) e);
+                rw (zeroth, first .number-is, e) (bounds .start-below);
             blank = first .blank;
           };
+      indexed = indexed;
       first = λ h. pairs-one count area ∙ ap (λ z. z ∷ []) (pair h);
     }
   where
-    pair : (h : IsHeld nodes lines count) → pair-in count area 0 ≡ first-pair (tower-of tower) (h .book)
+    pair : (h : IsHeld nodes lines count) → pair-in count area 0 ≡ first-pair tower (h .book)
     pair h = unfold pair-of first-pair in
         (ap₂ (λ r p. record { state = r; pending = p }) (first .number-is ∙ e) (first .says (h .book) (h .held)))
+
+-- ---- the state of a pair
+
+-- The state of pair i is written beside the rest of the graph.
+module _ (tower : Tower) (nodes : List ℕ) (lines count : ℕ) (area : List ℕ) (n i x : ℕ) (graph after : List ℕ) (at-x : x ≡ entry-number area i)
+    (written : after ≡ stored graph (32000 + 2 * i) x) (filled : Filled tower count area n) (bounds : Searchable tower) (low : i < n) (most : n ≤ 1000)
+    (room : 34000 ≤ length graph) (right : RightGraph tower nodes lines count area n graph i (16 * i)) where
+  pub state-written : RightGraph tower nodes lines count area n after (i + 1) (16 * i)
+  state-written =
+      record {
+        states = λ j l. states j l (decLt j i);
+        says = λ h j a l k.
+            subst (λ z. SaysMove tower (h .book) count area n (pair-in count area j) a z) (sym (move-beside j a k)) (right .says h j a l k);
+      }
+    where
+      states : (j : ℕ) → j < i + 1 → Dec (j < i) → state-in after j ≡ entry-number area j
+      states j l (yes k) = rw written (stored-beside graph (32000 + 2 * i) x (32000 + 2 * j) (inl (omega arith))) ∙ right .states j k
+      states j l (no k) =
+          let same : j ≡ i = omega arith in
+          rw (same, written)
+          (stored-read graph (32000 + 2 * i) x (omega arith) (omega (arith, at-x, filled .states i low, bounds .states-most)) ∙ at-x)
+
+      move-beside : (j a : ℕ) → 16 * j + a < 16 * i → move-at after j a ≡ move-at graph j a
+      move-beside j a k =
+          unfold move-at cell in
+          ap move-of (rw written (stored-beside graph (32000 + 2 * i) x (2 * (16 * j + a)) (inl (omega arith))))

@@ -1,4 +1,6 @@
+pub mod Walking
 mod PairEntries
+mod Entering
 mod Following
 mod Growing
 mod Exploring

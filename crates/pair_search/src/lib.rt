@@ -1,79 +1,239 @@
-// The first phase of the maker (01, 'What is pending', pairs): the pairs that are met from the start,
-// numbered as they are met, and where each action leads from each of them. A pair is an entry of the
-// lent area: its tower state, then what is pending (specs/Explored.antt).
+// The search for pairs (01, 'What is pending', pairs): the pairs that are met from the start, numbered
+// as they are met, and where each action leads from each of them. They are those of a tower, or those
+// of a table for it: rows with what is pending (specs/Walked.antt). A pair is an entry of the lent
+// area: its state, then what is pending (specs/Explored.antt).
 ghost use Prim.Native.Nat.{_+_, _*_, _<_, _≤_};
+ghost use mathlib.Core.Path.{_≡_};
 ghost use lib.ListN.{length};
-ghost use Rattle.logic.specs.Tower.{tower-of};
+ghost use mathlib.Core.Bool.{true};
+ghost use Rattle.logic.specs.Tower.{FitTower, tower-of};
+ghost use Rattle.logic.specs.Tables.{move};
+ghost use Rattle.reading.specs.TableReading.{rows-of, laid-out, table-of};
+ghost use Rattle.tower_reader.specs.TowerRead.{target-read};
 ghost use Rattle.entry_index.specs.Entries.{most-entries, entries-size, index-size, Indexed};
-ghost use Rattle.pending_entries.specs.PendingEntries.{TowerWithBook};
-ghost use Rattle.pair_search.specs.Explored.{Filled, Followed, RightCells, Stepped, Grown, Started, Explored};
+ghost use Rattle.pair_graph.specs.Steps.{graph-size, pair-room, action-room};
+ghost use Rattle.pair_search.specs.Walked.{walked, tower-state, Files, Walkable};
+ghost use Rattle.pair_search.specs.Explored.{Filled, RightGraph, Earlier, Leads, TakenOver, NextEntered, Followed, Stepped, Grown, Begun, Explored};
+use table_reader::Target;
 use tower_reader::Reached;
 
-// How the exploration ends: over 1,000 pairs, or so many.
+// How the search ends: over 1,000 pairs, or so many.
 pub enum Found {
     TooMany,
     Met(usize),
 }
 
-// Where an action leads, as the code of its move, and how many pairs are met then.
-struct Led {
+// Where an action leads, as the number of its move, and how many pairs are met then.
+struct Way {
     code: usize,
     met: usize,
 }
 
-// The most pairs, and the room for actions of each.
+// The most pairs.
 const MOST: usize = 1000;
 
-const ACTION_ROOM: usize = 16;
+// ---- the tower that is searched
 
-// Codes of moves: not enabled, a broken step, and the first pair's.
-const NOT_ENABLED: usize = 0;
+// Its start: the tower's start state, or row 0.
+fn start(tower: &[u8], table: &[u8], rows: bool) -> usize
+    requires { ⌜ Files (now tower) (now table) rows ⌝ }
+    ensures { λ r. ⌜ r ≡ walked (now (tower .entry)) (now (table .entry)) rows .start ⌝ }
+{
+    if rows {
+        return 0;
+    }
+    tower_reader::start(tower)
+}
 
-const BROKEN: usize = 1;
+// The tower's state that state x of it stands for.
+fn tower_state(tower: &[u8], table: &[u8], rows: bool, x: usize) -> usize
+    requires { ⌜ Files (now tower) (now table) rows ⌝ }
+    requires { ⌜ x < walked (now tower) (now table) rows .states ⌝ }
+    ensures { λ r. ⌜ r ≡ tower-state (now (table .entry)) rows x ⌝ }
+{
+    if rows {
+        return table_reader::row_state(table, x);
+    }
+    x
+}
 
-const FIRST_PAIR: usize = 2;
+// Where action a leads from row x of the table.
+fn row_target(table: &[u8], x: usize, a: usize) -> Reached
+    requires { ⌜ laid-out (now table) ≡ true ⌝ }
+    requires { ⌜ x < rows-of (now table) ⌝ }
+    ensures { λ r. ⌜ r ≡ target-read (move (table-of (now (table .entry))) x a) ⌝ }
+{
+    let reached = table_reader::step_to(table, x, a);
+    match reached {
+        Target::Row(y) => Reached::State(y),
+        Target::Nothing => Reached::NotEnabled,
+    }
+}
+
+// Where action a leads from state x of it.
+fn target(tower: &[u8], table: &[u8], rows: bool, x: usize, a: usize) -> Reached
+    requires { ⌜ Files (now tower) (now table) rows ⌝ }
+    requires { ⌜ x < walked (now tower) (now table) rows .states ⌝ }
+    requires { ⌜ a < walked (now tower) (now table) rows .actions ⌝ }
+    ensures { λ r. ⌜ r ≡ target-read (walked (now (tower .entry)) (now (table .entry)) rows .target x a) ⌝ }
+{
+    if rows {
+        return row_target(table, x, a);
+    }
+    tower_reader::target(tower, x, a)
+}
+
+// ---- what is pending behind a step
+
+// An action before a that is enabled in pair i and whose step from the tower's state x is as long as
+// that of a; or a, if there is none.
+fn earlier(tower: &[u8], graph: &[u8], x: usize, i: usize, a: usize) -> usize
+    requires { ⌜ FitTower (now tower) ⌝ }
+    requires { ⌜ x < tower-of (now tower) .states ⌝ }
+    requires { ⌜ a < tower-of (now tower) .actions ⌝ }
+    requires { ⌜ graph-size ≤ length (now graph) ⌝ }
+    requires { ⌜ i < pair-room ⌝ }
+    ensures { λ b. ⌜ Earlier b (now (tower .entry)) (now (graph .entry)) x i a ⌝ }
+{
+    let d = tower_reader::step_length(tower, x, a);
+    let mut b = 0;
+    while b < a {
+        let at = b;
+        b += 1;
+        let e = tower_reader::step_length(tower, x, at);
+        if e.0 == d.0 {
+            if pair_graph::enabled(graph, i, at) {
+                return at;
+            }
+        }
+    }
+    a
+}
+
+// Entry n gets the number, and what is pending behind the step of action b from pair i, whose move is
+// written. False if that step is broken.
+fn take_over(
+    count: usize,
+    pairs: &mut [u8],
+    graph: &[u8],
+    i: usize,
+    b: usize,
+    number: usize,
+    n: usize,
+) -> bool
+    requires { ⌜ Leads (now graph) i b n ⌝ }
+    requires { ⌜ count ≤ 60 ⌝ }
+    requires { ⌜ entries-size ≤ length (now pairs) ⌝ }
+    requires { ⌜ graph-size ≤ length (now graph) ⌝ }
+    requires { ⌜ i < pair-room ⌝ }
+    requires { ⌜ b < action-room ⌝ }
+    requires { ⌜ n ≤ most-entries ⌝ }
+    requires { ⌜ number < 65536 ⌝ }
+    ensures { λ r. ⌜ TakenOver count (now (graph .entry)) (now (pairs .entry)) i b number n (now (pairs .exit)) r ⌝ }
+{
+    let m = pair_graph::move_number(graph, i, b);
+    if m < pair_graph::FIRST_PAIR {
+        return false;
+    }
+    pending_entries::copy(count, pairs, m - pair_graph::FIRST_PAIR, number, n);
+    true
+}
+
+// Entry n gets the number, and what is pending behind the step of action a from pair i. False if the
+// step is broken. What is pending there depends on the length of the step and not on the action: so
+// progression is asked once for each length.
+fn enter(
+    tower: &[u8],
+    table: &[u8],
+    rows: bool,
+    nodes: &[u8],
+    lines: usize,
+    count: usize,
+    pairs: &mut [u8],
+    graph: &[u8],
+    i: usize,
+    a: usize,
+    number: usize,
+    n: usize,
+) -> bool
+    requires { ⌜ Walkable (now tower) (now table) rows (now nodes) lines count ⌝ }
+    requires { ⌜ Filled (walked (now tower) (now table) rows) count (now pairs) n ⌝ }
+    requires { ⌜ RightGraph (walked (now tower) (now table) rows) (now nodes) lines count (now pairs) n (now graph) (i + 1) (16 * i + a) ⌝ }
+    requires { ⌜ graph-size ≤ length (now graph) ⌝ }
+    requires { ⌜ i < n ⌝ }
+    requires { ⌜ n ≤ most-entries ⌝ }
+    requires { ⌜ a < walked (now tower) (now table) rows .actions ⌝ }
+    requires { ⌜ number < 65536 ⌝ }
+    ensures { λ b. ⌜ NextEntered b (walked (now (tower .entry)) (now (table .entry)) rows) (now (nodes .entry)) lines count (now (pairs .entry)) i a number n (now (pairs .exit)) ⌝ }
+{
+    let x = tower_state(tower, table, rows, pending_entries::number(pairs, i));
+    let b = earlier(tower, graph, x, i, a);
+    if b < a {
+        return take_over(count, pairs, graph, i, b, number, n);
+    }
+    let d = tower_reader::step_length(tower, x, a);
+    let mask = tower_reader::mask(tower, x);
+    pending_entries::follow(nodes, lines, count, mask, d, pairs, i, number, n)
+}
+
+// ---- the search
 
 // Follows action a from pair i. The pair that it leads to is looked up as entry n, and is one more
 // if it is new.
 fn follow(
     tower: &[u8],
+    table: &[u8],
+    rows: bool,
     nodes: &[u8],
     lines: usize,
     count: usize,
     pairs: &mut [u8],
     index: &mut [u8],
+    graph: &[u8],
     i: usize,
     a: usize,
     n: usize,
-) -> Led
-    requires { ⌜ TowerWithBook (now tower) (now nodes) lines count ⌝ }
-    requires { ⌜ Filled (now tower) count (now pairs) n ⌝ }
+) -> Way
+    requires { ⌜ Walkable (now tower) (now table) rows (now nodes) lines count ⌝ }
+    requires { ⌜ Filled (walked (now tower) (now table) rows) count (now pairs) n ⌝ }
     requires { ⌜ Indexed (now pairs) (now index) n ⌝ }
+    requires { ⌜ RightGraph (walked (now tower) (now table) rows) (now nodes) lines count (now pairs) n (now graph) (i + 1) (16 * i + a) ⌝ }
     requires { ⌜ index-size ≤ length (now index) ⌝ }
+    requires { ⌜ graph-size ≤ length (now graph) ⌝ }
     requires { ⌜ i < n ⌝ }
     requires { ⌜ n ≤ most-entries ⌝ }
-    requires { ⌜ a < tower-of (now tower) .actions ⌝ }
-    ensures { λ out. ⌜ Followed out (now (tower .entry)) (now (nodes .entry)) lines count (now (pairs .entry)) i a n (now (pairs .exit)) (now (index .exit)) ⌝ }
+    requires { ⌜ a < walked (now tower) (now table) rows .actions ⌝ }
+    ensures { λ way. ⌜ Followed way (walked (now (tower .entry)) (now (table .entry)) rows) (now (nodes .entry)) lines count (now (pairs .entry)) i a n (now (pairs .exit)) (now (index .exit)) ⌝ }
 {
-    let x = pending_entries::number(pairs, i);
-    let reached = tower_reader::target(tower, x, a);
+    let reached = target(tower, table, rows, pending_entries::number(pairs, i), a);
     let Reached::State(y) = reached else {
-        return Led {
-            code: NOT_ENABLED,
+        return Way {
+            code: pair_graph::NOT_ENABLED,
             met: n,
         };
     };
-    let d = tower_reader::step_length(tower, x, a);
-    let mask = tower_reader::mask(tower, x);
-    if !pending_entries::follow(nodes, lines, count, mask, d, pairs, i, y, n) {
-        return Led {
-            code: BROKEN,
+    if !enter(
+        tower,
+        table,
+        rows,
+        nodes,
+        lines,
+        count,
+        pairs,
+        graph,
+        i,
+        a,
+        y,
+        n,
+    ) {
+        return Way {
+            code: pair_graph::BROKEN,
             met: n,
         };
     }
     let place = pending_entries::note(pairs, index, n);
-    Led {
-        code: place.at + FIRST_PAIR,
+    Way {
+        code: place.at + pair_graph::FIRST_PAIR,
         met: place.met,
     }
 }
@@ -81,53 +241,70 @@ fn follow(
 // Follows action a from pair i and writes where it leads. Answers how many pairs are met then.
 fn step(
     tower: &[u8],
+    table: &[u8],
+    rows: bool,
     nodes: &[u8],
     lines: usize,
     count: usize,
     pairs: &mut [u8],
     index: &mut [u8],
-    steps: &mut [u8],
+    graph: &mut [u8],
     i: usize,
     a: usize,
     n: usize,
 ) -> usize
-    requires { ⌜ TowerWithBook (now tower) (now nodes) lines count ⌝ }
-    requires { ⌜ Filled (now tower) count (now pairs) n ⌝ }
+    requires { ⌜ Walkable (now tower) (now table) rows (now nodes) lines count ⌝ }
+    requires { ⌜ Filled (walked (now tower) (now table) rows) count (now pairs) n ⌝ }
     requires { ⌜ Indexed (now pairs) (now index) n ⌝ }
-    requires { ⌜ RightCells (now tower) (now nodes) lines count (now pairs) n (now steps) (16 * i + a) ⌝ }
+    requires { ⌜ RightGraph (walked (now tower) (now table) rows) (now nodes) lines count (now pairs) n (now graph) (i + 1) (16 * i + a) ⌝ }
     requires { ⌜ index-size ≤ length (now index) ⌝ }
-    requires { ⌜ 32000 ≤ length (now steps) ⌝ }
+    requires { ⌜ graph-size ≤ length (now graph) ⌝ }
     requires { ⌜ i < n ⌝ }
     requires { ⌜ n ≤ most-entries ⌝ }
-    requires { ⌜ a < tower-of (now tower) .actions ⌝ }
-    ensures { λ m. ⌜ Stepped m (now (tower .entry)) (now (nodes .entry)) lines count (now (pairs .entry)) i a n (now (pairs .exit)) (now (index .exit)) (now (steps .exit)) ⌝ }
+    requires { ⌜ a < walked (now tower) (now table) rows .actions ⌝ }
+    ensures { λ m. ⌜ Stepped m (walked (now (tower .entry)) (now (table .entry)) rows) (now (nodes .entry)) lines count (now (pairs .entry)) i a n (now (pairs .exit)) (now (index .exit)) (now (graph .exit)) ⌝ }
 {
-    let out = follow(tower, nodes, lines, count, pairs, index, i, a, n);
-    lent_bytes::put_two_bytes(steps, 2 * (ACTION_ROOM * i + a), out.code);
-    out.met
+    let way = follow(
+        tower,
+        table,
+        rows,
+        nodes,
+        lines,
+        count,
+        pairs,
+        index,
+        graph,
+        i,
+        a,
+        n,
+    );
+    pair_graph::put_move(graph, i, a, way.code);
+    way.met
 }
 
 // Follows every action from pair i. Where the pairs become too many it stops with 1,001 of them.
-fn expand(
+fn follow_all(
     tower: &[u8],
+    table: &[u8],
+    rows: bool,
     nodes: &[u8],
     lines: usize,
     count: usize,
     pairs: &mut [u8],
     index: &mut [u8],
-    steps: &mut [u8],
+    graph: &mut [u8],
     i: usize,
     met: usize,
 ) -> usize
-    requires { ⌜ TowerWithBook (now tower) (now nodes) lines count ⌝ }
-    requires { ⌜ Filled (now tower) count (now pairs) met ⌝ }
+    requires { ⌜ Walkable (now tower) (now table) rows (now nodes) lines count ⌝ }
+    requires { ⌜ Filled (walked (now tower) (now table) rows) count (now pairs) met ⌝ }
     requires { ⌜ Indexed (now pairs) (now index) met ⌝ }
-    requires { ⌜ RightCells (now tower) (now nodes) lines count (now pairs) met (now steps) (16 * i) ⌝ }
+    requires { ⌜ RightGraph (walked (now tower) (now table) rows) (now nodes) lines count (now pairs) met (now graph) (i + 1) (16 * i) ⌝ }
     requires { ⌜ index-size ≤ length (now index) ⌝ }
-    requires { ⌜ 32000 ≤ length (now steps) ⌝ }
+    requires { ⌜ graph-size ≤ length (now graph) ⌝ }
     requires { ⌜ i < met ⌝ }
     requires { ⌜ met ≤ most-entries ⌝ }
-    ensures { λ m. ⌜ Grown m (now (tower .entry)) (now (nodes .entry)) lines count (now (pairs .entry)) i met (now (pairs .exit)) (now (index .exit)) (now (steps .exit)) ⌝ }
+    ensures { λ m. ⌜ Grown m (walked (now (tower .entry)) (now (table .entry)) rows) (now (nodes .entry)) lines count (now (pairs .entry)) i met (now (pairs .exit)) (now (index .exit)) (now (graph .exit)) ⌝ }
 {
     let actions = tower_reader::actions(tower);
     let mut a = 0;
@@ -135,7 +312,20 @@ fn expand(
     while a < actions {
         let at = a;
         a += 1;
-        n = step(tower, nodes, lines, count, pairs, index, steps, i, at, n);
+        n = step(
+            tower,
+            table,
+            rows,
+            nodes,
+            lines,
+            count,
+            pairs,
+            index,
+            graph,
+            i,
+            at,
+            n,
+        );
         if MOST < n {
             return n;
         }
@@ -143,29 +333,82 @@ fn expand(
     n
 }
 
-// Expands each pair in turn, from the first on.
-fn explore_on(
+// Writes the state of pair i and follows every action from it.
+fn expand(
     tower: &[u8],
+    table: &[u8],
+    rows: bool,
     nodes: &[u8],
     lines: usize,
     count: usize,
     pairs: &mut [u8],
     index: &mut [u8],
-    steps: &mut [u8],
-) -> Found
-    requires { ⌜ TowerWithBook (now tower) (now nodes) lines count ⌝ }
-    requires { ⌜ Started (now tower) (now nodes) lines count (now pairs) ⌝ }
-    requires { ⌜ Indexed (now pairs) (now index) 1 ⌝ }
+    graph: &mut [u8],
+    i: usize,
+    met: usize,
+) -> usize
+    requires { ⌜ Walkable (now tower) (now table) rows (now nodes) lines count ⌝ }
+    requires { ⌜ Filled (walked (now tower) (now table) rows) count (now pairs) met ⌝ }
+    requires { ⌜ Indexed (now pairs) (now index) met ⌝ }
+    requires { ⌜ RightGraph (walked (now tower) (now table) rows) (now nodes) lines count (now pairs) met (now graph) i (16 * i) ⌝ }
     requires { ⌜ index-size ≤ length (now index) ⌝ }
-    requires { ⌜ 32000 ≤ length (now steps) ⌝ }
-    ensures { λ r. ⌜ Explored r (now (tower .entry)) (now (nodes .entry)) lines count (now (pairs .exit)) (now (steps .exit)) ⌝ }
+    requires { ⌜ graph-size ≤ length (now graph) ⌝ }
+    requires { ⌜ i < met ⌝ }
+    requires { ⌜ met ≤ most-entries ⌝ }
+    ensures { λ m. ⌜ Grown m (walked (now (tower .entry)) (now (table .entry)) rows) (now (nodes .entry)) lines count (now (pairs .entry)) i met (now (pairs .exit)) (now (index .exit)) (now (graph .exit)) ⌝ }
+{
+    pair_graph::put_state(graph, i, pending_entries::number(pairs, i));
+    follow_all(
+        tower,
+        table,
+        rows,
+        nodes,
+        lines,
+        count,
+        pairs,
+        index,
+        graph,
+        i,
+        met,
+    )
+}
+
+// Expands each pair in turn, from the first on.
+fn explore_on(
+    tower: &[u8],
+    table: &[u8],
+    rows: bool,
+    nodes: &[u8],
+    lines: usize,
+    count: usize,
+    pairs: &mut [u8],
+    index: &mut [u8],
+    graph: &mut [u8],
+) -> Found
+    requires { ⌜ Walkable (now tower) (now table) rows (now nodes) lines count ⌝ }
+    requires { ⌜ Begun (walked (now tower) (now table) rows) (now nodes) lines count (now pairs) (now index) ⌝ }
+    requires { ⌜ index-size ≤ length (now index) ⌝ }
+    requires { ⌜ graph-size ≤ length (now graph) ⌝ }
+    ensures { λ r. ⌜ Explored r (walked (now (tower .entry)) (now (table .entry)) rows) (now (nodes .entry)) lines count (now (graph .exit)) ⌝ }
 {
     let mut i = 0;
     let mut n = 1;
     while i < n {
         let at = i;
         i += 1;
-        n = expand(tower, nodes, lines, count, pairs, index, steps, at, n);
+        n = expand(
+            tower,
+            table,
+            rows,
+            nodes,
+            lines,
+            count,
+            pairs,
+            index,
+            graph,
+            at,
+            n,
+        );
         if MOST < n {
             return Found::TooMany;
         }
@@ -173,24 +416,45 @@ fn explore_on(
     Found::Met(n)
 }
 
-// The pairs of a tower and of a book that lies in `nodes`, and where each action leads from each.
-pub fn explore(
+// The first pair: the start, with what is pending there. It is the only one that the index knows.
+fn begin(
     tower: &[u8],
+    table: &[u8],
+    rows: bool,
     nodes: &[u8],
     lines: usize,
     count: usize,
     pairs: &mut [u8],
     index: &mut [u8],
-    steps: &mut [u8],
-) -> Found
-    requires { ⌜ TowerWithBook (now tower) (now nodes) lines count ⌝ }
+)
+    requires { ⌜ Walkable (now tower) (now table) rows (now nodes) lines count ⌝ }
     requires { ⌜ entries-size ≤ length (now pairs) ⌝ }
     requires { ⌜ index-size ≤ length (now index) ⌝ }
-    requires { ⌜ 32000 ≤ length (now steps) ⌝ }
-    ensures { λ r. ⌜ Explored r (now (tower .entry)) (now (nodes .entry)) lines count (now (pairs .exit)) (now (steps .exit)) ⌝ }
+    ensures { λ _. ⌜ Begun (walked (now (tower .entry)) (now (table .entry)) rows) (now (nodes .entry)) lines count (now (pairs .exit)) (now (index .exit)) ⌝ }
 {
-    pending_entries::begin(nodes, lines, count, tower_reader::start(tower), pairs);
-    lent_bytes::clear(index);
-    entry_index::add(pairs, index, 0);
-    explore_on(tower, nodes, lines, count, pairs, index, steps)
+    pending_entries::begin(nodes, lines, count, start(tower, table, rows), pairs);
+    entry_index::begin(pairs, index);
+}
+
+// The pairs of a book that lies in `nodes` and of the tower; by rows, of the table for it. By the
+// tower's states, the table is not looked at. Leaves the graph of the pairs, unless they are too many.
+pub fn explore(
+    tower: &[u8],
+    table: &[u8],
+    rows: bool,
+    nodes: &[u8],
+    lines: usize,
+    count: usize,
+    pairs: &mut [u8],
+    index: &mut [u8],
+    graph: &mut [u8],
+) -> Found
+    requires { ⌜ Walkable (now tower) (now table) rows (now nodes) lines count ⌝ }
+    requires { ⌜ entries-size ≤ length (now pairs) ⌝ }
+    requires { ⌜ index-size ≤ length (now index) ⌝ }
+    requires { ⌜ graph-size ≤ length (now graph) ⌝ }
+    ensures { λ r. ⌜ Explored r (walked (now (tower .entry)) (now (table .entry)) rows) (now (nodes .entry)) lines count (now (graph .exit)) ⌝ }
+{
+    begin(tower, table, rows, nodes, lines, count, pairs, index);
+    explore_on(tower, table, rows, nodes, lines, count, pairs, index, graph)
 }

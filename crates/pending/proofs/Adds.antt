@@ -12,7 +12,7 @@ use lib.Seq.{getD-set-same, getD-set-other}
 use Rattle.base.specs.Choice.{pick}
 use Rattle.logic.specs.Time.{position}
 use Rattle.logic.specs.Tower.{Tower}
-use Rattle.logic.specs.Book.{Formula, constant, proposition, and, or, next, always, until}
+use Rattle.logic.specs.Book.{Formula, constant, proposition, and, or, next, always-for, until}
 use Rattle.logic.specs.Runs.{Trace, Kept}
 use Rattle.logic.specs.declared.Tick.{Tick}
 use Rattle.pending.specs.Pending.{Pending, fresh, merge, coming, put, provided}
@@ -28,7 +28,7 @@ with-left-fresh (proposition w k) = refl
 with-left-fresh (and f g) = refl
 with-left-fresh (or f g) = refl
 with-left-fresh (next c t g) = refl
-with-left-fresh (always t g) = refl
+with-left-fresh (always-for t g) = refl
 with-left-fresh (until t f g) = refl
 
 module _ (tower : Tower) (run : Trace) where
@@ -44,7 +44,7 @@ module _ (tower : Tower) (run : Trace) where
   merge-law (and f g) r q = (λ h. (h, h), λ h. h .0)
   merge-law (or f g) r q = (λ h. (h, h), λ h. h .0)
   merge-law (next c t g) r q = (λ h. (h, h), λ h. h .0)
-  merge-law (always t g) r q = always-merge tower run (position 0) r q g
+  merge-law (always-for t g) r q = always-merge tower run (position 0) r q g
   merge-law (until t f g) r q = until-merge tower run (position 0) r q f g
 
   -- a node that comes up asks what it asks beside what was pending of it

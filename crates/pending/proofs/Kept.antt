@@ -11,7 +11,7 @@ use lib.ListN.{length}
 use borrow.Author.Tests.{leb-true, le-leb}
 use Rattle.logic.specs.Time.{plus, minus, at-most, AtMost, longer, shorter, position, after, From, Before}
 use Rattle.logic.specs.Tower.{Tower}
-use Rattle.logic.specs.Book.{Formula, constant, proposition, and, or, next, always, until, Comparison, compares, Form, at-start, everywhere}
+use Rattle.logic.specs.Book.{Formula, constant, proposition, and, or, next, always-for, until, Comparison, compares, Form, at-start, everywhere}
 use Rattle.logic.specs.Runs.{Moment, Trace, moment, Judged, end, duration, sum-ticks, time-at, InTime, KeptAt, Kept, KeptRule}
 use Rattle.logic.specs.declared.Tick.{Tick}
 use Rattle.logic.specs.declared.Position.{Position}
@@ -51,7 +51,7 @@ module _ (tower : Tower) (m : Moment) (run : Trace) where
   later-next c t g ih n =
       (λ h. (h .0, λ judged. ih (suc n) .0 (h .1 (omega arith))), λ h. (h .0, λ judged. ih (suc n) .1 (h .1 (omega arith))))
 
-  later-always : (t : Tick) (g : Formula) → Later g → Later (always t g)
+  later-always : (t : Tick) (g : Formula) → Later g → Later (always-for t g)
   unfolding KeptAt Judged From
   later-always t g ih n = (
     λ h j from judged time.
@@ -112,7 +112,7 @@ module _ (tower : Tower) (m : Moment) (run : Trace) where
   kept-later (or f g) n =
       (⊎-map (kept-later f n .0) (kept-later g n .0), ⊎-map (kept-later f n .1) (kept-later g n .1))
   kept-later (next c t g) n = later-next c t g (kept-later g) n
-  kept-later (always t g) n = later-always t g (kept-later g) n
+  kept-later (always-for t g) n = later-always t g (kept-later g) n
   kept-later (until t f g) n = later-until t f g (kept-later f) (kept-later g) n
 
   -- what a formula asks where a run begins with m, and what it asks of the rest of the run
@@ -130,18 +130,18 @@ module _ (tower : Tower) (m : Moment) (run : Trace) where
 
   -- E5: an always is kept if its part is kept now, and it is kept then with what is left of its bound, if the action fits into it.
   pub always-step : (t : Tick) (g : Formula)
-      → Now (always t g) ↔ (Now g × (at-most (duration tower m) t ≡ true → Then (always (minus t (duration tower m)) g)))
+      → Now (always-for t g) ↔ (Now g × (at-most (duration tower m) t ≡ true → Then (always-for (minus t (duration tower m)) g)))
   unfolding KeptAt Kept Judged From InTime AtMost plus minus at-most time-at sum-ticks
   always-step t g = (out, into)
     where
-      out : Now (always t g) → Now g × (at-most (duration tower m) t ≡ true → Then (always (minus t (duration tower m)) g))
+      out : Now (always-for t g) → Now g × (at-most (duration tower m) t ≡ true → Then (always-for (minus t (duration tower m)) g))
       out h = (
         h (position 0) (omega arith) (omega arith) (omega arith),
         λ fits judged j from below time.
             kept-later g (j .0) .0 (h (position (suc (j .0))) (omega arith) (omega arith) (omega (arith, leb-true))),
       )
 
-      into : Now g × (at-most (duration tower m) t ≡ true → Then (always (minus t (duration tower m)) g)) → Now (always t g)
+      into : Now g × (at-most (duration tower m) t ≡ true → Then (always-for (minus t (duration tower m)) g)) → Now (always-for t g)
       into (now, rest) =
           by-position (λ j. From (position 0) j → Judged (m ∷ run) j → InTime tower (m ∷ run) (position 0) j t
           → KeptAt tower (m ∷ run) g j) (λ from judged time. now)
@@ -242,7 +242,7 @@ rule-end tower at-start f = λ judged. absurd (omega arith)
 module _ (tower : Tower) (run : Trace) (i : Position) where
   -- Two always of one formula ask together what the one with the larger bound asks.
   pub always-merge : (r q : Tick) (g : Formula)
-      → Kept tower run (always (longer r q) g) i ↔ (Kept tower run (always r g) i × Kept tower run (always q g) i)
+      → Kept tower run (always-for (longer r q) g) i ↔ (Kept tower run (always-for r g) i × Kept tower run (always-for q g) i)
   unfolding Kept KeptAt InTime AtMost plus longer
   always-merge r q g = (
     λ h. (λ judged j from below time. h judged j from below (omega arith), λ judged j from below time. h judged j from below (omega arith)),

@@ -5,3 +5,4 @@ pub mod Adds
 pub mod Progress
 pub mod Steps
 pub mod Same
+pub mod Marks

@@ -9,7 +9,7 @@ use lib.ListN.{length, getD, drop, length-append, length-drop}
 use lib.Seq.{drop-drop, drop-append-seam, getD-drop}
 use Rattle.base.specs.Lists.{joined}
 use Rattle.pending.specs.Pending.{root}
-use Rattle.logic.specs.Book.{Formula, constant, proposition, and, or, next, always, until, parts, size, nodes, first-part, second-part, Book, timed, timed-right, FitBook}
+use Rattle.logic.specs.Book.{Formula, constant, proposition, and, or, next, always-for, until, parts, size, nodes, first-part, second-part, Book, timed, timed-right, FitBook}
 
 -- The formulas fs stand in a row among all the nodes, the first with number n.
 pub record Stand (all : List Formula) (n : ℕ) (fs : List Formula) : Type 0 where
@@ -42,7 +42,7 @@ front (proposition w k) = ([], refl)
 front (and f g) = (parts f ++ parts g, sym (append-assoc (parts f) (parts g) _))
 front (or f g) = (parts f ++ parts g, sym (append-assoc (parts f) (parts g) _))
 front (next c t g) = (parts g, refl)
-front (always t g) = (parts g, refl)
+front (always-for t g) = (parts g, refl)
 front (until t f g) = (parts f ++ parts g, sym (append-assoc (parts f) (parts g) _))
 
 -- a formula has a node
@@ -173,7 +173,7 @@ module _ (all : List Formula) where
       let (left, right) = (and-eq-true-iff (timed-right f) (timed-right g)) .0 both in
       two-sit (or f g) f g n refl s fit (λ row. parts-sit f n row left) (λ k row. parts-sit g k row right)
   parts-sit (next c t g) n s fit = one-sits (next c t g) g n refl s fit (λ row. parts-sit g n row fit)
-  parts-sit (always t g) n s fit = one-sits (always t g) g n refl s fit (λ row. parts-sit g n row fit)
+  parts-sit (always-for t g) n s fit = one-sits (always-for t g) g n refl s fit (λ row. parts-sit g n row fit)
   parts-sit (until t f g) n s fit =
       let (one, both) = (and-eq-true-iff (not (timed g)) (timed-right f && timed-right g)) .0 fit in
       let (left, right) = (and-eq-true-iff (timed-right f) (timed-right g)) .0 both in

@@ -13,7 +13,7 @@ use Rattle.base.specs.Lists.{joined}
 use Rattle.base.proofs.Lists.{or-fails-left, or-fails-right, or-cases, or-left, or-right, beq-out, beq-in}
 use Rattle.logic.specs.Time.{position, minus, at-most}
 use Rattle.logic.specs.Tower.{Tower}
-use Rattle.logic.specs.Book.{Formula, constant, proposition, and, or, next, always, until, Comparison, compares, timed, timed-right, parts, size, nodes, first-part, second-part, Form, at-start, everywhere, Rule, Book, FitBook}
+use Rattle.logic.specs.Book.{Formula, constant, proposition, and, or, next, always-for, until, Comparison, compares, timed, timed-right, parts, size, nodes, first-part, second-part, Form, at-start, everywhere, Rule, Book, FitBook}
 use Rattle.logic.specs.Runs.{Moment, Trace, moment, duration, Kept, KeptAt}
 use Rattle.logic.specs.declared.Tick.{Tick}
 use Rattle.pending.specs.Pending.{Pending, holds, fresh, put, provided, progress, progress-nodes, root, progress-rule, progress-rules, begin-rule, begin-rules}
@@ -60,7 +60,7 @@ module _ (tower : Tower) (m : Moment) (run : Trace) where
         ⊎-elim (λ h. or-left (holds tower (m .state) g) (left .1 h)) (λ h. or-right (holds tower (m .state) f) (right .1 h)),
       )
   holds-now (next c t g) e = absurd (true≢false e)
-  holds-now (always t g) e = absurd (true≢false e)
+  holds-now (always-for t g) e = absurd (true≢false e)
   holds-now (until t f g) e = absurd (true≢false e)
 
   -- the formula of each pending cell is kept now; fs are the nodes of the cells
@@ -154,18 +154,18 @@ module _ (tower : Tower) (m : Moment) (run : Trace) where
         (subst (λ h. Gives (some (put g (second-part k) (fresh g) p)) p (Ahead h)) (with-left-fresh g)
         (adds-put tower run all g (second-part k) (fresh g) p (sits-only all (next c t g) k sits g refl) sized)))
 
-    right-always : (t : Tick) (g : Formula) → Right g → Right (always t g)
+    right-always : (t : Tick) (g : Formula) → Right g → Right (always-for t g)
     unfolding progress with-left timed-right parts
     right-always t g part k r p sits fit sized =
-        adds-iff tower run all (step (always t g) k r p) p
-        (Here g × (at-most d r ≡ true → Ahead (always (minus r d) g))) (Here (always r g))
+        adds-iff tower run all (step (always-for t g) k r p) p
+        (Here g × (at-most d r ≡ true → Ahead (always-for (minus r d) g))) (Here (always-for r g))
         (Iff·symm (always-step tower m run r g))
         (adds-both tower run all (step g (second-part k) (fresh g) p)
-        (λ q. some (pick (at-most d r) (λ _. put (always t g) k (minus r d) q) (λ _. q))) p (Here g)
-        (at-most d r ≡ true → Ahead (always (minus r d) g))
-        (anew g part (second-part k) p (sits-only all (always t g) k sits g refl) fit sized)
-        (λ q same. adds-if tower run all (at-most d r) (put (always t g) k (minus r d) q) q (Ahead (always (minus r d) g))
-        (adds-put tower run all (always t g) k (minus r d) q sits (same ∙ sized))))
+        (λ q. some (pick (at-most d r) (λ _. put (always-for t g) k (minus r d) q) (λ _. q))) p (Here g)
+        (at-most d r ≡ true → Ahead (always-for (minus r d) g))
+        (anew g part (second-part k) p (sits-only all (always-for t g) k sits g refl) fit sized)
+        (λ q same. adds-if tower run all (at-most d r) (put (always-for t g) k (minus r d) q) q (Ahead (always-for (minus r d) g))
+        (adds-put tower run all (always-for t g) k (minus r d) q sits (same ∙ sized))))
       where
         d : Tick
         d = duration tower m
@@ -209,7 +209,7 @@ module _ (tower : Tower) (m : Moment) (run : Trace) where
     adds-progress (and f g) = right-and f g (adds-progress f) (adds-progress g)
     adds-progress (or f g) = right-or f g (adds-progress f) (adds-progress g)
     adds-progress (next c t g) = right-next c t g
-    adds-progress (always t g) = right-always t g (adds-progress g)
+    adds-progress (always-for t g) = right-always t g (adds-progress g)
     adds-progress (until t f g) = right-until t f g (adds-progress f)
 
     -- Progressing every pending node adds what they all ask.

@@ -13,7 +13,7 @@ use Rattle.logic.proofs.Leads.{leads-nil, leads-step, leads-stuck, leads-out, l
 use Rattle.logic.specs.declared.Tick.{Tick}
 use Rattle.pending.specs.Pending.{Pending, progress-nodes, progress-rules, none-pending, progressed, first-pending}
 use Rattle.pending.specs.Pairs.{Pair, pair-at, pair-step}
-use Rattle.pending.specs.Asks.{Meets}
+use Rattle.pending.specs.Asks.{Fulfils}
 use Rattle.pending.proofs.Kept.{kept-now, rule-step, rule-end}
 use Rattle.pending.proofs.Nodes.{Stand, book-sits}
 use Rattle.pending.proofs.Adds.{Sat, Adds, adds-both}
@@ -86,7 +86,7 @@ module _ (tower : Tower) (book : Book) where
       leads-in (tower .target) (v .state) (z .state) (w .state) a u (pair-step-out v z a step .0) (pair-leads-state z w u rest)
 
   -- at the end of a run everything is met
-  meets-end : (x : ℕ) (p : Pending) → Meets tower book x p []
+  meets-end : (x : ℕ) (p : Pending) → Fulfils tower book x p []
   unfolding trace-from Kept Judged
   meets-end x p =
       record { pending = λ k r below e judged. absurd (omega arith); rules = λ rule listed e. rule-end tower everywhere (rule .formula) }
@@ -166,10 +166,10 @@ module _ (tower : Tower) (book : Book) (fit : FitBook book) where
     abbrev Later : Type 0
     Later = Each book (λ rule. rule .form ≡ everywhere → KeptRule tower rest everywhere (rule .formula))
 
-    meets-now : Meets tower book x p (a ∷ u) ↔ (Asked here rest p × Later)
+    meets-now : Fulfils tower book x p (a ∷ u) ↔ (Asked here rest p × Later)
     meets-now = (out, into)
       where
-        out : Meets tower book x p (a ∷ u) → Asked here rest p × Later
+        out : Fulfils tower book x p (a ∷ u) → Asked here rest p × Later
         out h = (
           (
             nodes-in tower here rest (nodes book) p
@@ -179,7 +179,7 @@ module _ (tower : Tower) (book : Book) (fit : FitBook book) where
           λ rule listed e. rule-step tower here rest (rule .formula) .0 (rw trace-step at (h .rules rule listed e)) .1,
         )
 
-        into : Asked here rest p × Later → Meets tower book x p (a ∷ u)
+        into : Asked here rest p × Later → Fulfils tower book x p (a ∷ u)
         into h =
             record {
               pending = λ k r below e. rw trace-step (kept-now tower here rest _ .1
@@ -189,27 +189,27 @@ module _ (tower : Tower) (book : Book) (fit : FitBook book) where
             }
 
     -- A broken step cannot be met.
-    pub meets-broken : then-pending tower book x p a ≡ none → Meets tower book x p (a ∷ u) → ⊥
+    pub meets-broken : then-pending tower book x p a ≡ none → Fulfils tower book x p (a ∷ u) → ⊥
     meets-broken e h =
         subst (λ o. Adds tower rest (nodes book) o (none-pending book) (Asked here rest p)) e (progressed-adds here rest p)
         (none-asks tower book rest) (meets-now .0 h .0)
 
     -- A run meets what is pending before a step exactly if its rest meets what is pending behind it.
-    pub meets-step : (q : Pending) → then-pending tower book x p a ≡ some q → Meets tower book x p (a ∷ u) ↔ Meets tower book y q u
+    pub meets-step : (q : Pending) → then-pending tower book x p a ≡ some q → Fulfils tower book x p (a ∷ u) ↔ Fulfils tower book y q u
     meets-step q e = (out, into)
       where
         adds : Adds tower rest (nodes book) (some q) (none-pending book) (Asked here rest p)
         adds = subst (λ o. Adds tower rest (nodes book) o (none-pending book) (Asked here rest p)) e (progressed-adds here rest p)
 
-        out : Meets tower book x p (a ∷ u) → Meets tower book y q u
+        out : Fulfils tower book x p (a ∷ u) → Fulfils tower book y q u
         out h = record { pending = adds .1 .1 (none-asks tower book rest, meets-now .0 h .0); rules = meets-now .0 h .1 }
 
-        into : Meets tower book y q u → Meets tower book x p (a ∷ u)
+        into : Fulfils tower book y q u → Fulfils tower book x p (a ∷ u)
         into h = meets-now .1 (adds .1 .0 (h .pending) .1, h .rules)
 
   -- Where the tower leads, the run meets what is pending exactly if pairs lead there too.
   pub meets-leads : (v : Pair) (u : List ℕ) (y : ℕ) → leads (tower .target) (v .state) u ≡ some y
-      → Meets tower book (v .state) (v .pending) u ↔ ((w : Pair) × (leads (pair-step tower book) v u ≡ some w))
+      → Fulfils tower book (v .state) (v .pending) u ↔ ((w : Pair) × (leads (pair-step tower book) v u ≡ some w))
   meets-leads v [] y e =
       (λ h. (v, leads-nil (pair-step tower book) v), λ h. meets-end tower book (v .state) (v .pending))
   meets-leads v (a ∷ u) y e =
@@ -220,8 +220,8 @@ module _ (tower : Tower) (book : Book) (fit : FitBook book) where
       move = pair-step tower book
 
       go : (x : ℕ) → tower .target (v .state) a ≡ some x → (o : Option Pending) → then-pending tower book (v .state) (v .pending) a ≡ o
-          → ((q : Pending) → Meets tower book x q u ↔ ((w : Pair) × (leads move (record { state = x; pending = q }) u ≡ some w)))
-          → Meets tower book (v .state) (v .pending) (a ∷ u) ↔ ((w : Pair) × (leads move v (a ∷ u) ≡ some w))
+          → ((q : Pending) → Fulfils tower book x q u ↔ ((w : Pair) × (leads move (record { state = x; pending = q }) u ≡ some w)))
+          → Fulfils tower book (v .state) (v .pending) (a ∷ u) ↔ ((w : Pair) × (leads move v (a ∷ u) ≡ some w))
       go x enabled none e ih = (
         λ h. absurd (meets-broken (v .state) a x (v .pending) u enabled e h),
         λ h. absurd (Option·none-ne-some (h .0)
@@ -235,11 +235,11 @@ module _ (tower : Tower) (book : Book) (fit : FitBook book) where
 
   -- Behind a way of pairs the rest of the run has to meet what is pending there.
   pub meets-on : (v w : Pair) (u rest : List ℕ) → leads (pair-step tower book) v u ≡ some w
-      → Meets tower book (v .state) (v .pending) (u ++ rest) ↔ Meets tower book (w .state) (w .pending) rest
+      → Fulfils tower book (v .state) (v .pending) (u ++ rest) ↔ Fulfils tower book (w .state) (w .pending) rest
   meets-on v w [] rest e =
       let same : v ≡ w = Option·some-injective v w (sym (leads-nil (pair-step tower book) v) ∙ e) in (
-        λ h. subst (λ z. Meets tower book (z .state) (z .pending) rest) same h,
-        λ h. subst (λ z. Meets tower book (z .state) (z .pending) rest) (sym same) h,
+        λ h. subst (λ z. Fulfils tower book (z .state) (z .pending) rest) same h,
+        λ h. subst (λ z. Fulfils tower book (z .state) (z .pending) rest) (sym same) h,
       )
   meets-on v w (a ∷ u) rest e =
       let (z, step, later) = leads-out (pair-step tower book) v w a u e in
@@ -247,14 +247,14 @@ module _ (tower : Tower) (book : Book) (fit : FitBook book) where
       Iff·trans (meets-step (v .state) a (z .state) (v .pending) (u ++ rest) enabled (z .pending) next) (meets-on z w u rest later)
 
   -- A run is unbroken exactly if it meets what is pending at first.
-  pub unbroken-meets : (w : List ℕ) → Unbroken tower book w ↔ Meets tower book (tower .start) (first-pending book) w
+  pub unbroken-meets : (w : List ℕ) → Unbroken tower book w ↔ Fulfils tower book (tower .start) (first-pending book) w
   unfolding Unbroken trace KeptRule
   unbroken-meets w = (out, into)
     where
       run : Trace
       run = trace-from tower (tower .start) w
 
-      out : Unbroken tower book w → Meets tower book (tower .start) (first-pending book) w
+      out : Unbroken tower book w → Fulfils tower book (tower .start) (first-pending book) w
       out h =
           record {
             pending = first-adds tower book run .1 .1 (
@@ -264,7 +264,7 @@ module _ (tower : Tower) (book : Book) (fit : FitBook book) where
             rules = λ rule listed e. subst (λ form. KeptRule tower run form (rule .formula)) e (h rule listed);
           }
 
-      into : Meets tower book (tower .start) (first-pending book) w → Unbroken tower book w
+      into : Fulfils tower book (tower .start) (first-pending book) w → Unbroken tower book w
       into h rule listed = go (rule .form) refl
         where
           go : (form : Form) → rule .form ≡ form → KeptRule tower run form (rule .formula)

@@ -12,13 +12,13 @@ use lib.ListN.{length}
 use Rattle.base.proofs.Lists.{whether-there, none-some}
 use Rattle.logic.specs.Time.{longer, shorter, position}
 use Rattle.logic.specs.Tower.{Tower, Listed}
-use Rattle.logic.specs.Book.{Formula, constant, always, until, at-start, nodes, Book, FitBook}
+use Rattle.logic.specs.Book.{Formula, constant, always-for, until, at-start, nodes, Book, FitBook}
 use Rattle.logic.specs.Runs.{leads, IsRun, Trace, trace, trace-from, Judged, Kept, KeptAt, KeptRule, Unbroken, Broken}
 use Rattle.logic.specs.declared.Tick.{Tick}
 use Rattle.logic.specs.declared.Position.{Position}
 use Rattle.pending.specs.Pending.{progressed}
 use Rattle.pending.specs.Pairs.{Pair, pair-step, first-pair, same-pair}
-use Rattle.pending.specs.Asks.{Meets}
+use Rattle.pending.specs.Asks.{Fulfils}
 use Rattle.pending.proofs.Kept as Laws
 use Rattle.pending.proofs.Steps as Steps
 use Rattle.pending.proofs.Same as Same
@@ -43,7 +43,7 @@ broken-iff tower book fit w run = (
 -- Behind a pair a run stays unbroken exactly if the rest of it meets what is pending there.
 pub continued-iff : (tower : Tower) (book : Book) → FitBook book → (w u : List ℕ) (v : Pair)
     → leads (pair-step tower book) (first-pair tower book) w ≡ some v
-    → Unbroken tower book (w ++ u) ↔ Meets tower book (v .state) (v .pending) u
+    → Unbroken tower book (w ++ u) ↔ Fulfils tower book (v .state) (v .pending) u
 unfolding first-pair
 continued-iff tower book fit w u v e =
     Iff·trans (Steps.unbroken-meets tower book fit (w ++ u)) (Steps.meets-on tower book fit (first-pair tower book) v w u e)
@@ -61,7 +61,7 @@ start-false-breaks tower a unbroken =
 
 -- Merging loses nothing: two always of one formula are kept exactly if the one with the larger bound is.
 pub always-merge : (tower : Tower) (run : Trace) (i : Position) (r q : Tick) (g : Formula)
-    → (Kept tower run (always r g) i × Kept tower run (always q g) i) ↔ Kept tower run (always (longer r q) g) i
+    → (Kept tower run (always-for r g) i × Kept tower run (always-for q g) i) ↔ Kept tower run (always-for (longer r q) g) i
 always-merge tower run i r q g = Iff·symm (Laws.always-merge tower run i r q g)
 
 -- Two until of the same formulas are kept exactly if the one with the smaller bound is.

@@ -7,7 +7,7 @@ use mathlib.Core.List.{List, List·Memᴰ}
 use lib.ListN.{length, getD}
 use Rattle.logic.specs.Time.{position}
 use Rattle.logic.specs.Tower.{Tower}
-use Rattle.logic.specs.Book.{Formula, constant, proposition, and, or, next, always, until, nodes, everywhere, Rule, Book}
+use Rattle.logic.specs.Book.{Formula, constant, proposition, and, or, next, always-for, until, nodes, everywhere, Rule, Book}
 use Rattle.logic.specs.Runs.{trace-from, Kept, KeptRule}
 use Rattle.logic.specs.declared.Tick.{Tick}
 use Rattle.pending.specs.Pending.{Pending}
@@ -19,11 +19,11 @@ with-left (proposition w k) r = proposition w k
 with-left (and f g) r = and f g
 with-left (or f g) r = or f g
 with-left (next c t g) r = next c t g
-with-left (always t g) r = always r g
+with-left (always-for t g) r = always-for r g
 with-left (until t f g) r = until r f g
 
 -- The rest of a run, from state x by the actions u, meets what is pending: each pending node is kept at once, and each `always` rule is kept.
-pub record Meets (tower : Tower) (book : Book) (x : ℕ) (p : Pending) (u : List ℕ) : Type 0 where
+pub record Fulfils (tower : Tower) (book : Book) (x : ℕ) (p : Pending) (u : List ℕ) : Type 0 where
   pub pending : (k : ℕ) (r : Tick) → k < length (nodes book) → getD p k none ≡ some r
       → Kept tower (trace-from tower x u) (with-left (getD (nodes book) k (constant false)) r) (position 0)
   pub rules : (rule : Rule) → List·Memᴰ rule book → rule .form ≡ everywhere → KeptRule tower (trace-from tower x u) everywhere (rule .formula)

@@ -8,7 +8,7 @@ use Rattle.base.specs.Choice.{pick}
 use Rattle.base.specs.Lists.{same-option, same-list}
 use Rattle.logic.specs.Time.{ticks, minus, at-most, same-ticks, longer, shorter}
 use Rattle.logic.specs.Tower.{Tower}
-use Rattle.logic.specs.Book.{Formula, constant, proposition, and, or, next, always, until, compares, timed, size, nodes, first-part, second-part, Form, at-start, everywhere, Book}
+use Rattle.logic.specs.Book.{Formula, constant, proposition, and, or, next, always-for, until, compares, timed, size, nodes, first-part, second-part, Form, at-start, everywhere, Book}
 use Rattle.logic.specs.declared.Tick.{Tick}
 unfoldable pub use Rattle.logic.specs.Book.{root}
 
@@ -27,7 +27,7 @@ holds tower x (proposition wanted k) = Bool·beq (tower .marked x k) wanted
 holds tower x (and f g) = holds tower x f && holds tower x g
 holds tower x (or f g) = holds tower x f || holds tower x g
 holds tower x (next c t g) = false
-holds tower x (always t g) = false
+holds tower x (always-for t g) = false
 holds tower x (until t f g) = false
 
 -- A new node starts with its bound (0 if it has none).
@@ -37,7 +37,7 @@ fresh (proposition w k) = ticks 0
 fresh (and f g) = ticks 0
 fresh (or f g) = ticks 0
 fresh (next c t g) = t
-fresh (always t g) = t
+fresh (always-for t g) = t
 fresh (until t f g) = t
 
 -- Where a node comes up twice, A keeps the larger number, U the smaller. No other node has two numbers.
@@ -47,7 +47,7 @@ merge (proposition w k) r q = r
 merge (and f g) r q = r
 merge (or f g) r q = r
 merge (next c t g) r q = r
-merge (always t g) r q = longer r q
+merge (always-for t g) r q = longer r q
 merge (until t f g) r q = shorter r q
 
 -- the number of a node that comes up with r ticks
@@ -63,6 +63,14 @@ put f k r p = set p k (some (coming f r (getD p k none)))
 unfoldable pub provided : Bool → Option Pending → Option Pending
 provided b o = pick b (λ _. o) (λ _. none)
 
+-- Progression by example: the small tower under `always !p0 | E 3 p1`, whose node 3 is the until. Mark p0 is on state 0, p1 on state 1, p2 on
+-- state 2, and every action takes one tick.
+--   state 0 is left towards state 2: `!p0` does not hold there, so the until comes up with its bound 3; p1 is not there, and one tick passes:
+--   node 3 is pending with 2
+--   state 2 is left towards state 0: p1 is not there: node 3 stays with 1; the rule adds nothing, since `!p0` holds
+--   state 0 is left towards state 2 again: node 3 would stay with 0, and the rule brings it up with 2 anew; an until keeps the smaller: 0
+--   state 2 is left: p1 is not there, and one tick is more than 0: the step is broken
+
 -- Node k, the formula f with r ticks left, as state x is left by an action of length d: what is added to the pending p, or nothing if the
 -- step is broken.
 unfoldable pub progress : Tower → ℕ → Tick → Formula → ℕ → Tick → Pending → Option Pending
@@ -75,9 +83,9 @@ progress tower x d (or f g) k r p =
     (λ _. pick (holds tower x g) (λ _. some p) (λ _. progress tower x d f (first-part k g) (fresh f) p))
     (λ _. pick (holds tower x f) (λ _. some p) (λ _. progress tower x d g (second-part k) (fresh g) p))
 progress tower x d (next c t g) k r p = provided (compares c d t) (some (put g (second-part k) (fresh g) p))
-progress tower x d (always t g) k r p =
+progress tower x d (always-for t g) k r p =
     bind (progress tower x d g (second-part k) (fresh g) p)
-    (λ q. some (pick (at-most d r) (λ _. put (always t g) k (minus r d) q) (λ _. q)))
+    (λ q. some (pick (at-most d r) (λ _. put (always-for t g) k (minus r d) q) (λ _. q)))
 progress tower x d (until t f g) k r p =
     pick (holds tower x g) (λ _. some p) (λ _.
     provided (at-most d r)

@@ -2,3 +2,4 @@ pub mod Entries
 pub mod Turns
 pub mod Seen
 mod Ways
+mod Copying

@@ -15,8 +15,9 @@ use Rattle.pending.specs.Pending.{progressed}
 use Rattle.progression.specs.PendingBytes.{pending-of, part, outcome}
 use Rattle.progression.specs.Contracts.{Beside, Parts, Progressed, Begun}
 use Rattle.lent_bytes.proofs.Numbers.{stored, stored-read, byte-beside, length-stored}
+use Rattle.lent_bytes.proofs.Clearing.{cleared-byte}
 use Rattle.entry_index.specs.Entries.{entry-at, entries-of, same-entry, Indexed}
-use Rattle.entry_index.proofs.Laws.{found-equal, found-first, cleared-byte}
+use Rattle.entry_index.proofs.Laws.{found-equal, found-first}
 use Rattle.pending_entries.specs.PendingEntries.{entry-number, entry-cells, Entered, Noted, First}
 use Rattle.pending_entries.proofs.Entries.{number-of-entry, cells-of-entry, beside-byte, stored-else, Elsewhere, still-there, still-blank, cells-else, number-else, entries-equal}
 

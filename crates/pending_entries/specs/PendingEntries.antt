@@ -46,6 +46,14 @@ pub record Entered (b : Bool) (nodes : List ℕ) (lines count mask : ℕ) (d : T
   pub says : (book : Book) → Held nodes lines count book → (at : Marked mask)
       → progressed (at .tower) book (at .state) d (pending-of (entry-cells count area i)) ≡ outcome b (entry-cells count after n)
 
+-- Entry n holds the number, and what is pending in entry j. The entries before n stay.
+pub record Copied (count : ℕ) (area : List ℕ) (j number n : ℕ) (after : List ℕ) : Type 0 where
+  pub size : length after ≡ length area
+  pub kept : (i : ℕ) → i < n → entry-at after i ≡ entry-at area i
+  pub blank : Blank count area → Blank count after
+  pub number-is : entry-number after n ≡ number
+  pub cells : entry-cells count after n ≡ entry-cells count area j
+
 -- Entry n is one of the first `met`: that at `at` is equal to it. There is one more than n if none of the first n holds the same.
 pub record Noted (out : Place) (area : List ℕ) (n : ℕ) (index : List ℕ) : Type 0 where
   pub indexed : Indexed area index (out .met)

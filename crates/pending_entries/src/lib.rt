@@ -1,11 +1,10 @@
-// Entries that hold a number and what is pending (specs/PendingEntries.antt): the items of the checker
-// and the pairs of the maker.
+// Entries that hold a number and what is pending (specs/PendingEntries.antt): pairs.
 ghost use Prim.Native.Nat.{_+_, _*_, _<_, _≤_};
 ghost use mathlib.Core.Path.{_≡_};
 ghost use lib.ListN.{length};
 ghost use Rattle.progression.specs.NodeBytes.{IsHeld};
 ghost use Rattle.entry_index.specs.Entries.{entry-size, most-entries, entries-size, index-size, Indexed};
-ghost use Rattle.pending_entries.specs.PendingEntries.{entry-number, Entered, Noted, First};
+ghost use Rattle.pending_entries.specs.PendingEntries.{entry-number, Entered, Copied, Noted, First};
 use logic::Tick;
 
 // The bytes of an entry, and where its pending part begins.
@@ -55,6 +54,25 @@ pub fn follow(
     }
     lent_bytes::put_two_bytes(entries, ENTRY_SIZE * n, number);
     true
+}
+
+// Entry n gets the number, and what is pending in entry j.
+pub fn copy(count: usize, entries: &mut [u8], j: usize, number: usize, n: usize)
+    requires { ⌜ count ≤ 60 ⌝ }
+    requires { ⌜ entries-size ≤ length (now entries) ⌝ }
+    requires { ⌜ j < n ⌝ }
+    requires { ⌜ n ≤ most-entries ⌝ }
+    requires { ⌜ number < 65536 ⌝ }
+    ensures { λ _. ⌜ Copied count (now (entries .entry)) j number n (now (entries .exit)) ⌝ }
+{
+    let from = ENTRY_SIZE * j + PENDING;
+    let to = ENTRY_SIZE * n + PENDING;
+    let mut k = 0;
+    while k < count {
+        entries[to + k] = entries[from + k];
+        k += 1;
+    }
+    lent_bytes::put_two_bytes(entries, ENTRY_SIZE * n, number);
 }
 
 // Brings entry n among the first n: where one of them is equal to it that one is meant.

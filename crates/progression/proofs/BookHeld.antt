@@ -12,7 +12,7 @@ use borrow.Author.Tests.{ltb-false, leb-false}
 use Rattle.base.specs.Lists.{joined}
 use Rattle.base.proofs.Lists.{or-fails-left, or-fails-right, mem-getD}
 use Rattle.logic.specs.Tower.{most-marks}
-use Rattle.logic.specs.Book.{Formula, constant, proposition, and, or, next, always, until, parts, size, nodes, root, first-part, second-part, at-start, Rule, Book}
+use Rattle.logic.specs.Book.{Formula, constant, proposition, and, or, next, always-for, until, parts, size, nodes, root, first-part, second-part, at-start, Rule, Book}
 use Rattle.pending.proofs.Nodes.{Stand, stand-left, stand-right, Sits, sits-within, sits-node, sits-first, sits-second, sits-only, sits-root, AllSit, book-sits}
 use Rattle.reading.specs.BookArea.{node-size, line-size, lines-at, node-code, node-number, node-first, node-second, node-bytes, nodes-bytes, form-code, lines-bytes}
 use Rattle.reading.specs.BookReading.{over-number, over-mark, most-ticks}
@@ -82,9 +82,9 @@ module _ (h : Formula) where
   parts-low (next c t g) low =
       join-low (parts g) (next c t g ∷ [])
       (parts-low g (record { numbers = or-fails-right (ltb most-ticks (t .0)) (over-number g) (low .numbers); marks = low .marks })) (one-low (next c t g) low)
-  parts-low (always t g) low =
-      join-low (parts g) (always t g ∷ [])
-      (parts-low g (record { numbers = or-fails-right (ltb most-ticks (t .0)) (over-number g) (low .numbers); marks = low .marks })) (one-low (always t g) low)
+  parts-low (always-for t g) low =
+      join-low (parts g) (always-for t g ∷ [])
+      (parts-low g (record { numbers = or-fails-right (ltb most-ticks (t .0)) (over-number g) (low .numbers); marks = low .marks })) (one-low (always-for t g) low)
   parts-low (until t f g) low =
       let (l, r) = both-low f g (or-fails-right (ltb most-ticks (t .0)) (over-number f || over-number g) (low .numbers)) (low .marks) in
       two-low f g (until t f g) low (parts-low f l) (parts-low g r)
@@ -104,7 +104,7 @@ low-number (proposition w k) low = omega (arith, leb-false 16 k (low .marks))
 low-number (and f g) low = omega arith
 low-number (or f g) low = omega arith
 low-number (next c t g) low = ltb-false 254 (t .0) (or-fails-left (ltb 254 (t .0)) (over-number g) (low .numbers))
-low-number (always t g) low = ltb-false 254 (t .0) (or-fails-left (ltb 254 (t .0)) (over-number g) (low .numbers))
+low-number (always-for t g) low = ltb-false 254 (t .0) (or-fails-left (ltb 254 (t .0)) (over-number g) (low .numbers))
 low-number (until t f g) low = ltb-false 254 (t .0) (or-fails-left (ltb 254 (t .0)) (over-number f || over-number g) (low .numbers))
 
 low-mark : (f : Formula) → Low f → node-code f ≤ 3 → node-number f < 16
@@ -114,7 +114,7 @@ low-mark (proposition w k) low few = leb-false 16 k (low .marks)
 low-mark (and f g) low few = omega arith
 low-mark (or f g) low few = omega arith
 low-mark (next c t g) low few = absurd (omega (arith, comparison-low c))
-low-mark (always t g) low few = absurd (omega arith)
+low-mark (always-for t g) low few = absurd (omega arith)
 low-mark (until t f g) low few = absurd (omega arith)
 
 -- ---- every node is stored
@@ -127,7 +127,7 @@ some-parts (proposition w k) = omega arith
 some-parts (and f g) = omega (arith, length-append (parts f) (parts g ++ (and f g ∷ [])), some-parts f)
 some-parts (or f g) = omega (arith, length-append (parts f) (parts g ++ (or f g ∷ [])), some-parts f)
 some-parts (next c t g) = omega (arith, length-append (parts g) (next c t g ∷ []), some-parts g)
-some-parts (always t g) = omega (arith, length-append (parts g) (always t g ∷ []), some-parts g)
+some-parts (always-for t g) = omega (arith, length-append (parts g) (always-for t g ∷ []), some-parts g)
 some-parts (until t f g) = omega (arith, length-append (parts f) (parts g ++ (until t f g ∷ [])), some-parts f)
 
 -- what has a part before it is not the first node
@@ -195,10 +195,10 @@ module _ (bytes : List ℕ) (all : List Formula) (part : take (4 * length all) b
             (record { numbers = or-fails-right (ltb most-ticks (t .0)) (over-number g) (low .numbers); marks = low .marks }),
         omega arith,
       )
-  stored-at (always t g) k s low =
-      let some : 0 < k = not-first all (always t g) k s (one-more g (always t g) refl) in (
-        node-of (always t g) k s low,
-        stored-at g (second-part k) (sits-only all (always t g) k s g refl)
+  stored-at (always-for t g) k s low =
+      let some : 0 < k = not-first all (always-for t g) k s (one-more g (always-for t g) refl) in (
+        node-of (always-for t g) k s low,
+        stored-at g (second-part k) (sits-only all (always-for t g) k s g refl)
             (record { numbers = or-fails-right (ltb most-ticks (t .0)) (over-number g) (low .numbers); marks = low .marks }),
         omega arith,
       )

@@ -7,11 +7,11 @@ use mathlib.Core.Bool.{false}
 use mathlib.Core.List.{List, List·Memᴰ}
 use lib.ListN.{length}
 use borrow.Author.Tests.{leb-false, lt-leb}
-use Rattle.base.specs.Recursion.{within}
+use Rattle.base.specs.Recursion.{to-depth}
 use Rattle.base.specs.Answers.{give, _then_}
 use Rattle.base.proofs.Lists.{or-fails-left, or-fails-right, or-neither}
 use Rattle.logic.specs.Tower.{tower-of, mask-of, most-marks}
-use Rattle.logic.specs.Book.{Formula, constant, proposition, and, or, next, always, until, nodes, Rule, Book}
+use Rattle.logic.specs.Book.{Formula, constant, proposition, and, or, next, always-for, until, nodes, Rule, Book}
 use Rattle.pending.specs.Pending.{progressed}
 use Rattle.reading.specs.BookArea.{HoldsBook}
 use Rattle.reading.specs.BookReading.{over-mark, read-book}
@@ -33,7 +33,7 @@ fewer-marks marks more le (or f g) e =
     or-neither (fewer-marks marks more le f (or-fails-left (over-mark marks f) (over-mark marks g) e))
     (fewer-marks marks more le g (or-fails-right (over-mark marks f) (over-mark marks g) e))
 fewer-marks marks more le (next c t g) e = fewer-marks marks more le g e
-fewer-marks marks more le (always t g) e = fewer-marks marks more le g e
+fewer-marks marks more le (always-for t g) e = fewer-marks marks more le g e
 fewer-marks marks more le (until t f g) e =
     or-neither (fewer-marks marks more le f (or-fails-left (over-mark marks f) (over-mark marks g) e))
     (fewer-marks marks more le g (or-fails-right (over-mark marks f) (over-mark marks g) e))

@@ -30,10 +30,10 @@ unfolding form-code
 starts at-start not-one = refl
 starts everywhere not-one = absurd (not-one refl)
 
-always : (form : Form) → form-code form ≡ 1 → form ≡ everywhere
+always-for : (form : Form) → form-code form ≡ 1 → form ≡ everywhere
 unfolding form-code
-always at-start one = absurd (omega arith)
-always everywhere one = refl
+always-for at-start one = absurd (omega arith)
+always-for everywhere one = refl
 
 module _ (bytes : List ℕ) (i : ℕ) (cells : List ℕ) where
   pub line-starts : (mask : ℕ) (d : Tick) → (byte-at bytes (240 + 2 * i) ≡ 1 → ⊥) → LineSteps true bytes i mask d cells cells
@@ -47,14 +47,14 @@ module _ (bytes : List ℕ) (i : ℕ) (cells : List ℕ) where
   unfolding progress-rule
   line-progresses mask d k q b after one place new call =
       record {
-        says = λ rule n line at. rw (always (rule .form) (sym (line .form) ∙ one))
+        says = λ rule n line at. rw (always-for (rule .form) (sym (line .form) ∙ one))
             (child bytes mask d k (root n (rule .formula)) q b cells after (rule .formula) (place ∙ line .place)
             (rw (place ∙ line .place) (line .stored)) new call at);
       }
 
   pub line-waits : byte-at bytes (240 + 2 * i) ≡ 1 → LineBegins bytes i cells cells
   unfolding begin-rule
-  line-waits one = record { says = λ rule n line. rw (always (rule .form) (sym (line .form) ∙ one)) }
+  line-waits one = record { says = λ rule n line. rw (always-for (rule .form) (sym (line .form) ∙ one)) }
 
   pub line-begins : (k : ℕ) (q : Tick) (after : List ℕ) → (byte-at bytes (240 + 2 * i) ≡ 1 → ⊥) → k ≡ byte-at bytes (240 + 2 * i + 1)
       → q ≡ ticks (fresh-of bytes k) → Puts bytes k q cells after → LineBegins bytes i cells after

@@ -10,7 +10,7 @@ use lib.ListN.{getD}
 use lib.Dec.{ltb}
 use borrow.Author.Tests.{lt-ltb, le-ltb}
 use Rattle.logic.specs.Time.{ticks}
-use Rattle.logic.specs.Book.{Comparison, no-more, less, no-less, more, Formula, constant, proposition, and, or, next, always, until, timed}
+use Rattle.logic.specs.Book.{Comparison, no-more, less, no-less, more, Formula, constant, proposition, and, or, next, always-for, until, timed}
 use Rattle.logic.specs.declared.Tick.{Tick}
 use Rattle.pending.specs.Pending.{fresh}
 use Rattle.reading.specs.BookArea.{comparison-code, node-code, node-number, node-first, node-second}
@@ -44,7 +44,7 @@ module _ (bytes : List ℕ) (k : ℕ) where
       → ((g h : Formula) → Stored bytes (and g h) k → code-of bytes k ≡ 4 → P (and g h))
       → ((g h : Formula) → Stored bytes (or g h) k → 4 < code-of bytes k → code-of bytes k < 7 → P (or g h))
       → ((c : Comparison) (t : Tick) (g : Formula) → Stored bytes (next c t g) k → 6 < code-of bytes k → code-of bytes k < 11 → P (next c t g))
-      → ((t : Tick) (g : Formula) → Stored bytes (always t g) k → code-of bytes k ≡ 11 → P (always t g))
+      → ((t : Tick) (g : Formula) → Stored bytes (always-for t g) k → code-of bytes k ≡ 11 → P (always-for t g))
       → ((t : Tick) (g h : Formula) → Stored bytes (until t g h) k → code-of bytes k ≡ 12 → P (until t g h))
       → P f
   unfolding Stored node-code
@@ -60,7 +60,7 @@ module _ (bytes : List ℕ) (k : ℕ) where
       go false e = let code : code-of bytes k ≡ 6 = s .0 .code ∙ rw e in o g h s (omega arith) (omega arith)
   by-kind P (next c t g) s c′ m a o n l u =
       n c t g s (omega (arith, s .0 .code, comparison-low c)) (omega (arith, s .0 .code, comparison-high c))
-  by-kind P (always t g) s c m a o n l u = l t g s (s .0 .code)
+  by-kind P (always-for t g) s c m a o n l u = l t g s (s .0 .code)
   by-kind P (until t g h) s c m a o n l u = u t g h s (s .0 .code)
 
   -- Which formula it is, where the code says so.
@@ -95,7 +95,7 @@ module _ (bytes : List ℕ) (k : ℕ) where
       (λ c t g s _ _. give c t g s) (λ a b s at. absurd (omega arith)) (λ a b s lo up. absurd (omega arith))
 
   pub by-always : (P : Formula → Type 0) (f : Formula) → Stored bytes f k → code-of bytes k ≡ 11
-      → ((t : Tick) (g : Formula) → Stored bytes (always t g) k → P (always t g)) → P f
+      → ((t : Tick) (g : Formula) → Stored bytes (always-for t g) k → P (always-for t g)) → P f
   by-always P f s e give =
       by-kind P f s (λ b s lo. absurd (omega arith)) (λ a b s lo up. absurd (omega arith)) (λ a b s at. absurd (omega arith)) (λ a b s lo up. absurd (omega arith))
       (λ a b c s lo up. absurd (omega arith)) (λ t g s _. give t g s) (λ a b s lo up. absurd (omega arith))
@@ -114,7 +114,7 @@ module _ (bytes : List ℕ) (k : ℕ) where
   stored-is (and g h) s = s .0
   stored-is (or g h) s = s .0
   stored-is (next c t g) s = s .0
-  stored-is (always t g) s = s .0
+  stored-is (always-for t g) s = s .0
   stored-is (until t g h) s = s .0
 
   -- Where the parts are stored, by the numbers that the bytes give.
@@ -147,7 +147,7 @@ module _ (bytes : List ℕ) (k : ℕ) where
     unfolding Stored node-second
     next-part c t g s e = rw (e ∙ s .0 .second) (s .1)
 
-    pub always-part : (t : Tick) (g : Formula) → Stored bytes (always t g) k → p ≡ second-of bytes k → Stored bytes g p
+    pub always-part : (t : Tick) (g : Formula) → Stored bytes (always-for t g) k → p ≡ second-of bytes k → Stored bytes g p
     unfolding Stored node-second
     always-part t g s e = rw (e ∙ s .0 .second) (s .1)
 

@@ -9,7 +9,7 @@ use lib.ListN.{length}
 use borrow.Author.Tests.{not-true, not-false, le-leb, lt-leb}
 use Rattle.base.specs.Choice.{pick}
 use Rattle.logic.specs.Time.{ticks, at-most}
-use Rattle.logic.specs.Book.{Formula, constant, proposition, and, always, until, timed, first-part, second-part}
+use Rattle.logic.specs.Book.{Formula, constant, proposition, and, always-for, until, timed, first-part, second-part}
 use Rattle.logic.specs.declared.Tick.{Tick}
 use Rattle.pending.specs.Pending.{holds, fresh, provided, progress}
 use Rattle.reading.specs.BookArea.{node-code, node-first, node-second}
@@ -62,7 +62,7 @@ module _ (bytes : List ℕ) (k : ℕ) (r : Tick) (mask : ℕ) (d : Tick) (cells 
   -- the only part of an always comes first
   module _ (eleven : code ≡ 11) (p : ℕ) (q : Tick) (a : Bool) (mid : List ℕ) (part : p ≡ second-of bytes k) (new : q ≡ ticks (fresh-of bytes p))
       (call : Progresses a bytes p q mask d cells mid) where
-    always-child : (t : Tick) (g : Formula) → Stored bytes (always t g) k → (at : Marked mask)
+    always-child : (t : Tick) (g : Formula) → Stored bytes (always-for t g) k → (at : Marked mask)
         → progress (at .tower) (at .state) d g (second-part k) (fresh g) (pending-of cells) ≡ outcome a mid
     unfolding Stored node-second
     always-child t g s at = child bytes mask d p (second-part k) q a cells mid g (part ∙ s .0 .second) (always-part bytes k p t g s part) new call at
@@ -80,7 +80,7 @@ module _ (bytes : List ℕ) (k : ℕ) (r : Tick) (mask : ℕ) (d : Tick) (cells 
     progress-always after passes stays =
         record {
           says = λ f s at. by-always bytes k (λ f. At true after at f) f s (omega arith)
-              (λ t g s. rw (always-child t g s at, not-false a passes) (ap (λ l. some l) (sym (stays .says (always t g) s))));
+              (λ t g s. rw (always-child t g s at, not-false a passes) (ap (λ l. some l) (sym (stays .says (always-for t g) s))));
         }
 
   -- the second part of an until ends it

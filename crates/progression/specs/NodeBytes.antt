@@ -8,7 +8,7 @@ use lib.Dec.{ltb}
 use Rattle.base.specs.Choice.{pick}
 use Rattle.base.specs.Bytes.{byte-at}
 use Rattle.logic.specs.Tower.{Tower, most-marks, bit}
-use Rattle.logic.specs.Book.{Formula, constant, proposition, and, or, next, always, until, nodes, first-part, second-part, FitBook, Rule, Book}
+use Rattle.logic.specs.Book.{Formula, constant, proposition, and, or, next, always-for, until, nodes, first-part, second-part, FitBook, Rule, Book}
 use Rattle.reading.specs.BookArea.{node-code, node-number, node-first, node-second, HoldsBook}
 use Rattle.reading.specs.BookReading.{over-number, over-mark}
 
@@ -48,7 +48,7 @@ Stored bytes (and f g) k =
 Stored bytes (or f g) k =
     NodeIs bytes k (or f g) × Stored bytes f (first-part k g) × Stored bytes g (second-part k) × (first-part k g < k) × (second-part k < k)
 Stored bytes (next c t g) k = NodeIs bytes k (next c t g) × Stored bytes g (second-part k) × (second-part k < k)
-Stored bytes (always t g) k = NodeIs bytes k (always t g) × Stored bytes g (second-part k) × (second-part k < k)
+Stored bytes (always-for t g) k = NodeIs bytes k (always-for t g) × Stored bytes g (second-part k) × (second-part k < k)
 Stored bytes (until t f g) k =
     NodeIs bytes k (until t f g) × Stored bytes f (first-part k g) × Stored bytes g (second-part k) × (first-part k g < k) × (second-part k < k)
 

@@ -30,7 +30,7 @@ tower-refused tower text t why e f = sym (rw (refused-of tower t why f e))
 
 -- The area is long enough, so that 15 never comes.
 enough : (area : List ℕ) → length area ≡ 512 → long-enough book-areas (area ∷ []) ≡ true
-unfolding long-enough book-areas book-area
+unfolding long-enough book-areas
 enough area e = rw (le-leb 512 (length area) (omega arith))
 
 -- The book decides.

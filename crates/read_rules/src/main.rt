@@ -8,15 +8,17 @@ use files::Contents;
 use tower_reader::TowerRead;
 
 // Prints the answer.
-fn tell(answer: BookAnswer, tower: &[u8], book: &[u8], length: usize) {
+fn tell(answer: BookAnswer, tower: &[u8], book: &[u8], tower_bytes: &[u8], text: &[u8]) {
     match answer {
         BookAnswer::Read { lines, nodes } => {
             let mut line = [0u8; 4096];
             let n = listing::sizes(lines, nodes, &mut line);
-            files::print(&line[..n]);
+            if files::print(&line[..n]) {
+                notes::left_out(book, text, lines);
+            }
         }
         BookAnswer::Refused(why) => {
-            files::refuse(why, tower, book, length, b"table.bin");
+            explaining::refuse(why, tower, book, b"", tower_bytes, text, b"");
         }
     }
 }
@@ -34,6 +36,12 @@ fn read(tower: &[u8], text: &[u8]) -> BookAnswer
     book_reader::read_book(tower_reader::marks(tower), text, &mut nodes)
 }
 
+// Answers for what the files hold.
+fn answer(tower: &[u8], book: &[u8], tower_bytes: &[u8], text: &[u8]) {
+    let read = read(tower_bytes, text);
+    tell(read, tower, book, tower_bytes, text);
+}
+
 // Reads the files. Each area has room for one byte more than the longest file that is fit, so that a
 // longer one is refused for its length.
 fn run(tower: &[u8], book: &[u8]) {
@@ -45,8 +53,7 @@ fn run(tower: &[u8], book: &[u8]) {
     let Contents::Bytes(b) = files::read_file(book, &mut text) else {
         return;
     };
-    let answer = read(&tower_bytes[..t], &text[..b]);
-    tell(answer, tower, book, b);
+    answer(tower, book, &tower_bytes[..t], &text[..b]);
 }
 
 // The names are the arguments.

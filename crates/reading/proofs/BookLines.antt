@@ -11,14 +11,14 @@ use lib.Dec.{leb, ltb}
 use borrow.Author.Tests.{not-false, ltb-false}
 use Rattle.base.specs.Choice.{pick}
 use Rattle.base.specs.Lists.{joined}
-use Rattle.base.specs.Recursion.{within, run}
+use Rattle.base.specs.Recursion.{to-depth, run}
 use Rattle.base.specs.Answers.{Answer, refuse, give, _then_}
 use Rattle.base.specs.declared.Refusal.the-variants.{Grammar, Number, Mark, Limit, Timed}
 use Rattle.base.proofs.Lists.{or-fails-left, joined-append}
 use Rattle.base.proofs.Answers.{gives-not-refuses, if-gives, then-gives}
 use Rattle.logic.specs.Book.{Formula, parts, size, timed-right, nodes, Rule, Book, FitBook}
 use Rattle.reading.specs.BookReading.{Line, no-line, line, line-at, over-number, over-mark, over-limit, judge-line, lines-step, read-lines, read-book}
-use Rattle.reading.specs.BookReading.{Progress, most-bytes, most-nodes, most-brackets}
+use Rattle.reading.specs.BookReading.{ReadSoFar, most-bytes, most-nodes, most-brackets}
 
 give-one : {A : Type 0} {x y : A} → give x ≡ give y → x ≡ y
 give-one e = cc
@@ -39,7 +39,7 @@ with-rule before rule = before ++ (rule ∷ [])
 
 module _ (P : Book → Type 0) (marks : ℕ) (along : (before : Book) (rule : Rule) → JudgedWell marks before rule → P before → P (with-rule before rule))
     (text : List ℕ) where
-  along-line : (before : Book) (l : Line) (here : Progress) → P before → judge-line marks before l ≡ give here → P (here .rules)
+  along-line : (before : Book) (l : Line) (here : ReadSoFar) → P before → judge-line marks before l ≡ give here → P (here .rules)
   unfolding judge-line
   along-line before no-line here p e = gives-not-refuses e refl
   along-line before (line form f brackets q) here p e =
@@ -52,21 +52,21 @@ module _ (P : Book → Type 0) (marks : ℕ) (along : (before : Book) (rule : Ru
       (record { brackets = brackets; numbers = a; propositions = b; limits = c; timed = not-false (timed-right f) d }) p)
 
   -- how much of the text is left, and what is said if the reading goes on for too long
-  left : Progress → ℕ
+  left : ReadSoFar → ℕ
   left here = length text - here .place
 
-  stuck : Progress → Answer Book
+  stuck : ReadSoFar → Answer Book
   stuck here = refuse (Grammar (length (here .rules)))
 
-  along-rest : (n : ℕ) (here : Progress) (book : Book) → P (here .rules) → within left stuck (lines-step marks text) n here ≡ give book → P book
-  unfolding within stuck lines-step
+  along-rest : (n : ℕ) (here : ReadSoFar) (book : Book) → P (here .rules) → to-depth left stuck (lines-step marks text) n here ≡ give book → P book
+  unfolding to-depth stuck lines-step
   along-rest zero here book p e = gives-not-refuses e refl
   along-rest (suc n) here book p e = go (leb (length text) (here .place)) (λ on. along-rest n on book) e
     where
-      more : Progress → Answer Book
-      more on = within left stuck (lines-step marks text) n on
+      more : ReadSoFar → Answer Book
+      more on = to-depth left stuck (lines-step marks text) n on
 
-      go : (b : Bool) → ((on : Progress) → P (on .rules) → more on ≡ give book → P book)
+      go : (b : Bool) → ((on : ReadSoFar) → P (on .rules) → more on ≡ give book → P book)
           → pick b (λ _. give (here .rules)) (λ _. judge-line marks (here .rules) (line-at text (here .place)) then more) ≡ give book → P book
       go true rest f = subst P (give-one f) p
       go false rest f =

@@ -1,5 +1,5 @@
 -- What is known of a tower and a table that were read: they are fit. (The book: BookLines.)
-use Prim.Native.Nat.{ℕ, _-_}
+use Prim.Native.Nat.{ℕ}
 use mathlib.Core.Path.{_≡_, _∙_, ap, subst}
 use mathlib.Core.Bool.{true, _&&_, not}
 use mathlib.Core.List.{List}
@@ -9,7 +9,7 @@ use Rattle.base.specs.Answers.{give}
 use Rattle.base.proofs.Lists.{and-left, and-right, and-both}
 use Rattle.base.proofs.Answers.{if-gives, if-on}
 use Rattle.base.specs.declared.Refusal.the-variants.{TowerSize, Range, Action, Target, Mask, Layout}
-use Rattle.logic.specs.Tower.{Tower, tower-of, no-header, bad-counts, bad-size, bad-actions, bad-targets, bad-masks, FitTower}
+use Rattle.logic.specs.Tower.{Tower, tower-of, layout-of, no-header, bad-counts, bad-size, bad-actions, bad-targets, bad-masks, FitTower}
 use Rattle.logic.specs.Tables.{Table}
 use Rattle.logic.proofs.TowerFile.{TowerFits, fit-tower}
 use Rattle.reading.specs.TowerReading.{read-tower}
@@ -33,8 +33,8 @@ tower-read bytes tower e =
     (record { header = a; counts = b; size = c; actions = d; targets = f; masks = g }, give-one e6)
 
 -- So its numbers are in range, and whatever is enabled is one of its actions.
-pub tower-fits : (bytes : List ℕ) (tower : Tower) → read-tower bytes ≡ give tower → TowerFits tower
-tower-fits bytes tower e = let (fit, same) = tower-read bytes tower e in subst TowerFits same (fit-tower bytes fit)
+pub tower-fits : (bytes : List ℕ) (tower : Tower) → read-tower bytes ≡ give tower → TowerFits (layout-of bytes) tower
+tower-fits bytes tower e = let (fit, same) = tower-read bytes tower e in subst (TowerFits (layout-of bytes)) same (fit-tower bytes fit)
 
 -- ---- the table
 

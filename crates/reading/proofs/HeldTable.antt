@@ -1,9 +1,9 @@
 -- What the file of a table holds: every row and step of the table is read back where it was written.
 use Prim.Native.Nat.{ℕ, suc, _+_, _*_, _^_, _≤_, _<_}
 use native.Mathlib.Omega.{arith}
-use native.Mathlib.Nat.{add-zero}
+use native.Mathlib.Nat.{add-zero, mul-le-mul}
 use native.Mathlib.Numerals.{add-one}
-use mathlib.Core.Path.{_≡_, refl, sym, _∙_, ap}
+use mathlib.Core.Path.{_≡_, refl, sym, _∙_, ap, ap₂}
 use mathlib.Core.Bool.{true}
 use mathlib.Core.List.{List, [], _∷_, _++_, map, List·Memᴰ, List·Memᴰ·head, List·Memᴰ·tail, append-assoc, append-nil}
 use lib.ListN.{length, drop, length-append}
@@ -13,13 +13,15 @@ use Rattle.base.specs.Lists.{joined, count-from}
 use Rattle.base.specs.Bytes.{byte-at, number-at, number-bytes}
 use Rattle.base.proofs.Lists.{and-both}
 use Rattle.base.proofs.Bytes.{number-at-one, number-read, number-behind}
-use Rattle.logic.specs.Tower.{most-states, most-actions, state-width}
+use Rattle.logic.specs.declared.FileLayout.{FileLayout}
+use Rattle.logic.specs.Tower.{most-actions}
 use Rattle.logic.specs.Tables.{Step, Row, Table, Ascending}
 use Rattle.logic.specs.TableFile.{most-rows, rows-at, row-size, step-size, steps-at, all-steps, step-bytes, row-bytes, header-bytes, table-file}
+use Rattle.logic.proofs.Layouts.{IsLayout, layout-fits}
 use Rattle.logic.proofs.Canonical.{ascending-mem, ascending-rest, step-equal, row-equal}
 use Rattle.logic.proofs.TableFile.{Fits, RowFits, fits-row, row-few, fits-few-steps, all-steps-cons, length-all-steps, length-header, length-row-bytes}
-use Rattle.reading.specs.TableReading.{rows-of, steps-of, table-states, table-actions, row-place, row-state, row-count, row-first, step-place, step-action, step-target, steps-right, rows-right, laid-out, step-of, row-of-table}
-use Rattle.reading.proofs.TableHeader.{row-place-suc, step-place-suc, step-place-zero, HeaderFits, header-in}
+use Rattle.reading.specs.TableReading.{rows-of, steps-of, table-states, table-actions, table-layout, row-place, row-state, row-count, row-first, step-place, step-action, step-target, steps-right, rows-right, laid-out, step-of, row-of-table}
+use Rattle.reading.proofs.TableHeader.{row-place-zero, row-place-suc, step-place-suc, step-place-zero, HeaderFits, header-in}
 
 -- ---- what is written is read
 
@@ -94,51 +96,56 @@ steps-bytes-append (s ∷ xs) ys =
     ∙ sym (append-assoc (step-bytes s) (joined (map step-bytes xs)) (joined (map step-bytes ys)))
 
 -- A row's numbers fit their bytes.
-record RowSmall (first : ℕ) (row : Row) : Type 0 where
-  state : row .state < 256 ^ state-width
+record RowSmall (layout : FileLayout) (first : ℕ) (row : Row) : Type 0 where
+  state : row .state < 256 ^ layout .width
   count : length (row .steps) < 256
   begin : first < 65536
   steps : (s : Step) → List·Memᴰ s (row .steps) → StepFits s
 
 row-held : (bytes : List ℕ) (first r : ℕ) (row : Row) (rest more : List ℕ)
-    → drop (row-place r) bytes
-    ≡ number-bytes state-width (row .state) ++ (number-bytes 1 (length (row .steps)) ++ (number-bytes 2 first ++ rest))
-    → drop (step-place bytes first) bytes ≡ joined (map step-bytes (row .steps)) ++ more → RowSmall first row
-    → RowAt bytes first r row × (drop (row-place (suc r)) bytes ≡ rest)
+    → drop (row-place bytes r) bytes
+    ≡ number-bytes (table-layout bytes .width) (row .state) ++ (number-bytes 1 (length (row .steps)) ++ (number-bytes 2 first ++ rest))
+    → drop (step-place bytes first) bytes ≡ joined (map step-bytes (row .steps)) ++ more → RowSmall (table-layout bytes) first row
+    → RowAt bytes first r row × (drop (row-place bytes (suc r)) bytes ≡ rest)
     × (drop (step-place bytes (first + length (row .steps))) bytes ≡ more)
 unfolding row-state row-count row-first
 row-held bytes first r row rest more e g f = (
   record {
-    state = number-read state-width (row .state) bytes (number-bytes 1 (length (row .steps)) ++ (number-bytes 2 first ++ rest)) p e (f .state);
-    count = one-byte bytes (p + state-width) (length (row .steps)) (number-bytes 2 first ++ rest) second (f .count);
-    begin = number-read 2 first bytes rest (p + state-width + 1) third (f .begin);
+    state = number-read width (row .state) bytes (number-bytes 1 (length (row .steps)) ++ (number-bytes 2 first ++ rest)) p e (f .state);
+    count = one-byte bytes (p + width) (length (row .steps)) (number-bytes 2 first ++ rest) second (f .count);
+    begin = number-read 2 first bytes rest (p + width + 1) third (f .begin);
     steps = held .0;
   },
-  ap (λ q. drop q bytes) (row-place-suc r) ∙ number-behind 2 first bytes rest (p + state-width + 1) third,
+  ap (λ q. drop q bytes) (row-place-suc bytes r) ∙ number-behind 2 first bytes rest (p + width + 1) third,
   held .1,
 )
   where
     p : ℕ
-    p = row-place r
+    p = row-place bytes r
 
-    second : drop (p + state-width) bytes ≡ number-bytes 1 (length (row .steps)) ++ (number-bytes 2 first ++ rest)
-    second = number-behind state-width (row .state) bytes (number-bytes 1 (length (row .steps)) ++ (number-bytes 2 first ++ rest)) p e
+    width : ℕ
+    width = table-layout bytes .width
 
-    third : drop (p + state-width + 1) bytes ≡ number-bytes 2 first ++ rest
-    third = number-behind 1 (length (row .steps)) bytes (number-bytes 2 first ++ rest) (p + state-width) second
+    second : drop (p + width) bytes ≡ number-bytes 1 (length (row .steps)) ++ (number-bytes 2 first ++ rest)
+    second = number-behind width (row .state) bytes (number-bytes 1 (length (row .steps)) ++ (number-bytes 2 first ++ rest)) p e
+
+    third : drop (p + width + 1) bytes ≡ number-bytes 2 first ++ rest
+    third = number-behind 1 (length (row .steps)) bytes (number-bytes 2 first ++ rest) (p + width) second
 
     held : StepsAt bytes first (row .steps) × (drop (step-place bytes (first + length (row .steps))) bytes ≡ more)
     held = steps-held bytes first (row .steps) more g (f .steps)
 
 rows-held : (bytes : List ℕ) (first r : ℕ) (rows : List Row) (rest more : List ℕ)
-    → drop (row-place r) bytes ≡ row-bytes first rows ++ rest
+    → drop (row-place bytes r) bytes ≡ row-bytes (table-layout bytes) first rows ++ rest
     → drop (step-place bytes first) bytes ≡ joined (map step-bytes (all-steps rows)) ++ more
-    → ((row : Row) (k : ℕ) → k ≤ first + length (all-steps rows) → List·Memᴰ row rows → RowSmall k row) → RowsAt bytes first r rows
+    → ((row : Row) (k : ℕ) → k ≤ first + length (all-steps rows) → List·Memᴰ row rows → RowSmall (table-layout bytes) k row)
+    → RowsAt bytes first r rows
 unfolding RowsAt row-bytes
 rows-held bytes first r [] rest more e g f = tt
 rows-held bytes first r (row ∷ rows) rest more e g f =
     let (here, next-row, next-step) =
-    row-held bytes first r row (row-bytes (first + length (row .steps)) rows ++ rest) (joined (map step-bytes (all-steps rows)) ++ more)
+    row-held bytes first r row (row-bytes (table-layout bytes) (first + length (row .steps)) rows ++ rest)
+    (joined (map step-bytes (all-steps rows)) ++ more)
     (e ∙ simp append-assoc)
     (g ∙ ap (λ l. joined (map step-bytes l) ++ more) (all-steps-cons row rows)
     ∙ ap (λ l. l ++ more) (steps-bytes-append (row .steps) (all-steps rows))
@@ -213,85 +220,112 @@ held-rows-right bytes first r (row ∷ rows) (h, hs) f e =
 -- ---- the file of a table
 
 -- What the file of a table holds.
-pub record FileHolds (states actions : ℕ) (table : Table) (bytes : List ℕ) : Type 0 where
+pub record FileHolds (layout : FileLayout) (states actions : ℕ) (table : Table) (bytes : List ℕ) : Type 0 where
+  pub laid : table-layout bytes ≡ layout
   pub rows : rows-of bytes ≡ length table
   pub steps : steps-of bytes ≡ length (all-steps table)
   pub rows-begin : number-at 2 bytes 4 ≡ rows-at
-  pub steps-begin : number-at 2 bytes 6 ≡ steps-at (length table)
+  pub steps-begin : number-at 2 bytes 6 ≡ steps-at layout (length table)
   pub for-states : table-states bytes ≡ states
   pub for-actions : table-actions bytes ≡ actions
   pub held : RowsAt bytes 0 0 table
 
-row-small : (states actions rows first : ℕ) (row : Row) → RowFits states actions rows row → states ≤ most-states → actions ≤ most-actions
-    → rows ≤ most-rows → first ≤ 16000 → RowSmall first row
-unfolding most-states most-actions most-rows state-width
-row-small states actions rows first row f a b c le =
+-- The layout of a table's file is the one that it was written in.
+file-layout : (layout : FileLayout) (states actions : ℕ) (table : Table) → Fits layout states actions table
+    → table-layout (table-file layout states actions table) ≡ layout
+unfolding table-layout
+file-layout layout states actions table f = sym (f .laid .known)
+
+row-small : (layout : FileLayout) (states actions rows first : ℕ) (row : Row) → IsLayout layout → RowFits states actions rows row
+    → states ≤ layout .most → actions ≤ most-actions → rows ≤ most-rows → first ≤ 16000 → RowSmall layout first row
+unfolding most-actions most-rows
+row-small layout states actions rows first row is f a b c le =
     record {
-      state = omega (arith, f .state);
+      state = omega (arith, f .state, layout-fits is .states-written);
       count = omega (arith, row-few states actions rows row f);
       begin = omega arith;
       steps = λ s k. record { action = omega (arith, f .action s k); target = omega (arith, f .target s k) };
     }
 
-file-rows-behind : (states actions : ℕ) (table : Table)
-    → drop (row-place 0) (table-file states actions table) ≡ row-bytes 0 table ++ joined (map step-bytes (all-steps table))
-unfolding table-file header-bytes joined number-bytes row-place rows-at row-size state-width
-file-rows-behind states actions table = refl
+file-rows-behind : (layout : FileLayout) (states actions : ℕ) (table : Table)
+    → drop rows-at (table-file layout states actions table) ≡ row-bytes layout 0 table ++ joined (map step-bytes (all-steps table))
+unfolding table-file header-bytes joined number-bytes rows-at
+file-rows-behind layout states actions table = refl
 
-file-steps-behind : (states actions : ℕ) (table : Table)
-    → drop (steps-at (length table)) (table-file states actions table) ≡ joined (map step-bytes (all-steps table)) ++ []
+file-steps-behind : (layout : FileLayout) (states actions : ℕ) (table : Table)
+    → drop (steps-at layout (length table)) (table-file layout states actions table) ≡ joined (map step-bytes (all-steps table)) ++ []
 unfolding table-file steps-at
-file-steps-behind states actions table =
-    ap (drop (steps-at (length table))) (sym (append-assoc header (row-bytes 0 table) steps))
-    ∙ drop-at (header ++ row-bytes 0 table) steps (steps-at (length table)) (simp (length-append, length-header, length-row-bytes))
+file-steps-behind layout states actions table =
+    ap (drop (steps-at layout (length table))) (sym (append-assoc header (row-bytes layout 0 table) steps))
+    ∙ drop-at (header ++ row-bytes layout 0 table) steps (steps-at layout (length table)) (simp (length-append, length-header, length-row-bytes))
     ∙ sym (append-nil steps)
   where
     header : List ℕ
-    header = header-bytes (length table) (length (all-steps table)) states actions
+    header = header-bytes layout (length table) (length (all-steps table)) states actions
 
     steps : List ℕ
     steps = joined (map step-bytes (all-steps table))
 
 -- The file says how many rows there are.
-pub file-rows : (states actions : ℕ) (table : Table) → length table ≤ most-rows → rows-of (table-file states actions table) ≡ length table
+pub file-rows : (layout : FileLayout) (states actions : ℕ) (table : Table) → length table ≤ most-rows
+    → rows-of (table-file layout states actions table) ≡ length table
 unfolding table-file header-bytes joined number-bytes number-at most-rows
-file-rows states actions table le = omega arith
+file-rows layout states actions table le = omega arith
 
 -- The file holds the rows.
-pub file-held : (states actions : ℕ) (table : Table) → Fits states actions table → RowsAt (table-file states actions table) 0 0 table
-file-held states actions table f =
-    rows-held (table-file states actions table) 0 0 table (joined (map step-bytes (all-steps table))) []
-    (file-rows-behind states actions table) (ap (λ p. drop p (table-file states actions table)) place ∙ file-steps-behind states actions table)
+pub file-held : (layout : FileLayout) (states actions : ℕ) (table : Table) → Fits layout states actions table
+    → RowsAt (table-file layout states actions table) 0 0 table
+file-held layout states actions table f =
+    rows-held file 0 0 table (joined (map step-bytes (all-steps table))) []
+    (ap (λ p. drop p file) (row-place-zero file) ∙ file-rows-behind layout states actions table
+    ∙ ap (λ l. row-bytes l 0 table ++ joined (map step-bytes (all-steps table))) (sym laid))
+    (ap (λ p. drop p file) place ∙ file-steps-behind layout states actions table)
     (λ row k le i.
-    row-small states actions (length table) k row (fits-row states actions table f row i) (f .few-states) (f .few-actions) (f .few-rows)
-    (omega (arith, fits-few-steps states actions table f)))
+    rw laid (row-small layout states actions (length table) k row (f .laid) (fits-row layout states actions table f row i) (f .few-states)
+    (f .few-actions) (f .few-rows) (omega (arith, fits-few-steps layout states actions table f))))
   where
-    place : step-place (table-file states actions table) 0 ≡ steps-at (length table)
-    place = step-place-zero (table-file states actions table) ∙ ap steps-at (file-rows states actions table (f .few-rows))
+    file : List ℕ
+    file = table-file layout states actions table
+
+    laid : table-layout file ≡ layout
+    laid = file-layout layout states actions table f
+
+    place : step-place file 0 ≡ steps-at layout (length table)
+    place = step-place-zero file ∙ ap₂ steps-at laid (file-rows layout states actions table (f .few-rows))
+
+-- The place of the steps is a number of two bytes.
+steps-place-small : (layout : FileLayout) (rows : ℕ) → IsLayout layout → rows ≤ most-rows → steps-at layout rows ≤ 5012
+unfolding steps-at rows-at row-size most-rows
+steps-place-small layout rows is le =
+    let size : layout .width + 3 ≤ 5 = omega (arith, layout-fits is .few-bytes) in
+    let all : (layout .width + 3) * rows ≤ 5 * 1000 = mul-le-mul size le in
+    omega arith
 
 -- The file of a table that fits holds it.
-pub file-holds : (states actions : ℕ) (table : Table) → Fits states actions table
-    → FileHolds states actions table (table-file states actions table)
-unfolding table-file header-bytes joined number-bytes number-at most-rows most-states most-actions steps-at rows-at row-size state-width
-file-holds states actions table f =
+pub file-holds : (layout : FileLayout) (states actions : ℕ) (table : Table) → Fits layout states actions table
+    → FileHolds layout states actions table (table-file layout states actions table)
+unfolding table-file header-bytes joined number-bytes number-at most-actions rows-at
+file-holds layout states actions table f =
     record {
-      rows = file-rows states actions table (f .few-rows);
-      steps = omega (arith, fits-few-steps states actions table f);
+      laid = file-layout layout states actions table f;
+      rows = file-rows layout states actions table (f .few-rows);
+      steps = omega (arith, fits-few-steps layout states actions table f);
       rows-begin = refl;
-      steps-begin = omega (arith, f .few-rows);
-      for-states = omega (arith, f .few-states);
+      steps-begin = omega (arith, steps-place-small layout (length table) (f .laid) (f .few-rows));
+      for-states = omega (arith, f .few-states, layout-fits (f .laid) .few-states);
       for-actions = omega (arith, f .few-actions);
-      held = file-held states actions table f;
+      held = file-held layout states actions table f;
     }
 
 -- Bytes that hold a table that fits, and nothing behind it, are laid out.
-pub held-laid-out : (states actions : ℕ) (table : Table) (bytes : List ℕ) → Fits states actions table → FileHolds states actions table bytes
-    → length bytes ≡ steps-at (length table) + step-size * length (all-steps table) → laid-out bytes ≡ true
+pub held-laid-out : (layout : FileLayout) (states actions : ℕ) (table : Table) (bytes : List ℕ) → Fits layout states actions table
+    → FileHolds layout states actions table bytes
+    → length bytes ≡ steps-at layout (length table) + step-size * length (all-steps table) → laid-out bytes ≡ true
 unfolding laid-out
-held-laid-out states actions table bytes f h e =
+held-laid-out layout states actions table bytes f h e =
     and-both (header-in bytes header)
     (rw (h .rows) (held-rows-right bytes 0 0 table (h .held) (λ row i.
-    rw (h .for-states, h .for-actions, h .rows) (fits-row states actions table f row i)) (rw (h .steps) (omega arith))))
+    rw (h .for-states, h .for-actions, h .rows) (fits-row layout states actions table f row i)) (rw (h .steps) (omega arith))))
   where
     header : HeaderFits bytes
     header =
@@ -300,10 +334,10 @@ held-laid-out states actions table bytes f h e =
           a-row = rw (h .rows) (f .is-table .some-row);
           few-rows = rw (h .rows) (f .few-rows);
           rows-begin = h .rows-begin;
-          steps-begin = rw (h .rows) (h .steps-begin);
+          steps-begin = rw (h .laid, h .rows) (h .steps-begin);
           a-state = rw (h .for-states) (f .a-state);
-          few-states = rw (h .for-states) (f .few-states);
+          few-states = rw (h .for-states, h .laid) (f .few-states);
           an-action = rw (h .for-actions) (f .an-action);
           few-actions = rw (h .for-actions) (f .few-actions);
-          size = unfold step-place in rw (h .rows, h .steps) e;
+          size = unfold step-place in rw (h .laid, h .rows, h .steps) e;
         }

@@ -15,12 +15,11 @@ use Rattle.base.specs.Lists.{joined, below, count-from}
 use Rattle.base.specs.Bytes.{byte-at, number-at, number-bytes}
 use Rattle.base.proofs.Lists.{and-left, and-right, length-count-from, length-below, getD-below}
 use Rattle.base.proofs.Bytes.{AllBytes, number-at-one, number-written}
-use Rattle.logic.specs.Tower.{state-width}
 use Rattle.logic.specs.Tables.{Step, Row, row-at, Ascending}
-use Rattle.logic.specs.TableFile.{rows-at, row-size, step-size, steps-at, all-steps, step-bytes, row-bytes, header-bytes}
+use Rattle.logic.specs.TableFile.{rows-at, step-size, steps-at, all-steps, step-bytes, row-bytes, header-bytes}
 use Rattle.logic.proofs.TableFile.{RowFits}
-use Rattle.reading.specs.TableReading.{rows-of, steps-of, table-states, table-actions, row-place, row-state, row-count, row-first, step-place, step-action, step-target, header-right, steps-right, rows-right, laid-out, step-of, row-of-table, table-of}
-use Rattle.reading.proofs.TableHeader.{row-place-suc, step-place-suc, step-place-zero, four, HeaderFits, header-out}
+use Rattle.reading.specs.TableReading.{rows-of, steps-of, table-states, table-actions, table-layout, row-place, row-state, row-count, row-first, step-place, step-action, step-target, header-right, steps-right, rows-right, laid-out, step-of, row-of-table, table-of}
+use Rattle.reading.proofs.TableHeader.{row-place-zero, row-place-suc, row-place-grows, step-place-suc, step-place-zero, four, HeaderFits, header-out}
 
 -- ---- laid out bytes
 
@@ -209,40 +208,43 @@ steps-written bytes i (suc n) all le =
     ∙ rw place (sym (append-assoc (step-bytes (step-of bytes i)) (joined (map step-bytes (steps-from bytes (suc i) n)))
     (drop (step-place bytes (suc i + n)) bytes)))
 
-row-written : (bytes : List ℕ) (r : ℕ) → AllBytes bytes → row-place (suc r) ≤ length bytes
-    → drop (row-place r) bytes
-    ≡ number-bytes state-width (row-state bytes r)
-    ++ (number-bytes 1 (row-count bytes r) ++ (number-bytes 2 (row-first bytes r) ++ drop (row-place (suc r)) bytes))
+row-written : (bytes : List ℕ) (r : ℕ) → AllBytes bytes → row-place bytes (suc r) ≤ length bytes
+    → drop (row-place bytes r) bytes
+    ≡ number-bytes (table-layout bytes .width) (row-state bytes r)
+    ++ (number-bytes 1 (row-count bytes r) ++ (number-bytes 2 (row-first bytes r) ++ drop (row-place bytes (suc r)) bytes))
 unfolding row-state row-count row-first
 row-written bytes r all le =
-    let p = row-place r in
-    let place = row-place-suc r in
-    number-written state-width bytes p all (omega arith)
-    ∙ ap (λ l. number-bytes state-width (row-state bytes r) ++ l)
-    (byte-written bytes (p + state-width) all (omega arith)
+    let p = row-place bytes r in
+    let width = table-layout bytes .width in
+    let place = row-place-suc bytes r in
+    number-written width bytes p all (omega arith)
+    ∙ ap (λ l. number-bytes width (row-state bytes r) ++ l)
+    (byte-written bytes (p + width) all (omega arith)
     ∙ ap (λ l. number-bytes 1 (row-count bytes r) ++ l)
-    (rw place (number-written 2 bytes (p + state-width + 1) all (omega arith))))
+    (rw place (number-written 2 bytes (p + width + 1) all (omega arith))))
 
 length-row-steps : (bytes : List ℕ) (r : ℕ) → length (row-of-table bytes r .steps) ≡ row-count bytes r
 unfolding row-of-table
 length-row-steps bytes r = length-steps-from bytes (row-first bytes r) (row-count bytes r)
 
-rows-written : (bytes : List ℕ) (first r n : ℕ) → AllBytes bytes → rows-right bytes first r n ≡ true → row-place (r + n) ≤ length bytes
-    → drop (row-place r) bytes ≡ row-bytes first (rows-from bytes r n) ++ drop (row-place (r + n)) bytes
+rows-written : (bytes : List ℕ) (first r n : ℕ) → AllBytes bytes → rows-right bytes first r n ≡ true → row-place bytes (r + n) ≤ length bytes
+    → drop (row-place bytes r) bytes ≡ row-bytes (table-layout bytes) first (rows-from bytes r n) ++ drop (row-place bytes (r + n)) bytes
 unfolding row-bytes count-from row-of-table
 rows-written bytes first r zero all h le = rw (add-zero r)
 rows-written bytes first r (suc n) all h le =
     let right = rows-right-out bytes first r n h in
     let place : r + suc n ≡ suc r + n = omega arith in
     let rest = rows-written bytes (first + row-count bytes r) (suc r) n all (right .more) (rw place at le) in
-    let here = row-written bytes r all (unfold row-place row-size in omega arith) in
+    let here = row-written bytes r all (omega (arith, row-place-grows bytes (suc r) (r + suc n) (omega arith))) in
     let count = length-row-steps bytes r in
     rw (count, place) (here ∙ rw (right .begin, rest) (simp append-assoc))
 
 -- Bytes with a header that fits begin with that header.
 pub header-written : (bytes : List ℕ) → AllBytes bytes → HeaderFits bytes
-    → bytes ≡ header-bytes (rows-of bytes) (steps-of bytes) (table-states bytes) (table-actions bytes) ++ drop (row-place 0) bytes
-unfolding header-bytes joined row-place row-size state-width rows-at
+    → bytes
+    ≡ header-bytes (table-layout bytes) (rows-of bytes) (steps-of bytes) (table-states bytes) (table-actions bytes)
+    ++ drop (row-place bytes 0) bytes
+unfolding header-bytes joined rows-at
 header-written bytes all h =
     number-written 2 bytes 0 all (omega (arith, h .whole))
     ∙ ap (λ l. number-bytes 2 (rows-of bytes) ++ l) (number-written 2 bytes 2 all (omega (arith, h .whole))
@@ -250,11 +252,11 @@ header-written bytes all h =
     ∙ ap (λ l. number-bytes 2 (number-at 2 bytes 4) ++ l) (number-written 2 bytes 6 all (omega (arith, h .whole))
     ∙ ap (λ l. number-bytes 2 (number-at 2 bytes 6) ++ l) (number-written 2 bytes 8 all (omega (arith, h .whole))
     ∙ ap (λ l. number-bytes 2 (table-states bytes) ++ l) (number-written 2 bytes 10 all (omega (arith, h .whole)))))))
-    ∙ rw (h .rows-begin, h .steps-begin) (simp (append-assoc, append-nil))
+    ∙ rw (h .rows-begin, h .steps-begin, row-place-zero bytes) (simp (append-assoc, append-nil))
 
 -- behind the rows come the steps, and nothing behind them
 steps-behind-rows : (bytes : List ℕ) → AllBytes bytes → laid-out bytes ≡ true
-    → drop (row-place (rows-of bytes)) bytes ≡ joined (map step-bytes (all-steps (table-of bytes)))
+    → drop (row-place bytes (rows-of bytes)) bytes ≡ joined (map step-bytes (all-steps (table-of bytes)))
 unfolding row-place steps-at below
 steps-behind-rows bytes all h =
     ap (λ p. drop p bytes) (sym (step-place-zero bytes)) ∙ steps-written bytes 0 (steps-of bytes) all size
@@ -265,17 +267,17 @@ steps-behind-rows bytes all h =
     size = rw (zero-add (steps-of bytes)) (omega (arith, laid-out-header bytes h .size))
 
 -- the rows are inside
-rows-inside : (bytes : List ℕ) → HeaderFits bytes → row-place (0 + rows-of bytes) ≤ length bytes
+rows-inside : (bytes : List ℕ) → HeaderFits bytes → row-place bytes (0 + rows-of bytes) ≤ length bytes
 unfolding row-place step-place steps-at
 rows-inside bytes h = rw (zero-add (rows-of bytes)) (omega (arith, h .size))
 
 -- Behind the header of laid out bytes come the rows and the steps of their table.
 pub rows-then-steps : (bytes : List ℕ) → AllBytes bytes → laid-out bytes ≡ true
-    → drop (row-place 0) bytes ≡ row-bytes 0 (table-of bytes) ++ joined (map step-bytes (all-steps (table-of bytes)))
+    → drop (row-place bytes 0) bytes ≡ row-bytes (table-layout bytes) 0 (table-of bytes) ++ joined (map step-bytes (all-steps (table-of bytes)))
 unfolding table-of below
 rows-then-steps bytes all h =
     rows-written bytes 0 0 (rows-of bytes) all (laid-out-rows bytes h) (rows-inside bytes (laid-out-header bytes h))
-    ∙ rw (zero-add (rows-of bytes)) (ap (λ l. row-bytes 0 (table-of bytes) ++ l) (steps-behind-rows bytes all h))
+    ∙ rw (zero-add (rows-of bytes)) (ap (λ l. row-bytes (table-layout bytes) 0 (table-of bytes) ++ l) (steps-behind-rows bytes all h))
 
 -- The table that laid out bytes hold has as many steps as the header says.
 pub length-laid-out-steps : (bytes : List ℕ) → laid-out bytes ≡ true → length (all-steps (table-of bytes)) ≡ steps-of bytes

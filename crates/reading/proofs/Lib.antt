@@ -4,3 +4,13 @@ pub mod HeldTable
 pub mod LaidOut
 pub mod FitInput
 pub mod BookLines
+pub mod TextPlaces
+pub mod FormulaBack
+pub mod BookBack
+pub mod SpelledTokens
+pub mod SpelledFormulas
+pub mod SpelledLines
+pub mod Spelled
+pub mod ReadBack
+pub mod BookRight
+pub mod ReadBackInstances

@@ -4,7 +4,7 @@ use mathlib.Core.Path.{_≡_}
 use mathlib.Core.List.{List, [], _∷_, _++_}
 use lib.ListN.{length, take, drop}
 use Rattle.base.specs.Choice.{pick}
-use Rattle.logic.specs.Book.{Comparison, no-more, less, no-less, more, Formula, constant, proposition, and, or, next, always, until, timed, size, nodes, root, first-part, second-part, Form, at-start, everywhere, Book}
+use Rattle.logic.specs.Book.{Comparison, no-more, less, no-less, more, Formula, constant, proposition, and, or, next, always-for, until, timed, size, nodes, root, first-part, second-part, Form, at-start, everywhere, Book}
 
 -- bytes of a node and of a line, and where the lines begin
 unfoldable pub node-size : ℕ
@@ -30,7 +30,7 @@ node-code (and f g) = 4
 -- 5 where the first side is the timed one, so that the second is tested first
 node-code (or f g) = pick (timed f) (λ _. 5) (λ _. 6)
 node-code (next c t g) = comparison-code c
-node-code (always t g) = 11
+node-code (always-for t g) = 11
 node-code (until t f g) = 12
 
 -- its bound, or the number of its mark
@@ -40,7 +40,7 @@ node-number (proposition w k) = k
 node-number (and f g) = 0
 node-number (or f g) = 0
 node-number (next c t g) = t .0
-node-number (always t g) = t .0
+node-number (always-for t g) = t .0
 node-number (until t f g) = t .0
 
 -- the numbers of its parts, if it is node k; 0 where there is none
@@ -50,7 +50,7 @@ node-first k (proposition w m) = 0
 node-first k (and f g) = first-part k g
 node-first k (or f g) = first-part k g
 node-first k (next c t g) = 0
-node-first k (always t g) = 0
+node-first k (always-for t g) = 0
 node-first k (until t f g) = first-part k g
 
 unfoldable pub node-second : ℕ → Formula → ℕ
@@ -59,7 +59,7 @@ node-second k (proposition w m) = 0
 node-second k (and f g) = second-part k
 node-second k (or f g) = second-part k
 node-second k (next c t g) = second-part k
-node-second k (always t g) = second-part k
+node-second k (always-for t g) = second-part k
 node-second k (until t f g) = second-part k
 
 -- the four bytes of node k

@@ -11,7 +11,7 @@ use Rattle.base.specs.Text.{byte, ascii}
 use Rattle.base.specs.Recursion.{run}
 use Rattle.base.specs.Answers.{Answer, refuse, give, _if_else_, _then_}
 use Rattle.base.specs.declared.Refusal.the-variants.{Grammar, Number, Mark, Limit, Timed}
-use Rattle.logic.specs.Book.{Formula, constant, proposition, and, or, next, always, until, timed-right, size, nodes, Form, at-start, everywhere, Rule, Book}
+use Rattle.logic.specs.Book.{Formula, constant, proposition, and, or, next, always-for, until, timed-right, size, nodes, Form, at-start, everywhere, Rule, Book}
 use Rattle.reading.specs.Tokens.{stands, skip}
 use Rattle.reading.specs.Grammar.{Parsed, bad, got, formula-at}
 
@@ -56,7 +56,7 @@ over-number (proposition w k) = false
 over-number (and f g) = over-number f || over-number g
 over-number (or f g) = over-number f || over-number g
 over-number (next c t g) = ltb most-ticks (t .0) || over-number g
-over-number (always t g) = ltb most-ticks (t .0) || over-number g
+over-number (always-for t g) = ltb most-ticks (t .0) || over-number g
 over-number (until t f g) = ltb most-ticks (t .0) || (over-number f || over-number g)
 
 -- 8: a mark at or above P
@@ -66,7 +66,7 @@ over-mark marks (proposition w k) = leb marks k
 over-mark marks (and f g) = over-mark marks f || over-mark marks g
 over-mark marks (or f g) = over-mark marks f || over-mark marks g
 over-mark marks (next c t g) = over-mark marks g
-over-mark marks (always t g) = over-mark marks g
+over-mark marks (always-for t g) = over-mark marks g
 over-mark marks (until t f g) = over-mark marks f || over-mark marks g
 
 -- 9: with this line over 60 nodes in the book, or over 16 open brackets in it
@@ -74,12 +74,12 @@ unfoldable pub over-limit : Book → Formula → ℕ → Bool
 over-limit before f brackets = ltb most-nodes (length (nodes before) + size f) || ltb most-brackets brackets
 
 -- How far the reading of a book has come: the rules read so far, and the position of the next line.
-pub record Progress : Type 0 where
+pub record ReadSoFar : Type 0 where
   pub rules : Book
   pub place : ℕ
 
 -- a line in number order: 6, 7, 8, 9, 10, its number as place; or how far the reading has come with it
-unfoldable pub judge-line : ℕ → Book → Line → Answer Progress
+unfoldable pub judge-line : ℕ → Book → Line → Answer ReadSoFar
 judge-line marks before no-line = refuse (Grammar (length before))
 judge-line marks before (line form f brackets p) =
     Number (length before) if over-number f else
@@ -89,7 +89,7 @@ judge-line marks before (line form f brackets p) =
     give (record { rules = before ++ (record { form = form; formula = f } ∷ []); place = p })
 
 -- the lines from here on, one after the other, to the end of the text
-unfoldable pub lines-step : ℕ → List ℕ → Progress → (Progress → Answer Book) → Answer Book
+unfoldable pub lines-step : ℕ → List ℕ → ReadSoFar → (ReadSoFar → Answer Book) → Answer Book
 lines-step marks s here more =
     pick (leb (length s) (here .place))
     (λ _. give (here .rules))

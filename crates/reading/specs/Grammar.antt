@@ -10,7 +10,7 @@ use Rattle.base.specs.Text.{byte}
 use Rattle.base.specs.Bytes.{byte-at}
 use Rattle.base.specs.Recursion.{run}
 use Rattle.logic.specs.Time.{ticks}
-use Rattle.logic.specs.Book.{Comparison, no-more, Formula, constant, and, or, next, always, until, within}
+use Rattle.logic.specs.Book.{Comparison, no-more, Formula, constant, and, or, next, always-for, until, within}
 use Rattle.logic.specs.declared.Tick.{Tick}
 use Rattle.reading.specs.Tokens.{stands, skip, Token, number-token, mark-token, comparison-token}
 
@@ -92,7 +92,7 @@ unfoldable pub formula-one : ℕ → BoundRead → Formula → Formula
 formula-one letter b g =
     pick (eqb letter (byte "N"))
     (λ _. next (b .comparison) (b .amount) g)
-    (λ _. pick (eqb letter (byte "A")) (λ _. always (b .amount) g) (λ _. within (b .amount) g))
+    (λ _. pick (eqb letter (byte "A")) (λ _. always-for (b .amount) g) (λ _. within (b .amount) g))
 
 unfoldable pub formula-two : BoundRead → Formula → Formula → Formula
 formula-two b f g = until (b .amount) f g

@@ -4,3 +4,5 @@ pub mod Grammar
 pub mod BookReading
 pub mod BookArea
 pub mod TableReading
+pub mod Spelling
+pub mod RightBook

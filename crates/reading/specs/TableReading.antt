@@ -8,7 +8,8 @@ use Rattle.base.specs.Lists.{below, count-from}
 use Rattle.base.specs.Bytes.{byte-at, number-at}
 use Rattle.base.specs.Answers.{Answer, give, _if_else_}
 use Rattle.base.specs.declared.Refusal.the-variants.{Layout}
-use Rattle.logic.specs.Tower.{Tower, most-states, most-actions, in-range, state-width}
+use Rattle.logic.specs.declared.FileLayout.{FileLayout}
+use Rattle.logic.specs.Tower.{Tower, most-actions, in-range, narrow}
 use Rattle.logic.specs.Tables.{Step, Row, Table}
 use Rattle.logic.specs.TableFile.{most-rows, rows-at, row-size, step-size, steps-at}
 
@@ -26,24 +27,28 @@ table-states bytes = number-at 2 bytes 8
 abbrev pub table-actions : List ℕ → ℕ
 table-actions bytes = number-at 2 bytes 10
 
+-- the layout of a table file: here every file has the same
+unfoldable pub table-layout : List ℕ → FileLayout
+table-layout bytes = narrow
+
 -- ---- row r: its state, step count and first step
 
-unfoldable pub row-place : ℕ → ℕ
-row-place r = rows-at + row-size * r
+unfoldable pub row-place : List ℕ → ℕ → ℕ
+row-place bytes r = rows-at + row-size (table-layout bytes) * r
 
 unfoldable pub row-state : List ℕ → ℕ → ℕ
-row-state bytes r = number-at state-width bytes (row-place r)
+row-state bytes r = number-at (table-layout bytes .width) bytes (row-place bytes r)
 
 unfoldable pub row-count : List ℕ → ℕ → ℕ
-row-count bytes r = byte-at bytes (row-place r + state-width)
+row-count bytes r = byte-at bytes (row-place bytes r + table-layout bytes .width)
 
 unfoldable pub row-first : List ℕ → ℕ → ℕ
-row-first bytes r = number-at 2 bytes (row-place r + state-width + 1)
+row-first bytes r = number-at 2 bytes (row-place bytes r + table-layout bytes .width + 1)
 
 -- ---- step i, counted from 0 over all steps: its action and target row
 
 unfoldable pub step-place : List ℕ → ℕ → ℕ
-step-place bytes i = steps-at (rows-of bytes) + step-size * i
+step-place bytes i = steps-at (table-layout bytes) (rows-of bytes) + step-size * i
 
 unfoldable pub step-action : List ℕ → ℕ → ℕ
 step-action bytes i = byte-at bytes (step-place bytes i)
@@ -59,8 +64,8 @@ header-right bytes =
     leb rows-at (length bytes)
     && in-range most-rows (rows-of bytes)
     && eqb (number-at 2 bytes 4) rows-at
-    && eqb (number-at 2 bytes 6) (steps-at (rows-of bytes))
-    && in-range most-states (table-states bytes)
+    && eqb (number-at 2 bytes 6) (steps-at (table-layout bytes) (rows-of bytes))
+    && in-range (table-layout bytes .most) (table-states bytes)
     && in-range most-actions (table-actions bytes)
     && eqb (length bytes) (step-place bytes (steps-of bytes))
 

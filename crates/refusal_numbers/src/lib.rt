@@ -91,7 +91,7 @@ pub fn row(reason: Reason) -> usize
     match reason {
         Reason::Start => 0,
         Reason::Withheld(row) => row,
-        Reason::Step(row) => row,
+        Reason::WrongStep(row) => row,
         Reason::Stopped(row) => row,
         Reason::Broken => 0,
     }
@@ -104,7 +104,7 @@ pub fn reason_letter(reason: Reason) -> u8
     match reason {
         Reason::Start => b'a',
         Reason::Withheld(_) => b'b',
-        Reason::Step(_) => b'c',
+        Reason::WrongStep(_) => b'c',
         Reason::Stopped(_) => b'd',
         Reason::Broken => b'e',
     }

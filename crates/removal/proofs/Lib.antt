@@ -1,5 +1,5 @@
 pub mod FinePairs
-mod Holding
+mod Flags
 mod Moves
 mod Scans
 mod Turns

@@ -1,333 +1,471 @@
--- The passes over the pairs: what each turn leaves in the flags.
-use Prim.Native.Nat.{ℕ, zero, suc, _+_, _-_, _≤_, _<_}
+-- Removal under way: what a visit of a pair leaves, each pair once, the predecessors of one pair, and the worklist to its end.
+use Prim.Native.Nat.{ℕ, _+_, _-_, _*_, _/_, _≤_, _<_}
 use native.Mathlib.Omega.{arith}
-use native.Mathlib.Decide.{ℕ-discrete, decLt}
+use native.Mathlib.Decide.{ℕ-discrete}
 use mathlib.Core.Path.{_≡_, refl, sym, _∙_, ap, subst}
-use mathlib.Core.Bool.{Bool, true, false}
+use mathlib.Core.Bool.{Bool, true, false, _&&_, not}
 use mathlib.Core.List.{List}
-use lib.ListN.{length, getD, set, length-set}
-use lib.Seq.{getD-set-same, getD-set-other}
-use borrow.Author.Tests.{ne-eqb}
-use Rattle.base.specs.Choice.{pick}
-use Rattle.base.specs.Lists.{total}
-use Rattle.base.specs.Bytes.{byte-at}
-use Rattle.logic.specs.Tower.{Tower, FitTower, tower-of}
-use Rattle.pair_graph.specs.Steps.{HoldsGraph, kept-in}
-use Rattle.removal.specs.Removal.{fine-at, has-to-go, Ready, Judged, Visited, HoldsAll, SameBeyond, Passed, AllKept, Removed}
-use Rattle.removal.proofs.Holding.{kept-other, kept-one, one-kept, total-clear, goer-kept, stayer-fine, goer-holds, largest}
+use lib.ListN.{length, set, length-set}
+use lib.Seq.{getD-set-other}
+use borrow.Author.Tests.{not-true}
+use Rattle.base.specs.Bytes.{number-at}
+use Rattle.base.proofs.Lists.{never-both, and-left, and-right, true-by}
+use Rattle.logic.specs.Tower.{Tower, tower-of}
+use Rattle.chains.specs.Chains.{head-in, link-in}
+use Rattle.chains.proofs.Walks.{Walking, walk-node, walk-start, walk-first, walk-on, walk-falls, walk-ahead}
+use Rattle.pair_graph.specs.Graph.{to}
+use Rattle.pair_graph.specs.Steps.{move-at, graph-of, safe-in, HoldsGraph}
+use Rattle.pair_graph.specs.Predecessors.{CellTo, Listed}
+use Rattle.pair_graph.proofs.Lists.{cell-in, SameLists, listed-same}
+use Rattle.removal.specs.Removal.{fine-at, RemovalInput, PairInput, live-in, count, Worklist, HoldsAll, Removing, none-ahead}
+use Rattle.removal.specs.Removal.{from, CellAhead, AllSafe, Pushed, has-to-go, Visited, Worked, Removed}
+use Rattle.removal.proofs.FinePairs.{fine-out, fine-in, fine-along, fine-more}
+use Rattle.removal.proofs.Flags.{count-most, safe-live, room-for, pushed-safe, pushed-not-safe, pushed-live, pushed-count, pushed-list}
+use Rattle.removal.proofs.Flags.{taken-there, taken-safe, taken-live, taken-count, taken-list}
 
--- ---- The flags behind the pairs
+-- ---- what is given
 
--- what is as it was stays so
-same-beyond : (n : ℕ) (flags : List ℕ) → SameBeyond n flags flags
-same-beyond n flags = record { same = λ i l. refl }
-
--- a flag of a pair is none of them
-set-beyond : (n : ℕ) (flags old : List ℕ) (i v : ℕ) → i < n → SameBeyond n old flags → SameBeyond n old (set flags i v)
-set-beyond n flags old i v l h = record { same = λ k m. getD-set-other flags i k v 0 (λ e. omega arith) ∙ h .same k m }
-
--- what stays twice stays
-beyond-beyond : {n : ℕ} {flags middle exit : List ℕ} → SameBeyond n flags middle → SameBeyond n middle exit → SameBeyond n flags exit
-beyond-beyond h k = record { same = λ i l. k .same i l ∙ h .same i l }
-
--- ---- Keeping all
-
--- The pairs below i are kept.
-pub record Keeping (n : ℕ) (old flags : List ℕ) (i : ℕ) : Type 0 where
-  pub kept : (k : ℕ) → k < i → kept-in flags k ≡ true
-  pub beyond : SameBeyond n old flags
-  pub long : length flags ≡ length old
-  pub at-most : i ≤ n
-
-pub keeping-start : (n : ℕ) (flags : List ℕ) → Keeping n flags flags 0
-keeping-start n flags = record { kept = λ k l. absurd (omega arith); beyond = same-beyond n flags; long = refl; at-most = omega arith }
-
-pub keeping-more : (n : ℕ) (old flags : List ℕ) (i : ℕ) → n ≤ length old → Keeping n old flags i → i < n
-    → Keeping n old (set flags i 1) (i + 1)
-keeping-more n old flags i room h l =
+-- A pair of what is ready can be judged.
+pub ready-judged : (tower : List ℕ) (n : ℕ) (graph area : List ℕ) (i : ℕ) → RemovalInput tower n graph area → i < n → PairInput tower n graph area i
+ready-judged tower n graph area i given l =
     record {
-      kept = kept;
-      beyond = set-beyond n flags old i 1 l (h .beyond);
-      long = length-set flags i 1 ∙ h .long;
-      at-most = omega arith;
-    }
-  where
-    kept : (k : ℕ) → k < i + 1 → kept-in (set flags i 1) k ≡ true
-    kept k m =
-        elim (ℕ-discrete k i) [
-          | yes same ↦ one-kept (set flags i 1) k
-              (subst (λ (x : ℕ). byte-at (set flags i 1) x ≡ 1) (sym same) (getD-set-same flags i 1 0 (omega (arith, h .long))))
-          | no differs ↦ kept-other flags i k 1 differs (h .kept k (omega arith))
-        ]
-
-pub keeping-end : (n : ℕ) (old flags : List ℕ) (i : ℕ) → Keeping n old flags i → n ≤ i → AllKept n old flags
-keeping-end n old flags i h l = record { kept = λ k m. h .kept k (omega arith); beyond = h .beyond }
-
--- ---- One pair
-
--- It is not kept.
-pub not-kept : (tower : Tower) (steps : List ℕ) (i : ℕ) (flags : List ℕ) → (getD flags i 0 ≡ 1 → ⊥)
-    → Visited false tower steps i flags flags
-unfolding has-to-go kept-in
-not-kept tower steps i flags h =
-    record { answer = (let e = ne-eqb (getD flags i 0) 1 h in rw e); flags-left = refl }
-
--- It is kept and fine.
-pub kept-fine : (tower : Tower) (steps : List ℕ) (i : ℕ) (flags : List ℕ) (r : Bool) → getD flags i 0 ≡ 1
-    → r ≡ fine-at tower steps (kept-in flags) i → r ≡ true → Visited false tower steps i flags flags
-unfolding has-to-go
-kept-fine tower steps i flags r h e f =
-    let k = one-kept flags i h in
-    let g : fine-at tower steps (kept-in flags) i ≡ true = sym e ∙ f in
-    record { answer = rw (k, g); flags-left = refl }
-
--- It is kept and not fine.
-pub kept-not-fine : (tower : Tower) (steps : List ℕ) (i : ℕ) (flags : List ℕ) (r : Bool) → getD flags i 0 ≡ 1
-    → r ≡ fine-at tower steps (kept-in flags) i → r ≡ false → Visited true tower steps i flags (set flags i 0)
-unfolding has-to-go
-kept-not-fine tower steps i flags r h e f =
-    let k = one-kept flags i h in
-    let g : fine-at tower steps (kept-in flags) i ≡ false = sym e ∙ f in
-    record { answer = rw (k, g); flags-left = refl }
-
--- ---- One pass
-
--- A pass has cleared so many flags up to now, only of pairs that had to go.
-pub record Cleared (tower : Tower) (n : ℕ) (steps old flags : List ℕ) (gone : ℕ) : Type 0 where
-  pub holds : HoldsAll tower n steps old → HoldsAll tower n steps flags
-  pub beyond : SameBeyond n old flags
-  pub counted : total flags + gone ≡ total old
-
--- at first none
-none-cleared : (tower : Tower) (n : ℕ) (steps flags : List ℕ) → Cleared tower n steps flags flags 0
-none-cleared tower n steps flags = record { holds = λ h. h; beyond = same-beyond n flags; counted = omega arith }
-
--- one more
-one-cleared : {tower : Tower} {n : ℕ} {steps : List ℕ} {old : List ℕ} (flags : List ℕ) {gone : ℕ} (i : ℕ) → HoldsGraph tower n steps
-    → Cleared tower n steps old flags gone → i < n → has-to-go tower steps flags i ≡ true
-    → Cleared tower n steps old (set flags i 0) (gone + 1)
-one-cleared {tower} {n} {steps} {old} flags i graph h l goes =
-    record {
-      holds = λ all. goer-holds tower n steps flags i graph l goes (h .holds all);
-      beyond = set-beyond n flags old i 0 l (h .beyond);
-      counted = omega (arith, h .counted, total-clear flags i, kept-one flags i (goer-kept tower steps flags i goes));
-    }
-
--- the flags that a visit left
-left-as : {r : Bool} {tower : Tower} {steps flags exit : List ℕ} {i : ℕ} (b : Bool) → Visited r tower steps i flags exit → r ≡ b
-    → exit ≡ pick b (λ _. set flags i 0) (λ _. flags)
-left-as {flags = flags} {i = i} b v e = v .flags-left ∙ ap (λ (c : Bool). pick c (λ _. set flags i 0) (λ _. flags)) e
-
--- pair i is one of those given
-judged : {tower : List ℕ} {n : ℕ} {steps old : List ℕ} (flags : List ℕ) (i : ℕ) → Ready tower n steps old → length flags ≡ length old
-    → i < n → Judged tower steps flags i
-judged {n = n} flags i given long l =
-    record {
-      pairs = n;
-      ready = record { fit = given .fit; graph = given .graph; flags-there = omega (arith, given .flags-there, long) };
+      fit = given .fit;
+      flagged = record { graph = given .held; flagged = omega (arith, given .held .pairs-most, given .room) };
       there = l;
     }
 
--- ---- A pass down
+-- There is room on the worklist for a safe pair.
+pub ready-room : (tower : List ℕ) (n : ℕ) (graph area : List ℕ) (i height : ℕ) (r : Bool) → RemovalInput tower n graph area
+    → Worklist n area height → i < n → r ≡ safe-in area i → r ≡ true → height < 1000
+ready-room tower n graph area i height r given w l e f = room-for n area i height (given .held .pairs-most) w l (sym e ∙ f)
 
--- The pairs from i on have been looked at, and so many had to go.
-pub record Passing (tower : Tower) (n : ℕ) (steps old flags : List ℕ) (gone i : ℕ) : Type 0 where
-  pub cleared : Cleared tower n steps old flags gone
-  pub long : length flags ≡ length old
-  pub at-most : gone + i ≤ n
-  pub rest-fine : gone ≡ 0 → (k : ℕ) → i ≤ k → k < n → kept-in flags k ≡ true → fine-at tower steps (kept-in flags) k ≡ true
+-- ---- pairs that have to go
 
--- At first none has.
-pub passing-start : (tower : Tower) (n : ℕ) (steps flags : List ℕ) → Passing tower n steps flags flags 0 n
-passing-start tower n steps flags =
+module _ (tower : Tower) (graph area : List ℕ) (i : ℕ) where
+  -- A pair that has to go is safe so far,
+  pub goer-safe : has-to-go tower graph area i ≡ true → safe-in area i ≡ true
+  unfolding has-to-go
+  goer-safe e = and-left (safe-in area i) (not (fine-at tower graph (safe-in area) i)) e
+
+  -- and not fine among the safe.
+  goer-not-fine : has-to-go tower graph area i ≡ true → fine-at tower graph (safe-in area) i ≡ false
+  unfolding has-to-go
+  goer-not-fine e =
+      not-true (fine-at tower graph (safe-in area) i) (and-right (safe-in area i) (not (fine-at tower graph (safe-in area) i)) e)
+
+  -- A safe pair that does not have to go is fine among the safe.
+  stayer-fine : has-to-go tower graph area i ≡ false → safe-in area i ≡ true → fine-at tower graph (safe-in area) i ≡ true
+  unfolding has-to-go
+  stayer-fine e safe = go (safe-in area i) (fine-at tower graph (safe-in area) i) e safe
+    where
+      go : (k f : Bool) → (k && not f) ≡ false → k ≡ true → f ≡ true
+      go true true e k = refl
+      go true false e k = never-both refl e
+      go false f e k = never-both k refl
+
+  -- ---- a visit
+
+  -- The pair stays.
+  stays-so : (height : ℕ) → has-to-go tower graph area i ≡ false → Visited tower graph i height area area height
+  stays-so height e =
+      record {
+        goes = false;
+        answer = sym e;
+        same = λ _. refl;
+        entries-same = λ _. refl;
+        pushed = λ z. never-both z refl;
+        one-more = λ z. never-both z refl;
+      }
+
+  -- It is not safe.
+  pub visit-removed : (r : Bool) (height : ℕ) → r ≡ safe-in area i → r ≡ false → Visited tower graph i height area area height
+  unfolding has-to-go
+  visit-removed r height e f = let h : safe-in area i ≡ false = sym e ∙ f in stays-so height (rw h)
+
+  module _ (r q : Bool) (height : ℕ) (is-r : r ≡ safe-in area i) (safe : r ≡ true) (is-q : q ≡ fine-at tower graph (safe-in area) i) where
+    -- It is safe and fine.
+    pub visit-fine : q ≡ true → Visited tower graph i height area area height
+    unfolding has-to-go
+    visit-fine f =
+        let h : safe-in area i ≡ true = sym is-r ∙ safe in
+        let g : fine-at tower graph (safe-in area) i ≡ true = sym is-q ∙ f in
+        stays-so height (rw (h, g))
+
+    -- It is safe and not fine.
+    pub visit-pushed : (after : List ℕ) → q ≡ false → Pushed i height area after → Visited tower graph i height area after (height + 1)
+    unfolding has-to-go
+    visit-pushed after f p =
+        let h : safe-in area i ≡ true = sym is-r ∙ safe in
+        let g : fine-at tower graph (safe-in area) i ≡ false = sym is-q ∙ f in
+        record {
+          goes = true;
+          answer = rw (h, g);
+          same = λ z. never-both refl z;
+          entries-same = λ z. never-both refl z;
+          pushed = λ _. p;
+          one-more = λ _. refl;
+        }
+
+-- ---- what a visit keeps
+
+module _ (tower : Tower) (n : ℕ) (graph : List ℕ) (i height : ℕ) (area after : List ℕ) (held : HoldsGraph n (tower .actions) graph)
+    (l : i < n) where
+  -- Whatever is fine among itself stays safe where a pair goes that has to go.
+  goer-holds : has-to-go tower graph area i ≡ true → Pushed i height area after → HoldsAll tower n graph area → HoldsAll tower n graph after
+  goer-holds goes p holds = record { all = all }
+    where
+      all : (other : ℕ → Bool) → ((k : ℕ) → k < n → other k ≡ true → fine-at tower graph other k ≡ true) → (k : ℕ) → k < n
+          → other k ≡ true → safe-in after k ≡ true
+      all other fine k m e =
+          elim (ℕ-discrete k i) [
+            | yes same ↦ never-both
+                (fine-more tower n graph other (safe-in area) i held l (holds .all other fine)
+                (fine i l (subst (λ x. other x ≡ true) same e)))
+                (goer-not-fine tower graph area i goes)
+            | no differs ↦ pushed-safe n i height area after (held .pairs-most) l p k m differs ∙ holds .all other fine k m e
+          ]
+
+  lists-pushed : Pushed i height area after → SameLists area after
+  lists-pushed p = record { same = λ q from below. p .before q below (λ e. omega (arith, held .pairs-most)) }
+
+  module _ (Ahead Later : ℕ → Type 0) (closer : (k : ℕ) → (k ≡ i → ⊥) → Ahead k → Later k) (s : Removing tower n graph Ahead area height) where
+    -- A pair that stays is behind.
+    stay : has-to-go tower graph area i ≡ false → Removing tower n graph Later area height
+    stay stays = record { listed = s .listed; worklist = s .worklist; holds = s .holds; fine = fine }
+      where
+        fine : (k : ℕ) → k < n → safe-in area k ≡ true → (Later k → ⊥) → fine-at tower graph (live-in area) k ≡ true
+        fine k m safe behind =
+            elim (ℕ-discrete k i) [
+              | yes same ↦ fine-along tower graph (safe-in area) (live-in area) k (λ a j o t. safe-live area j)
+                  (stayer-fine tower graph area k (subst (λ x. has-to-go tower graph area x ≡ false) (sym same) stays) safe)
+              | no other ↦ s .fine k m safe (λ ahead. behind (closer k other ahead))
+            ]
+
+    -- So is one that goes.
+    go : has-to-go tower graph area i ≡ true → Pushed i height area after → Removing tower n graph Later after (height + 1)
+    go goes p =
+        let most = held .pairs-most in
+        let safe = goer-safe tower graph area i goes in
+        record {
+          listed = listed-same n (tower .actions) graph area after most (lists-pushed p) (s .listed);
+          worklist = pushed-list n i height area after most l p safe (s .worklist);
+          holds = goer-holds goes p (s .holds);
+          fine = fine;
+        }
+      where
+        fine : (k : ℕ) → k < n → safe-in after k ≡ true → (Later k → ⊥) → fine-at tower graph (live-in after) k ≡ true
+        fine k m safe behind =
+            elim (ℕ-discrete k i) [
+              | yes same ↦ never-both safe
+                  (subst (λ x. safe-in after x ≡ false) (sym same) (pushed-not-safe n i height area after (held .pairs-most) l p))
+              | no other ↦ fine-more tower n graph (live-in area) (live-in after) k held m
+                  (λ j o live. pushed-live n i height area after (held .pairs-most) l p (goer-safe tower graph area i goes) j o ∙ live)
+                  (s .fine k m (sym (pushed-safe n i height area after (held .pairs-most) l p k m other) ∙ safe)
+                  (λ ahead. behind (closer k other ahead)))
+            ]
+
+    -- So is one that was looked at, whether it stays or goes.
+    visited : (r : ℕ) → Visited tower graph i height area after r → Removing tower n graph Later after r
+    visited r v = ways (v .goes) refl
+      where
+        ways : (b : Bool) → v .goes ≡ b → Removing tower n graph Later after r
+        ways true e =
+            subst (Removing tower n graph Later after) (sym (v .one-more e)) (go (sym (v .answer) ∙ e) (v .pushed e))
+        ways false e =
+            subst (λ z. Removing tower n graph Later z r) (sym (v .same e))
+            (subst (Removing tower n graph Later area) (sym (v .entries-same e)) (stay (sym (v .answer) ∙ e)))
+
+  -- There is not more to do than before.
+  visited-less : (r : ℕ) → Visited tower graph i height area after r → count (safe-in after) n + r ≤ count (safe-in area) n + height
+  visited-less r v = ways (v .goes) refl
+    where
+      ways : (b : Bool) → v .goes ≡ b → count (safe-in after) n + r ≤ count (safe-in area) n + height
+      ways true e =
+          omega (
+            arith,
+            v .one-more e,
+            pushed-count n i height area after (held .pairs-most) l (v .pushed e) (goer-safe tower graph area i (sym (v .answer) ∙ e)),
+          )
+      ways false e =
+          subst (λ z. count (safe-in z) n + r ≤ count (safe-in area) n + height) (sym (v .same e)) (omega (arith, v .entries-same e))
+
+-- ---- each pair once
+
+-- What is ready stays so.
+ready-after : {tower : List ℕ} {n : ℕ} {graph : List ℕ} (old area : List ℕ) → RemovalInput tower n graph old → length area ≡ length old
+    → RemovalInput tower n graph area
+ready-after old area given long = record { fit = given .fit; held = given .held; room = omega (arith, given .room, long) }
+
+-- The graph is one with the number of actions that was read.
+pub graph-read : (tower : List ℕ) (n m : ℕ) (graph : List ℕ) → m ≡ tower-of tower .actions → HoldsGraph n (tower-of tower .actions) graph
+    → HoldsGraph n m graph
+graph-read tower n m graph e held = rw e held
+
+-- Where all pairs are safe, removal begins.
+pub begun : (tower : Tower) (n m : ℕ) (graph area after : List ℕ) → m ≡ tower .actions → HoldsGraph n (tower .actions) graph
+    → Listed n m graph (16 * n) area → AllSafe n area after → Removing tower n graph (from 0) after 0
+unfolding from
+begun tower n m graph area after read held listed-so h =
+    let listed : Listed n (tower .actions) graph (16 * n) area = subst (λ x. Listed n x graph (16 * n) area) read listed-so in
     record {
-      cleared = none-cleared tower n steps flags;
-      long = refl;
-      at-most = omega arith;
-      rest-fine = λ e k l m. absurd (omega arith);
+      listed =
+          listed-same n (tower .actions) graph area after (held .pairs-most)
+          (record { same = λ p l m. h .behind p (omega (arith, held .pairs-most)) }) listed;
+      worklist =
+          record {
+            pairs = λ k l. absurd (omega arith);
+            removed = λ k l. absurd (omega arith);
+            waiting = λ i l live e. never-both (h .safe i l) e;
+            room = omega (arith, count-most (safe-in after) n);
+          };
+      holds = record { all = λ other fine i l e. h .safe i l };
+      fine = λ i l e none. absurd (none (omega arith));
     }
 
--- The next pair is one of those given. Some number is below i, so that there is one.
-pub passing-judged : (tower : List ℕ) (n : ℕ) (steps old flags : List ℕ) (gone i m : ℕ) → Ready tower n steps old
-    → Passing (tower-of tower) n steps old flags gone i → m < i → Judged tower steps flags (i - 1)
-passing-judged tower n steps old flags gone i m given h l = judged flags (i - 1) given (h .long) (omega (arith, h .at-most))
+-- The pairs below i have been looked at.
+pub record Scanning (tower : Tower) (n : ℕ) (graph old : List ℕ) (i : ℕ) (area : List ℕ) (height : ℕ) : Type 0 where
+  pub state : Removing tower n graph (from i) area height
+  pub long : length area ≡ length old
 
--- The next pair had to go.
-pub passing-gone : (tower : List ℕ) (n : ℕ) (steps first old flags exit : List ℕ) (gone i m : ℕ) (r : Bool) → Ready tower n steps first
-    → Passing (tower-of tower) n steps old flags gone i → m < i → Visited r (tower-of tower) steps (i - 1) flags exit → r ≡ true
-    → Passing (tower-of tower) n steps old exit (gone + 1) (i - 1)
-passing-gone tower n steps first old flags exit gone i m r given h l v e =
-    subst (λ (z : List ℕ). Passing (tower-of tower) n steps old z (gone + 1) (i - 1)) (sym (left-as true v e))
-    record {
-      cleared = one-cleared flags (i - 1) (given .graph) (h .cleared) (omega (arith, h .at-most)) (sym (v .answer) ∙ e);
-      long = length-set flags (i - 1) 0 ∙ h .long;
-      at-most = omega (arith, h .at-most);
-      rest-fine = λ e. absurd (omega arith);
-    }
+pub scan-start : (tower : Tower) (n : ℕ) (graph area : List ℕ) → Removing tower n graph (from 0) area 0 → Scanning tower n graph area 0 area 0
+scan-start tower n graph area s = record { state = s; long = refl }
 
--- a pair that stays
-stays-same : (tower : Tower) (n : ℕ) (steps old flags : List ℕ) (gone i : ℕ) → Passing tower n steps old flags gone i
-    → has-to-go tower steps flags (i - 1) ≡ false → Passing tower n steps old flags gone (i - 1)
-stays-same tower n steps old flags gone i h stays =
-    record { cleared = h .cleared; long = h .long; at-most = omega (arith, h .at-most); rest-fine = fine }
-  where
-    fine : gone ≡ 0 → (k : ℕ) → i - 1 ≤ k → k < n → kept-in flags k ≡ true → fine-at tower steps (kept-in flags) k ≡ true
-    fine e k m o kept =
-        elim (decLt k i) [
-          | yes below ↦ (let same : i - 1 ≡ k = omega arith in
-              stayer-fine tower steps flags k (subst (λ (x : ℕ). has-to-go tower steps flags x ≡ false) same stays) kept)
-          | no above ↦ h .rest-fine e k (omega arith) o kept
-        ]
+module _ (tower : List ℕ) (n : ℕ) (graph old : List ℕ) (i : ℕ) (area : List ℕ) (height : ℕ) (given : RemovalInput tower n graph old)
+    (h : Scanning (tower-of tower) n graph old i area height) where
+  pub scan-ready : RemovalInput tower n graph area
+  scan-ready = ready-after old area given (h .long)
 
--- The next pair stays.
-pub passing-stays : (tower : Tower) (n : ℕ) (steps old flags exit : List ℕ) (gone i : ℕ) (r : Bool)
-    → Passing tower n steps old flags gone i → Visited r tower steps (i - 1) flags exit → r ≡ false
-    → Passing tower n steps old exit gone (i - 1)
-passing-stays tower n steps old flags exit gone i r h v e =
-    subst (λ (z : List ℕ). Passing tower n steps old z gone (i - 1)) (sym (left-as false v e))
-    (stays-same tower n steps old flags gone i h (sym (v .answer) ∙ e))
+  -- One more has.
+  pub scan-more : (after : List ℕ) (r : ℕ) → i < n → Visited (tower-of tower) graph i height area after r → length after ≡ length area
+      → Scanning (tower-of tower) n graph old (i + 1) after r
+  unfolding from
+  scan-more after r l v long =
+      record {
+        state =
+            visited (tower-of tower) n graph i height area after (given .held) l (from i) (from (i + 1))
+            (λ k other ahead. omega (arith, other)) (h .state) r v;
+        long = long ∙ h .long;
+      }
 
 -- All have been looked at.
-pub passing-end : (tower : Tower) (n : ℕ) (steps old flags : List ℕ) (gone i : ℕ) → Passing tower n steps old flags gone i → i ≤ 0
-    → Passed gone tower n steps old flags
-passing-end tower n steps old flags gone i h l =
+pub scan-end : (tower : Tower) (n : ℕ) (graph old : List ℕ) (i : ℕ) (area : List ℕ) (height : ℕ) → Scanning tower n graph old i area height
+    → n ≤ i → Removing tower n graph none-ahead area height
+unfolding from
+scan-end tower n graph old i area height h l =
     record {
-      holds = h .cleared .holds;
-      beyond = h .cleared .beyond;
-      counted = h .cleared .counted;
-      all-fine = λ e k m. h .rest-fine e k (omega arith) m;
+      listed = h .state .listed;
+      worklist = h .state .worklist;
+      holds = h .state .holds;
+      fine = λ k m safe none. h .state .fine k m safe (λ ahead. omega arith);
     }
 
--- ---- A pass up
+-- ---- the predecessors of a pair
 
--- The pairs below i have been looked at, and so many had to go.
-pub record Rising (tower : Tower) (n : ℕ) (steps old flags : List ℕ) (gone i : ℕ) : Type 0 where
-  pub cleared : Cleared tower n steps old flags gone
-  pub long : length flags ≡ length old
-  pub gone-most : gone ≤ i
-  pub at-most : i ≤ n
-  pub below-fine : gone ≡ 0 → (k : ℕ) → k < i → kept-in flags k ≡ true → fine-at tower steps (kept-in flags) k ≡ true
+-- The walk through the list of pair j has come to cell `at`, with at most so much to do.
+pub record Following (tower : Tower) (n : ℕ) (graph : List ℕ) (j most : ℕ) (old : List ℕ) (at : ℕ) (area : List ℕ) (height : ℕ) : Type 0 where
+  pub state : Removing tower n graph (CellAhead (tower .actions) graph j at) area height
+  pub walk : Walking (CellTo (tower .actions) graph) n (16 * n) j at
+  pub less : count (safe-in area) n + height ≤ most
+  pub long : length area ≡ length old
 
--- At first none has.
-pub rising-start : (tower : Tower) (n : ℕ) (steps flags : List ℕ) → Rising tower n steps flags flags 0 0
-rising-start tower n steps flags =
+-- It begins at the head.
+pub follow-start : (tower : Tower) (n : ℕ) (graph : List ℕ) (j at : ℕ) (area : List ℕ) (height : ℕ) → at ≡ head-in 1000 area j → j < n
+    → Removing tower n graph (CellAhead (tower .actions) graph j (head-in 1000 area j)) area height
+    → Following tower n graph j (count (safe-in area) n + height) area at area height
+follow-start tower n graph j at area height e l s =
     record {
-      cleared = none-cleared tower n steps flags;
+      state = subst (λ x. Removing tower n graph (CellAhead (tower .actions) graph j x) area height) (sym e) s;
+      walk =
+          walk-start (CellTo (tower .actions) graph) n (head-in 1000 area) (link-in 3000 area) (16 * n) j (s .listed .chained) l at e;
+      less = omega arith;
       long = refl;
-      gone-most = omega arith;
-      at-most = omega arith;
-      below-fine = λ e k l. absurd (omega arith);
     }
 
--- The next pair is one of those given.
-pub rising-judged : (tower : List ℕ) (n : ℕ) (steps old flags : List ℕ) (gone i : ℕ) → Ready tower n steps old
-    → Rising (tower-of tower) n steps old flags gone i → i < n → Judged tower steps flags i
-rising-judged tower n steps old flags gone i given h l = judged flags i given (h .long) l
+module _ (tower : List ℕ) (n : ℕ) (graph : List ℕ) (j most : ℕ) (old : List ℕ) (at : ℕ) (area : List ℕ) (height : ℕ)
+    (given : RemovalInput tower n graph old) (h : Following (tower-of tower) n graph j most old at area height) where
+  pub follow-ready : RemovalInput tower n graph area
+  follow-ready = ready-after old area given (h .long)
 
--- It had to go.
-pub rising-gone : (tower : List ℕ) (n : ℕ) (steps first old flags exit : List ℕ) (gone i : ℕ) (r : Bool) → Ready tower n steps first
-    → Rising (tower-of tower) n steps old flags gone i → i < n → Visited r (tower-of tower) steps i flags exit → r ≡ true
-    → Rising (tower-of tower) n steps old exit (gone + 1) (i + 1)
-rising-gone tower n steps first old flags exit gone i r given h l v e =
-    subst (λ (z : List ℕ). Rising (tower-of tower) n steps old z (gone + 1) (i + 1)) (sym (left-as true v e))
+  -- The next cell is one of the graph's,
+  pub follow-cell : 0 < at → at - 1 < 16 * 1000
+  follow-cell l = omega (arith, walk-node (CellTo (tower-of tower .actions) graph) n (16 * n) j at (h .walk) l .there, given .held .pairs-most)
+
+  -- and its pair one of the pairs.
+  pub follow-pair : (i : ℕ) → 0 < at → i ≡ (at - 1) / 16 → i < n
+  follow-pair i l e = omega (arith, walk-node (CellTo (tower-of tower .actions) graph) n (16 * n) j at (h .walk) l .there)
+
+  module _ (next : ℕ) (l : 0 < at) (k : j < n) (to-next : next ≡ link-in 3000 area (at - 1)) where
+    -- The walk comes closer to its end.
+    pub follow-falls : next < at
+    follow-falls =
+        walk-falls (CellTo (tower-of tower .actions) graph) n (head-in 1000 area) (link-in 3000 area) (16 * n) j (h .state .listed .chained) k
+        at next (h .walk) l to-next
+
+    onward : Walking (CellTo (tower-of tower .actions) graph) n (16 * n) j next
+    onward =
+        walk-on (CellTo (tower-of tower .actions) graph) n (head-in 1000 area) (link-in 3000 area) (16 * n) j (h .state .listed .chained) k
+        at next (h .walk) l to-next
+
+    -- The pair of the cell was looked at.
+    pub follow-more : (i : ℕ) (after : List ℕ) (r : ℕ) → i ≡ (at - 1) / 16 → Visited (tower-of tower) graph i height area after r
+        → length after ≡ length area → Following (tower-of tower) n graph j most old next after r
+    follow-more i after r is-i v long =
+        record {
+          state =
+              visited (tower-of tower) n graph i height area after (given .held) (follow-pair i l is-i)
+              (CellAhead (tower-of tower .actions) graph j at) (CellAhead (tower-of tower .actions) graph j next) nearer (h .state) r v;
+          walk = onward;
+          less =
+              omega (
+                arith,
+                visited-less (tower-of tower) n graph i height area after (given .held) (follow-pair i l is-i) r v,
+                h .less,
+              );
+          long = long ∙ h .long;
+        }
+      where
+        -- A cell that is ahead is this one or still ahead.
+        nearer : (x : ℕ) → (x ≡ i → ⊥) → CellAhead (tower-of tower .actions) graph j at x
+            → CellAhead (tower-of tower .actions) graph j next x
+        nearer x other ahead =
+            record {
+              action = ahead .action;
+              listed = ahead .listed;
+              below =
+                  walk-ahead (CellTo (tower-of tower .actions) graph) n (head-in 1000 area) (link-in 3000 area) (16 * n) j
+                  (h .state .listed .chained) k at next (h .walk) l to-next (16 * x + ahead .action)
+                  (cell-in graph (tower-of tower .actions) x (ahead .action) j (given .held .actions-most) (ahead .listed) (ahead .leads))
+                  (ahead .below)
+                  (λ e. other (omega (arith, ahead .listed, given .held .actions-most)));
+              leads = ahead .leads;
+            }
+
+-- At the end no pair is ahead.
+pub follow-end : (tower : Tower) (n : ℕ) (graph : List ℕ) (j most : ℕ) (old : List ℕ) (at : ℕ) (area : List ℕ) (height : ℕ)
+    → Following tower n graph j most old at area height → at ≤ 0 → Worked tower n graph most area height
+follow-end tower n graph j most old at area height h l =
     record {
-      cleared = one-cleared flags i (given .graph) (h .cleared) l (sym (v .answer) ∙ e);
-      long = length-set flags i 0 ∙ h .long;
-      gone-most = omega (arith, h .gone-most);
-      at-most = omega arith;
-      below-fine = λ e. absurd (omega arith);
+      state =
+          record {
+            listed = h .state .listed;
+            worklist = h .state .worklist;
+            holds = h .state .holds;
+            fine = λ k m safe none. h .state .fine k m safe (λ ahead. omega (arith, ahead .below));
+          };
+      less = h .less;
     }
 
--- a pair that stays
-stays-below : (tower : Tower) (n : ℕ) (steps old flags : List ℕ) (gone i : ℕ) → Rising tower n steps old flags gone i → i < n
-    → has-to-go tower steps flags i ≡ false → Rising tower n steps old flags gone (i + 1)
-stays-below tower n steps old flags gone i h l stays =
+-- ---- the worklist
+
+-- What is ready stays so when a flag is written.
+pub take-ready : (tower : List ℕ) (n : ℕ) (graph area : List ℕ) (j v : ℕ) → RemovalInput tower n graph area → RemovalInput tower n graph (set area j v)
+take-ready tower n graph area j v given = ready-after area (set area j v) given (length-set area j v)
+
+module _ (tower : List ℕ) (n : ℕ) (graph area : List ℕ) (height j : ℕ) (given : RemovalInput tower n graph area)
+    (s : Removing (tower-of tower) n graph none-ahead area height) (some : 0 < height)
+    (is-j : j ≡ number-at 2 area (35000 + 2 * (height - 1))) where
+  -- The pair on top is one of the pairs.
+  pub take-there : j < n
+  take-there = taken-there n height area j (s .worklist) some is-j
+
+  -- It has a flag.
+  pub take-flag : j < length area
+  take-flag = omega (arith, take-there, given .held .pairs-most, given .room)
+
+  lists-taken : SameLists area (set area j 0)
+  lists-taken = record { same = λ p l m. getD-set-other area j p 0 0 (λ e. omega (arith, take-there, given .held .pairs-most)) }
+
+  still-listed : Listed n (tower-of tower .actions) graph (16 * n) (set area j 0)
+  still-listed = listed-same n (tower-of tower .actions) graph area (set area j 0) (given .held .pairs-most) lists-taken (s .listed)
+
+  -- Once it is gone, the pairs with a move to it are ahead.
+  pub take-removing : Removing (tower-of tower) n graph (CellAhead (tower-of tower .actions) graph j (head-in 1000 (set area j 0) j))
+      (set area j 0) (height - 1)
+  unfolding none-ahead
+  take-removing =
+      record {
+        listed = still-listed;
+        worklist = taken-list n height area j (s .worklist) some is-j (given .held .pairs-most) (given .room);
+        holds =
+            record {
+              all = λ other fine k m e.
+                  taken-safe n height area j (s .worklist) some is-j (given .held .pairs-most) (given .room) k ∙ s .holds .all other fine k m e;
+            };
+        fine = fine;
+      }
+    where
+      fine : (k : ℕ) → k < n → safe-in (set area j 0) k ≡ true
+          → (CellAhead (tower-of tower .actions) graph j (head-in 1000 (set area j 0) j) k → ⊥)
+          → fine-at (tower-of tower) graph (live-in (set area j 0)) k ≡ true
+      fine k m safe none =
+          fine-along (tower-of tower) graph (live-in area) (live-in (set area j 0)) k along
+          (s .fine k m (sym (taken-safe n height area j (s .worklist) some is-j (given .held .pairs-most) (given .room) k) ∙ safe) (λ z. z))
+        where
+          along : (a x : ℕ) → a < tower-of tower .actions → move-at graph k a ≡ to x → live-in area x ≡ true
+              → live-in (set area j 0) x ≡ true
+          along a x o t live =
+              elim (ℕ-discrete x j) [
+                | yes same ↦ absurd (none (record {
+                  action = a;
+                  listed = o;
+                  below =
+                      walk-first (CellTo (tower-of tower .actions) graph) n (head-in 1000 (set area j 0)) (link-in 3000 (set area j 0))
+                      (16 * n) j (still-listed .chained) take-there (head-in 1000 (set area j 0) j) refl (16 * k + a)
+                      (omega (arith, given .held .actions-most))
+                      (cell-in graph (tower-of tower .actions) k a j (given .held .actions-most) o (t ∙ ap to same));
+                  leads = t ∙ ap to same;
+                }))
+                | no other ↦ taken-live n height area j (s .worklist) some is-j (given .held .pairs-most) (given .room) x other ∙ live
+              ]
+
+  -- As many pairs are safe as before.
+  pub take-worked : (after : List ℕ) (r : ℕ)
+      → Worked (tower-of tower) n graph (count (safe-in (set area j 0)) n + (height - 1)) after r
+      → Worked (tower-of tower) n graph (count (safe-in area) n + (height - 1)) after r
+  take-worked after r w =
+      record {
+        state = w .state;
+        less =
+            omega (arith, w .less, taken-count n height area j (s .worklist) some is-j (given .held .pairs-most) (given .room));
+      }
+
+-- The worklist has come to this height.
+pub record Working (tower : Tower) (n : ℕ) (graph old area : List ℕ) (height : ℕ) : Type 0 where
+  pub state : Removing tower n graph none-ahead area height
+  pub long : length area ≡ length old
+
+pub work-start : (tower : Tower) (n : ℕ) (graph area : List ℕ) (height : ℕ) → Removing tower n graph none-ahead area height
+    → Working tower n graph area area height
+work-start tower n graph area height s = record { state = s; long = refl }
+
+pub work-ready : (tower : List ℕ) (n : ℕ) (graph old area : List ℕ) (height : ℕ) → RemovalInput tower n graph old
+    → Working (tower-of tower) n graph old area height → RemovalInput tower n graph area
+work-ready tower n graph old area height given h = ready-after old area given (h .long)
+
+module _ (tower : Tower) (n : ℕ) (graph area after : List ℕ) (height r : ℕ)
+    (w : Worked tower n graph (count (safe-in area) n + (height - 1)) after r) where
+  -- There is less to do, where some number is below the height,
+  pub work-less : (m : ℕ) → m < height → count (safe-in after) n + r < count (safe-in area) n + height
+  work-less m l = omega (arith, w .less)
+
+  -- and it goes on.
+  pub work-more : (old : List ℕ) → Working tower n graph old area height → length after ≡ length area → Working tower n graph old after r
+  work-more old h long = record { state = w .state; long = long ∙ h .long }
+
+-- With nothing on the worklist just the safe pairs are live: they are the largest set of pairs that are fine among themselves.
+pub work-end : (tower : List ℕ) (n : ℕ) (graph old area : List ℕ) (height : ℕ) → RemovalInput tower n graph old
+    → Working (tower-of tower) n graph old area height → height ≤ 0 → Removed (tower-of tower) n graph area
+unfolding graph-of none-ahead
+work-end tower n graph old area height given h l =
     record {
-      cleared = h .cleared;
-      long = h .long;
-      gone-most = omega (arith, h .gone-most);
-      at-most = omega arith;
-      below-fine = fine;
+      largest =
+          record {
+            fine = λ i m safe. fine-out (tower-of tower) n graph (safe-in area) i
+                (fine-more (tower-of tower) n graph (live-in area) (safe-in area) i (given .held) m live-safe (h .state .fine i m safe (λ z. z)));
+            holds-all = λ other fine. h .state .holds .all other (λ i m e. fine-in (tower-of tower) n graph other i (fine i m e));
+          };
     }
   where
-    fine : gone ≡ 0 → (k : ℕ) → k < i + 1 → kept-in flags k ≡ true → fine-at tower steps (kept-in flags) k ≡ true
-    fine e k m kept =
-        elim (decLt k i) [
-          | yes below ↦ h .below-fine e k below kept
-          | no above ↦ (let same : i ≡ k = omega arith in
-              stayer-fine tower steps flags k (subst (λ (x : ℕ). has-to-go tower steps flags x ≡ false) same stays) kept)
-        ]
-
--- It stays.
-pub rising-stays : (tower : Tower) (n : ℕ) (steps old flags exit : List ℕ) (gone i : ℕ) (r : Bool)
-    → Rising tower n steps old flags gone i → i < n → Visited r tower steps i flags exit → r ≡ false
-    → Rising tower n steps old exit gone (i + 1)
-rising-stays tower n steps old flags exit gone i r h l v e =
-    subst (λ (z : List ℕ). Rising tower n steps old z gone (i + 1)) (sym (left-as false v e))
-    (stays-below tower n steps old flags gone i h l (sym (v .answer) ∙ e))
-
--- All have been looked at.
-pub rising-end : (tower : Tower) (n : ℕ) (steps old flags : List ℕ) (gone i : ℕ) → Rising tower n steps old flags gone i → n ≤ i
-    → Passed gone tower n steps old flags
-rising-end tower n steps old flags gone i h l =
-    record {
-      holds = h .cleared .holds;
-      beyond = h .cleared .beyond;
-      counted = h .cleared .counted;
-      all-fine = λ e k m. h .below-fine e k (omega arith);
-    }
-
--- ---- All passes
-
--- What was kept before some passes, and still is.
-pub record Holding (tower : Tower) (n : ℕ) (steps old flags : List ℕ) : Type 0 where
-  pub holds : HoldsAll tower n steps flags
-  pub beyond : SameBeyond n old flags
-  pub long : length flags ≡ length old
-
-pub holding-start : (tower : Tower) (n : ℕ) (steps flags : List ℕ) → HoldsAll tower n steps flags → Holding tower n steps flags flags
-holding-start tower n steps flags h = record { holds = h; beyond = same-beyond n flags; long = refl }
-
-pub holding-ready : (tower : List ℕ) (n : ℕ) (steps old flags : List ℕ) → Ready tower n steps old
-    → Holding (tower-of tower) n steps old flags → Ready tower n steps flags
-holding-ready tower n steps old flags given h =
-    record { fit = given .fit; graph = given .graph; flags-there = omega (arith, given .flags-there, h .long) }
-
--- Some had to go, down and then up: fewer flags are set.
-pub holding-less : (tower : Tower) (n : ℕ) (steps flags middle exit : List ℕ) (down up : ℕ) → Passed down tower n steps flags middle
-    → (down ≡ 0 → ⊥) → Passed up tower n steps middle exit → total exit < total flags
-holding-less tower n steps flags middle exit down up p some q = go down (p .counted) some
-  where
-    go : (g : ℕ) → total middle + g ≡ total flags → (g ≡ 0 → ⊥) → total exit < total flags
-    go zero e f = absurd (f refl)
-    go (suc g) e f = omega (arith, q .counted)
-
-pub holding-more : (tower : Tower) (n : ℕ) (steps old flags exit : List ℕ) (gone : ℕ) → Holding tower n steps old flags
-    → Passed gone tower n steps flags exit → length exit ≡ length flags → Holding tower n steps old exit
-holding-more tower n steps old flags exit gone h p l =
-    record { holds = p .holds (h .holds); beyond = beyond-beyond (h .beyond) (p .beyond); long = l ∙ h .long }
-
--- None had to go: the largest set is left.
-pub holding-end : (tower : Tower) (n : ℕ) (steps old flags exit : List ℕ) (gone : ℕ) → Holding tower n steps old flags
-    → Passed gone tower n steps flags exit → gone ≡ 0 → Removed tower n steps old exit
-holding-end tower n steps old flags exit gone h p e =
-    record { largest = largest tower n steps exit (p .holds (h .holds)) (p .all-fine e); beyond = beyond-beyond (h .beyond) (p .beyond) }
-
--- None had to go, but on the way down some had.
-pub holding-end-up : (tower : Tower) (n : ℕ) (steps old flags middle exit : List ℕ) (down up : ℕ) → Holding tower n steps old flags
-    → Passed down tower n steps flags middle → length middle ≡ length flags → Passed up tower n steps middle exit → up ≡ 0
-    → Removed tower n steps old exit
-holding-end-up tower n steps old flags middle exit down up h p l q e =
-    holding-end tower n steps old middle exit up (holding-more tower n steps old flags middle down h p l) q e
-
--- ---- The whole
-
--- All are kept at first.
-pub first-ready : (tower : List ℕ) (n : ℕ) (steps flags exit : List ℕ) → FitTower tower → HoldsGraph (tower-of tower) n steps
-    → n ≤ length flags → length exit ≡ length flags → Ready tower n steps exit
-first-ready tower n steps flags exit fit graph l e = record { fit = fit; graph = graph; flags-there = omega arith }
-
--- What passes from there on leave.
-pub removed-all : (tower : Tower) (n : ℕ) (steps flags middle exit : List ℕ) → AllKept n flags middle → Removed tower n steps middle exit
-    → Removed tower n steps flags exit
-removed-all tower n steps flags middle exit h r = record { largest = r .largest; beyond = beyond-beyond (h .beyond) (r .beyond) }
+    live-safe : (k : ℕ) → k < n → live-in area k ≡ true → safe-in area k ≡ true
+    live-safe k m live =
+        true-by (safe-in area k) (λ e. let o = h .state .worklist .waiting k m live e in omega (arith, o .within))

@@ -1,82 +1,62 @@
-// Whether a pair is fine among the kept ones.
-ghost use Prim.Native.Nat.{_+_, _<_};
+// Whether a pair is fine among the safe ones.
+ghost use Prim.Native.Nat.{_<_};
 ghost use mathlib.Core.Path.{_≡_};
-ghost use lib.ListN.{length};
-ghost use Rattle.base.specs.Bytes.{number-at};
 ghost use Rattle.logic.specs.Tower.{tower-of};
-ghost use Rattle.pair_graph.specs.Steps.{cell, move-of, kept-in};
-ghost use Rattle.removal.specs.Removal.{leads-inside, not-forced-at, goes-at, none-forced, some-goes, fine-at, Judged};
-use crate::kinds;
+ghost use Rattle.pair_graph.specs.Steps.{move-at, safe-in};
+ghost use Rattle.removal.specs.Removal.{leads-inside, not-forced-at, goes-at, none-forced, some-goes, fine-at, PairInput};
+use pair_graph::Led;
+use tower_reader::kinds;
 
-// The flag of a kept pair.
-pub const KEPT: u8 = 1;
-
-// Room for so many actions from each pair, two bytes each.
-const ACTION_ROOM: usize = 16;
-
-// How a move is written: that it is not enabled, and pair 0. Between them is the broken step.
-const NOT_ENABLED: usize = 0;
-
-const FIRST_PAIR: usize = 2;
-
-// The move of action a from pair i, as it is written.
-fn move_number(steps: &[u8], i: usize, a: usize) -> usize
-    requires { ⌜ cell i a + 1 < length (now steps) ⌝ }
-    ensures { λ r. ⌜ r ≡ number-at 2 (now (steps .entry)) (cell i a) ⌝ }
-{
-    let p = 2 * (ACTION_ROOM * i + a);
-    steps[p] as usize + 256 * (steps[p + 1] as usize)
-}
-
-// The move, as it is written, leads to a kept pair.
-fn leads_inside(m: usize, flags: &[u8]) -> bool
-    requires { ⌜ m < length (now flags) + 2 ⌝ }
-    ensures { λ r. ⌜ r ≡ leads-inside (kept-in (now (flags .entry))) (move-of m) ⌝ }
-{
-    if m < FIRST_PAIR {
-        return false;
-    }
-    flags[m - FIRST_PAIR] == KEPT
-}
-
-// Action a cannot force a way out of the kept pairs from pair i: it may be withheld, is not enabled
-// there, or leads to a kept pair.
-fn not_forced(tower: &[u8], steps: &[u8], i: usize, a: usize, flags: &[u8]) -> bool
-    requires { ⌜ Judged (now tower) (now steps) (now flags) i ⌝ }
+// Action a leads from pair i to a safe pair.
+fn leads_inside(tower: &[u8], graph: &[u8], n: usize, i: usize, a: usize, flags: &[u8]) -> bool
+    requires { ⌜ PairInput (now tower) n (now graph) (now flags) i ⌝ }
     requires { ⌜ a < tower-of (now tower) .actions ⌝ }
-    ensures { λ r. ⌜ r ≡ not-forced-at (tower-of (now (tower .entry))) (now (steps .entry)) (kept-in (now (flags .entry))) i a ⌝ }
+    ensures { λ r. ⌜ r ≡ leads-inside (safe-in (now (flags .entry))) (move-at (now (graph .entry)) i a) ⌝ }
+{
+    let led = pair_graph::allowed(graph, flags, n, tower_reader::actions(tower), i, a);
+    let Led::To(j) = led else {
+        return false;
+    };
+    true
+}
+
+// Action a cannot force a way out of the safe pairs from pair i: it may be withheld, is not enabled
+// there, or leads to a safe pair.
+fn not_forced(tower: &[u8], graph: &[u8], n: usize, i: usize, a: usize, flags: &[u8]) -> bool
+    requires { ⌜ PairInput (now tower) n (now graph) (now flags) i ⌝ }
+    requires { ⌜ a < tower-of (now tower) .actions ⌝ }
+    ensures { λ r. ⌜ r ≡ not-forced-at (tower-of (now (tower .entry))) (now (graph .entry)) (safe-in (now (flags .entry))) i a ⌝ }
 {
     if kinds::controllable(tower_reader::kind(tower, a)) {
         return true;
     }
-    let m = move_number(steps, i, a);
-    if m == NOT_ENABLED {
+    if !pair_graph::enabled(graph, i, a) {
         return true;
     }
-    leads_inside(m, flags)
+    leads_inside(tower, graph, n, i, a, flags)
 }
 
-// Action a goes on from pair i, and leads to a kept pair.
-fn goes(tower: &[u8], steps: &[u8], i: usize, a: usize, flags: &[u8]) -> bool
-    requires { ⌜ Judged (now tower) (now steps) (now flags) i ⌝ }
+// Action a goes on from pair i, and leads to a safe pair.
+fn goes(tower: &[u8], graph: &[u8], n: usize, i: usize, a: usize, flags: &[u8]) -> bool
+    requires { ⌜ PairInput (now tower) n (now graph) (now flags) i ⌝ }
     requires { ⌜ a < tower-of (now tower) .actions ⌝ }
-    ensures { λ r. ⌜ r ≡ goes-at (tower-of (now (tower .entry))) (now (steps .entry)) (kept-in (now (flags .entry))) i a ⌝ }
+    ensures { λ r. ⌜ r ≡ goes-at (tower-of (now (tower .entry))) (now (graph .entry)) (safe-in (now (flags .entry))) i a ⌝ }
 {
     if !kinds::goes_on(tower_reader::kind(tower, a)) {
         return false;
     }
-    leads_inside(move_number(steps, i, a), flags)
+    leads_inside(tower, graph, n, i, a, flags)
 }
 
-// No action can force a way out of the kept pairs from pair i.
-fn none_forced(tower: &[u8], steps: &[u8], i: usize, flags: &[u8]) -> bool
-    requires { ⌜ Judged (now tower) (now steps) (now flags) i ⌝ }
-    ensures { λ r. ⌜ r ≡ none-forced (tower-of (now (tower .entry))) (now (steps .entry)) (kept-in (now (flags .entry))) i ⌝ }
+// No action can force a way out of the safe pairs from pair i.
+fn none_forced(tower: &[u8], graph: &[u8], n: usize, i: usize, flags: &[u8]) -> bool
+    requires { ⌜ PairInput (now tower) n (now graph) (now flags) i ⌝ }
+    ensures { λ r. ⌜ r ≡ none-forced (tower-of (now (tower .entry))) (now (graph .entry)) (safe-in (now (flags .entry))) i ⌝ }
 {
     let actions = tower_reader::actions(tower);
     let mut a = 0;
     while a < actions {
-        if !not_forced(tower, steps, i, a, flags) {
+        if !not_forced(tower, graph, n, i, a, flags) {
             return false;
         }
         a += 1;
@@ -84,15 +64,15 @@ fn none_forced(tower: &[u8], steps: &[u8], i: usize, flags: &[u8]) -> bool
     true
 }
 
-// Some action goes on from pair i inside the kept pairs.
-fn some_goes(tower: &[u8], steps: &[u8], i: usize, flags: &[u8]) -> bool
-    requires { ⌜ Judged (now tower) (now steps) (now flags) i ⌝ }
-    ensures { λ r. ⌜ r ≡ some-goes (tower-of (now (tower .entry))) (now (steps .entry)) (kept-in (now (flags .entry))) i ⌝ }
+// Some action goes on from pair i inside the safe pairs.
+fn some_goes(tower: &[u8], graph: &[u8], n: usize, i: usize, flags: &[u8]) -> bool
+    requires { ⌜ PairInput (now tower) n (now graph) (now flags) i ⌝ }
+    ensures { λ r. ⌜ r ≡ some-goes (tower-of (now (tower .entry))) (now (graph .entry)) (safe-in (now (flags .entry))) i ⌝ }
 {
     let actions = tower_reader::actions(tower);
     let mut a = 0;
     while a < actions {
-        if goes(tower, steps, i, a, flags) {
+        if goes(tower, graph, n, i, a, flags) {
             return true;
         }
         a += 1;
@@ -100,13 +80,13 @@ fn some_goes(tower: &[u8], steps: &[u8], i: usize, flags: &[u8]) -> bool
     false
 }
 
-// Pair i is fine among the kept ones.
-pub fn is_fine(tower: &[u8], steps: &[u8], i: usize, flags: &[u8]) -> bool
-    requires { ⌜ Judged (now tower) (now steps) (now flags) i ⌝ }
-    ensures { λ r. ⌜ r ≡ fine-at (tower-of (now (tower .entry))) (now (steps .entry)) (kept-in (now (flags .entry))) i ⌝ }
+// Pair i is fine among the safe ones.
+pub fn is_fine(tower: &[u8], graph: &[u8], n: usize, i: usize, flags: &[u8]) -> bool
+    requires { ⌜ PairInput (now tower) n (now graph) (now flags) i ⌝ }
+    ensures { λ r. ⌜ r ≡ fine-at (tower-of (now (tower .entry))) (now (graph .entry)) (safe-in (now (flags .entry))) i ⌝ }
 {
-    if !none_forced(tower, steps, i, flags) {
+    if !none_forced(tower, graph, n, i, flags) {
         return false;
     }
-    some_goes(tower, steps, i, flags)
+    some_goes(tower, graph, n, i, flags)
 }

@@ -11,80 +11,80 @@ use borrow.Author.Tests.{eq-eqb}
 use Rattle.base.specs.Choice.{pick}
 use Rattle.base.specs.Lists.{same-option}
 use Rattle.base.proofs.Lists.{never-both}
-use Rattle.pair_graph.specs.Graph.{Move, not-enabled, broken, to, Graph, allowed-to, AlikeNow, Kept, Classes}
-use Rattle.pair_graph.specs.Steps.{move-at, class-in, kept-in, state-in}
-use Rattle.row_classes.specs.View.{pairs-graph, shown, shows-in, view-of}
+use Rattle.pair_graph.specs.Graph.{Move, not-enabled, broken, to, Graph, allowed-to, AlikeNow, SafePair, Classes}
+use Rattle.pair_graph.specs.Steps.{move-at, class-in, safe-in, state-in, led-to, graph-with}
+use Rattle.row_classes.specs.View.{shown, shows-in, view-of}
 use Rattle.row_classes.specs.Passes.{Numbered}
 
--- What an allowed step leads to is kept.
-allowed-out : (kept : ℕ → Bool) (m : Move) (j : ℕ) → allowed-to kept m ≡ some j → (m ≡ to j) × (kept j ≡ true)
+-- What an allowed step leads to is safe.
+allowed-out : (safe : ℕ → Bool) (m : Move) (j : ℕ) → allowed-to safe m ≡ some j → (m ≡ to j) × (safe j ≡ true)
 unfolding allowed-to
-allowed-out kept not-enabled j e = let z : _≡_ {A = ℕ} 0 1 = cc in absurd (omega arith)
-allowed-out kept broken j e = let z : _≡_ {A = ℕ} 0 1 = cc in absurd (omega arith)
-allowed-out kept (to k) j e = go (kept k) refl e
+allowed-out safe not-enabled j e = let z : _≡_ {A = ℕ} 0 1 = cc in absurd (omega arith)
+allowed-out safe broken j e = let z : _≡_ {A = ℕ} 0 1 = cc in absurd (omega arith)
+allowed-out safe (to k) j e = go (safe k) refl e
   where
-    go : (b : Bool) → kept k ≡ b → pick b (λ _. some k) (λ _. none) ≡ some j → (to k ≡ to j) × (kept j ≡ true)
-    go true p f = let same : k ≡ j = cc in (ap to same, ap kept (sym same) ∙ p)
+    go : (b : Bool) → safe k ≡ b → pick b (λ _. some k) (λ _. none) ≡ some j → (to k ≡ to j) × (safe j ≡ true)
+    go true p f = let same : k ≡ j = cc in (ap to same, ap safe (sym same) ∙ p)
     go false p f = let z : _≡_ {A = ℕ} 0 1 = cc in absurd (omega arith)
 
 -- The second half of `Classes`: two pairs that are never told apart are of one class.
-pub record Coarse (graph : Graph) (kept : ℕ → Bool) (class : ℕ → ℕ) : Type 0 where
+pub record Coarse (graph : Graph) (safe : ℕ → Bool) (class : ℕ → ℕ) : Type 0 where
   pub coarsest : (same : ℕ → ℕ → Bool)
-      → ((i j : ℕ) → Kept graph kept i → Kept graph kept j → same i j ≡ true → AlikeNow graph kept same i j)
-      → (i j : ℕ) → Kept graph kept i → Kept graph kept j → same i j ≡ true → class i ≡ class j
+      → ((i j : ℕ) → SafePair graph safe i → SafePair graph safe j → same i j ≡ true → AlikeNow graph safe same i j)
+      → (i j : ℕ) → SafePair graph safe i → SafePair graph safe j → same i j ≡ true → class i ≡ class j
 
 -- Equal classes are as coarse.
-pub coarse-along : {graph : Graph} {kept : ℕ → Bool} {class : ℕ → ℕ} (other : ℕ → ℕ) → Coarse graph kept class
-    → ((k : ℕ) → k < graph .pairs → other k ≡ class k) → Coarse graph kept other
+pub coarse-along : {graph : Graph} {safe : ℕ → Bool} {class : ℕ → ℕ} (other : ℕ → ℕ) → Coarse graph safe class
+    → ((k : ℕ) → k < graph .pairs → other k ≡ class k) → Coarse graph safe other
 coarse-along other c same =
     record { coarsest = λ s now i j ki kj e. same i (ki .there) ∙ c .coarsest s now i j ki kj e ∙ sym (same j (kj .there)) }
 
--- Every allowed step of a kept pair leads to one of the pairs.
-pub record Closed (steps flags : List ℕ) (actions n : ℕ) : Type 0 where
-  pub targets : (i a j : ℕ) → i < n → kept-in flags i ≡ true → a < actions → move-at steps i a ≡ to j → j < n
+-- Every allowed step of a safe pair leads to one of the pairs.
+pub record Closed (area flags : List ℕ) (actions n : ℕ) : Type 0 where
+  pub targets : (i a j : ℕ) → i < n → safe-in flags i ≡ true → a < actions → move-at area i a ≡ to j → j < n
 
-module _ (steps flags entries : List ℕ) (actions n : ℕ) (kind : ℕ → ℕ) where
-  -- the graph and its kept pairs
+module _ (area flags : List ℕ) (actions n : ℕ) (kind : ℕ → ℕ) where
+  -- the graph and its safe pairs
   abbrev graph : Graph
-  graph = pairs-graph steps entries actions n kind
+  graph = graph-with n actions kind area
 
-  abbrev KeptHere : ℕ → Type 0
-  KeptHere i = Kept graph (kept-in flags) i
+  abbrev SafeHere : ℕ → Type 0
+  SafeHere i = SafePair graph (safe-in flags) i
 
   abbrev step : ℕ → ℕ → Option ℕ
-  step i a = allowed-to (kept-in flags) (move-at steps i a)
+  step i a = allowed-to (safe-in flags) (move-at area i a)
 
-  led-kept : Closed steps flags actions n → (i a j : ℕ) → KeptHere i → a < actions → step i a ≡ some j → KeptHere j
-  led-kept closed i a j k l e =
-      let (m, p) = allowed-out (kept-in flags) (move-at steps i a) j e in
-      record { there = closed .targets i a j (k .there) (k .is-kept) l m; is-kept = p }
+  led-safe : Closed area flags actions n → (i a j : ℕ) → SafeHere i → a < actions → step i a ≡ some j → SafeHere j
+  led-safe closed i a j k l e =
+      let (m, p) = allowed-out (safe-in flags) (move-at area i a) j e in
+      record { there = closed .targets i a j (k .there) (k .is-safe) l m; is-safe = p }
 
   -- All in one class: nothing is parted.
-  pub coarse-start : (class : ℕ → ℕ) → ((i : ℕ) → i < n → class i ≡ 0) → Coarse graph (kept-in flags) class
+  pub coarse-start : (class : ℕ → ℕ) → ((i : ℕ) → i < n → class i ≡ 0) → Coarse graph (safe-in flags) class
   coarse-start class zeros =
       record { coarsest = λ same now i j ki kj e. zeros i (ki .there) ∙ sym (zeros j (kj .there)) }
 
-  module _ (closed : Closed steps flags actions n) (old : List ℕ) (new class : ℕ → ℕ)
-      (numbered : Numbered (view-of steps flags entries actions old) new n)
-      (taken : (i : ℕ) → i < n → kept-in flags i ≡ true → class i ≡ new i) where
+  module _ (closed : Closed area flags actions n) (old : List ℕ) (new class : ℕ → ℕ)
+      (numbered : Numbered (view-of area flags actions old) new n)
+      (taken : (i : ℕ) → i < n → safe-in flags i ≡ true → class i ≡ new i) where
     -- A pass parts no two pairs that are never told apart.
-    pub coarse-pass : Coarse graph (kept-in flags) (class-in old) → Coarse graph (kept-in flags) class
-    unfolding view-of shows-in shown same-option
+    pub coarse-pass : Coarse graph (safe-in flags) (class-in old) → Coarse graph (safe-in flags) class
+    unfolding view-of shows-in shown same-option led-to
     coarse-pass coarse = record { coarsest = go }
       where
         go : (same : ℕ → ℕ → Bool)
-            → ((i j : ℕ) → KeptHere i → KeptHere j → same i j ≡ true → AlikeNow graph (kept-in flags) same i j)
-            → (i j : ℕ) → KeptHere i → KeptHere j → same i j ≡ true → class i ≡ class j
+            → ((i j : ℕ) → SafeHere i → SafeHere j → same i j ≡ true → AlikeNow graph (safe-in flags) same i j)
+            → (i j : ℕ) → SafeHere i → SafeHere j → same i j ≡ true → class i ≡ class j
         go same now i j ki kj e =
             let here = now i j ki kj e in
-            taken i (ki .there) (ki .is-kept)
-            ∙ numbered .joined i j (ki .there) (kj .there) (ki .is-kept) (kj .is-kept)
+            taken i (ki .there) (ki .is-safe)
+            ∙ numbered .joined i j (ki .there) (kj .there) (ki .is-safe) (kj .is-safe)
             (record {
               state = here .state;
               class = coarse .coarsest same now i j ki kj e;
               shows = λ a l. shows a l (step i a) (step j a) refl refl (here .steps a l);
             })
-            ∙ sym (taken j (kj .there) (kj .is-kept))
+            ∙ sym (taken j (kj .there) (kj .is-safe))
           where
             shows : (a : ℕ) → a < actions → (o p : Option ℕ) → step i a ≡ o → step j a ≡ p → same-option same o p ≡ true
                 → shown (class-in old) o ≡ shown (class-in old) p
@@ -92,26 +92,26 @@ module _ (steps flags entries : List ℕ) (actions n : ℕ) (kind : ℕ → ℕ)
             shows a l none (some y) f g s = never-both s refl
             shows a l (some x) none f g s = never-both s refl
             shows a l (some x) (some y) f g s =
-                ap (λ z. z + 1) (coarse .coarsest same now x y (led-kept closed i a x ki l f) (led-kept closed j a y kj l g) s)
+                ap (λ z. z + 1) (coarse .coarsest same now x y (led-safe closed i a x ki l f) (led-safe closed j a y kj l g) s)
 
     -- Where a pass parts nothing, no two pairs of one class are told apart.
-    pub stable-pass : ((i : ℕ) → i < n → kept-in flags i ≡ true → new i ≡ class-in old i) → (i j : ℕ) → KeptHere i → KeptHere j
-        → class i ≡ class j → AlikeNow graph (kept-in flags) (λ k l. eqb (class k) (class l)) i j
-    unfolding view-of shows-in shown same-option
+    pub stable-pass : ((i : ℕ) → i < n → safe-in flags i ≡ true → new i ≡ class-in old i) → (i j : ℕ) → SafeHere i → SafeHere j
+        → class i ≡ class j → AlikeNow graph (safe-in flags) (λ k l. eqb (class k) (class l)) i j
+    unfolding view-of shows-in shown same-option led-to
     stable-pass still i j ki kj e =
-        let ri = numbered .alike i (ki .there) (ki .is-kept) in
-        let rj = numbered .alike j (kj .there) (kj .is-kept) in
-        let one : new i ≡ new j = sym (taken i (ki .there) (ki .is-kept)) ∙ e ∙ taken j (kj .there) (kj .is-kept) in
+        let ri = numbered .alike i (ki .there) (ki .is-safe) in
+        let rj = numbered .alike j (kj .there) (kj .is-safe) in
+        let one : new i ≡ new j = sym (taken i (ki .there) (ki .is-safe)) ∙ e ∙ taken j (kj .there) (kj .is-safe) in
         record {
-          state = ri .state ∙ ap (state-in entries) one ∙ sym (rj .state);
+          state = ri .state ∙ ap (state-in area) one ∙ sym (rj .state);
           steps =
               λ a l.
               steps-same a l (step i a) (step j a) refl refl
               (ri .shows a l ∙ ap (λ k. shown (class-in old) (step k a)) one ∙ sym (rj .shows a l));
         }
       where
-        back : (k : ℕ) → KeptHere k → class k ≡ class-in old k
-        back k kk = taken k (kk .there) (kk .is-kept) ∙ still k (kk .there) (kk .is-kept)
+        back : (k : ℕ) → SafeHere k → class k ≡ class-in old k
+        back k kk = taken k (kk .there) (kk .is-safe) ∙ still k (kk .there) (kk .is-safe)
 
         steps-same : (a : ℕ) → a < actions → (o p : Option ℕ) → step i a ≡ o → step j a ≡ p
             → shown (class-in old) o ≡ shown (class-in old) p → same-option (λ k l. eqb (class k) (class l)) o p ≡ true
@@ -119,13 +119,13 @@ module _ (steps flags entries : List ℕ) (actions n : ℕ) (kind : ℕ → ℕ)
         steps-same a l none (some y) f g s = absurd (omega arith)
         steps-same a l (some x) none f g s = absurd (omega arith)
         steps-same a l (some x) (some y) f g s =
-            let bx = back x (led-kept closed i a x ki l f) in
-            let by = back y (led-kept closed j a y kj l g) in
+            let bx = back x (led-safe closed i a x ki l f) in
+            let by = back y (led-safe closed j a y kj l g) in
             eq-eqb (class x) (class y) (omega arith)
 
     -- Where a pass parts nothing, the classes are the right ones.
-    pub right-classes : Coarse graph (kept-in flags) (class-in old) → ((i : ℕ) → i < n → kept-in flags i ≡ true → new i ≡ class-in old i)
-        → Classes graph (kept-in flags) class
+    pub right-classes : Coarse graph (safe-in flags) (class-in old) → ((i : ℕ) → i < n → safe-in flags i ≡ true → new i ≡ class-in old i)
+        → Classes graph (safe-in flags) class
     right-classes coarse still = record { stable = stable-pass still; coarsest = coarse-pass coarse .coarsest }
 
 -- ---- how many passes there can be

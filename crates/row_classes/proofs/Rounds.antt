@@ -8,97 +8,70 @@ use mathlib.Core.List.{List}
 use Rattle.base.specs.Choice.{pick}
 use Rattle.base.specs.Bytes.{number-at}
 use Rattle.base.proofs.Lists.{whether, never-both}
-use Rattle.pair_graph.specs.Steps.{action-room, cell, class-in, kept-in}
-use Rattle.row_classes.specs.View.{old-part, new-in, pairs-graph, view-of}
-use Rattle.row_classes.specs.Passes.{Ready, Classified, Cleared, Given, Passed, Adopted}
+use Rattle.pair_graph.specs.Steps.{class-in, safe-in, graph-with}
+use Rattle.row_classes.specs.View.{old-part, new-in, view-of}
+use Rattle.row_classes.specs.Passes.{Ready, Classified, Cleared, Passed, Adopted}
 use Rattle.row_classes.proofs.Stores.{class-front}
 use Rattle.row_classes.proofs.Refinement.{Coarse, Closed, coarse-start, coarse-along, coarse-pass, right-classes, sum, sum-lt}
 
--- What there is to read is there.
-pub given-all : (steps flags entries : List ℕ) (actions n : ℕ) (area : List ℕ) → Ready steps flags entries actions n area
-    → Given steps flags entries actions n
-unfolding cell action-room
-given-all steps flags entries actions n area h =
-    record {
-      pairs-most = h .pairs-most;
-      flags-room = h .flags-room;
-      readable =
-          λ i l e.
-          record {
-            small = omega arith;
-            entry-room = omega arith;
-            stepping =
-                record {
-                  shows =
-                      λ a less.
-                      record {
-                        action = omega arith;
-                        steps-room = omega arith;
-                        target = λ j m. omega (arith, h .targets i a j l e less m);
-                        flags-room = λ j m. omega (arith, h .targets i a j l e less m);
-                      };
-                };
-          };
-    }
-
 -- The classes so far part no two pairs that are never told apart, and none is above its pair.
-pub record Refining (steps flags entries : List ℕ) (actions n : ℕ) (area : List ℕ) : Type 0 where
-  pub coarse : (kind : ℕ → ℕ) → Coarse (pairs-graph steps entries actions n kind) (kept-in flags) (class-in area)
+pub record Refining (graph flags : List ℕ) (actions n : ℕ) (area : List ℕ) : Type 0 where
+  pub coarse : (kind : ℕ → ℕ) → Coarse (graph-with n actions kind graph) (safe-in flags) (class-in area)
   pub most : (k : ℕ) → k < n → class-in area k ≤ k
 
 -- how far the class of pair k can still rise
 unfoldable pub room : List ℕ → List ℕ → ℕ → ℕ
-room flags area k = pick (kept-in flags k) (λ _. k - class-in area k) (λ _. 0)
+room flags area k = pick (safe-in flags k) (λ _. k - class-in area k) (λ _. 0)
 
 -- how far the classes of n pairs can still rise
 unfoldable pub slack : List ℕ → ℕ → List ℕ → ℕ
 slack flags n area = sum (room flags area) n
 
 -- At first all are of class 0.
-pub refining-start : (steps flags entries : List ℕ) (actions n : ℕ) (area after : List ℕ) → Cleared area 0 n after
-    → Refining steps flags entries actions n after
-refining-start steps flags entries actions n area after c =
+pub refining-start : (graph flags : List ℕ) (actions n : ℕ) (area after : List ℕ) → Cleared area 0 n after
+    → Refining graph flags actions n after
+refining-start graph flags actions n area after c =
     record {
-      coarse = λ kind. coarse-start steps flags entries actions n kind (class-in after) zeros;
+      coarse = λ kind. coarse-start graph flags actions n kind (class-in after) zeros;
       most = λ k l. omega (arith, zeros k l);
     }
   where
     zeros : (k : ℕ) → k < n → class-in after k ≡ 0
     zeros k l = ap (number-at 2 after) (sym (zero-add (2 * k))) ∙ c .zeros k l
 
-module _ (steps flags entries : List ℕ) (actions n : ℕ) (first area x z : List ℕ) (r : ℕ)
-    (ready : Ready steps flags entries actions n first) (so-far : Refining steps flags entries actions n area)
-    (passed : Passed steps flags entries actions (old-part area) n x) (adopted : Adopted flags n x r z) where
-  closed : Closed steps flags actions n
-  closed = record { targets = ready .targets }
+module _ (graph flags : List ℕ) (actions n : ℕ) (first area x z : List ℕ) (r : ℕ)
+    (ready : Ready graph flags actions n first) (so-far : Refining graph flags actions n area)
+    (passed : Passed graph flags actions (old-part area) n x) (adopted : Adopted flags n x r z) where
+  closed : Closed graph flags actions n
+  closed = record { targets = λ i a j l e. ready .held .graph .targets i a j l }
 
   old-class : (k : ℕ) → k < n → class-in (old-part area) k ≡ class-in area k
-  old-class k l = class-front area k (omega (arith, ready .pairs-most))
+  old-class k l = class-front area k (omega (arith, ready .held .graph .pairs-most))
 
   same-class : (k : ℕ) → k < n → class-in x k ≡ class-in (old-part area) k
   same-class k l =
-      sym (class-front x k (omega (arith, ready .pairs-most))) ∙ ap (λ classes. class-in classes k) (passed .front)
+      sym (class-front x k (omega (arith, ready .held .graph .pairs-most))) ∙ ap (λ classes. class-in classes k) (passed .front)
 
-  old-coarse : (kind : ℕ → ℕ) → Coarse (pairs-graph steps entries actions n kind) (kept-in flags) (class-in (old-part area))
+  old-coarse : (kind : ℕ → ℕ) → Coarse (graph-with n actions kind graph) (safe-in flags) (class-in (old-part area))
   old-coarse kind = coarse-along (class-in (old-part area)) (so-far .coarse kind) old-class
 
   -- One more pass keeps it so.
-  pub refining-more : Refining steps flags entries actions n z
+  pub refining-more : Refining graph flags actions n z
   unfolding view-of
   refining-more =
       record {
         coarse =
             λ kind.
-            coarse-pass steps flags entries actions n kind closed (old-part area) (new-in x) (class-in z) (passed .numbered)
+            coarse-pass graph flags actions n kind closed (old-part area) (new-in x) (class-in z) (passed .numbered)
             (adopted .here) (old-coarse kind);
         most =
             λ k l.
-            whether (kept-in flags k) (λ e. omega (arith, adopted .here k l e, passed .numbered .most k l e))
+            whether (safe-in flags k) (λ e. omega (arith, adopted .here k l e, passed .numbered .most k l e))
             (λ e. omega (arith, adopted .gone k l e, same-class k l, old-class k l, so-far .most k l));
       }
 
   -- No class falls.
-  rises : (k : ℕ) → k < n → kept-in flags k ≡ true → class-in area k ≤ new-in x k
+  rises : (k : ℕ) → k < n → safe-in flags k ≡ true → class-in area k ≤ new-in x k
   unfolding view-of
   rises k l e =
       let most = passed .numbered .most k l e in
@@ -106,7 +79,7 @@ module _ (steps flags entries : List ℕ) (actions n : ℕ) (first area x z : Li
       let alike = passed .numbered .alike k l e .class in
       omega (arith, old-class k l, old-class (new-in x k) less, so-far .most (new-in x k) less)
 
-  room-less : (k : ℕ) → k < n → (b : Bool) → kept-in flags k ≡ b
+  room-less : (k : ℕ) → k < n → (b : Bool) → safe-in flags k ≡ b
       → pick b (λ _. k - class-in z k) (λ _. 0) ≤ pick b (λ _. k - class-in area k) (λ _. 0)
   room-less k l true e = omega (arith, rises k l e, adopted .here k l e)
   room-less k l false e = omega arith
@@ -116,11 +89,11 @@ module _ (steps flags entries : List ℕ) (actions n : ℕ) (first area x z : Li
   unfolding slack room view-of
   slack-falls some = go (adopted .other (omega (arith, some)))
     where
-      go : (k : ℕ) × (k < n) × (kept-in flags k ≡ true) × (new-in x k ≡ class-in x k → ⊥)
+      go : (k : ℕ) × (k < n) × (safe-in flags k ≡ true) × (new-in x k ≡ class-in x k → ⊥)
           → sum (room flags z) n < sum (room flags area) n
       go (k, l, e, f) =
-          sum-lt (room flags area) (room flags z) n k (λ j less. room-less j less (kept-in flags j) refl) l
-          (at (kept-in flags k) e)
+          sum-lt (room flags area) (room flags z) n k (λ j less. room-less j less (safe-in flags j) refl) l
+          (at (safe-in flags k) e)
         where
           apart : class-in area k ≡ new-in x k → ⊥
           apart g = f (sym g ∙ sym (old-class k l) ∙ sym (same-class k l))
@@ -130,12 +103,12 @@ module _ (steps flags entries : List ℕ) (actions n : ℕ) (first area x z : Li
           at false g = never-both g refl
 
   -- Where none changes, the classes are the right ones.
-  pub classified : r ≡ 0 → Classified steps flags entries actions n z
+  pub classified : r ≡ 0 → Classified graph flags actions n z
   classified none =
       record {
         for-kinds =
             λ kind.
-            right-classes steps flags entries actions n kind closed (old-part area) (new-in x) (class-in z) (passed .numbered)
+            right-classes graph flags actions n kind closed (old-part area) (new-in x) (class-in z) (passed .numbered)
             (adopted .here) (old-coarse kind) (λ i l e. adopted .same none i l e ∙ same-class i l);
         most = refining-more .most;
       }

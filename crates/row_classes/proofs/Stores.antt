@@ -1,71 +1,34 @@
 -- Two-byte numbers that are read, written and cleared.
-use Prim.Native.Nat.{ℕ, _+_, _*_, _/_, _%_, _≤_, _<_}
+use Prim.Native.Nat.{ℕ, _+_, _*_, _≤_, _<_}
 use native.Mathlib.Omega.{arith}
-use mathlib.Core.Path.{_≡_, refl, sym, _∙_}
+use mathlib.Core.Path.{_≡_, refl, sym, _∙_, ap}
+use mathlib.Core.Logic.{inl, inr}
 use mathlib.Core.List.{List}
-use lib.ListN.{length, getD, set, length-set}
-use lib.Seq.{getD-set-same, getD-set-other, take-set-le, getD-take}
-use mir.Syntax.{w8, w64}
+use lib.ListN.{length, getD, take}
+use lib.Seq.{sets, getD-take}
+use mir.Syntax.{w8}
 use mir.Val.{Fits}
-use Rattle.base.specs.Bytes.{byte-at, number-at}
+use Rattle.base.specs.Bytes.{number-at, number-bytes}
+use Rattle.lent_bytes.proofs.Numbers.{stored-read, stored-beside, take-stored}
 use Rattle.pair_graph.specs.Steps.{class-in}
 use Rattle.row_classes.specs.View.{old-part}
 use Rattle.row_classes.specs.Passes.{Small, Put, Cleared}
 use Rattle.row_classes.proofs.Turns.{one-more}
 
--- A byte is a number.
-pub cast-byte : (l : List ℕ) (i : ℕ) → ((j : ℕ) → Fits w8 (getD l j 0)) → Fits w64 (getD l i 0)
-cast-byte l i h = omega (arith, h i)
-
--- The upper byte of a two-byte number.
-pub upper-fits : (l : List ℕ) (i : ℕ) → ((j : ℕ) → Fits w8 (getD l j 0)) → Fits w64 (256 * getD l i 0)
-upper-fits l i h = omega (arith, h i)
-
--- A two-byte number.
-pub two-fit : (l : List ℕ) (i k : ℕ) → ((j : ℕ) → Fits w8 (getD l j 0)) → Fits w64 (getD l i 0 + 256 * getD l k 0)
-two-fit l i k h = omega (arith, h i, h k)
-
--- What two bytes spell.
-pub two-read : (l : List ℕ) (p : ℕ) → ((j : ℕ) → Fits w8 (getD l j 0)) → Small 65535 (getD l p 0 + 256 * getD l (p + 1) 0) (number-at 2 l p)
+-- A number that is read has two bytes.
+pub two-small : (l : List ℕ) (p r : ℕ) → ((j : ℕ) → Fits w8 (getD l j 0)) → r ≡ number-at 2 l p → Small 65535 r (number-at 2 l p)
 unfolding number-at
-two-read l p h = record { is = omega arith; within = omega (arith, h p, h (p + 1)) }
+two-small l p r h e = record { is = e; within = omega (arith, h p, h (p + 1)) }
 
--- what a list has after two stores
-abbrev stored : List ℕ → ℕ → ℕ → List ℕ
-stored l p v = set (set l p (v % 256)) (p + 1) (v / 256 % 256)
-
-other-byte : (l : List ℕ) (p v q : ℕ) → (q ≡ p → ⊥) → (q ≡ p + 1 → ⊥) → byte-at (stored l p v) q ≡ byte-at l q
-other-byte l p v q e f =
-    getD-set-other (set l p (v % 256)) (p + 1) q (v / 256 % 256) 0 f ∙ getD-set-other l p q (v % 256) 0 e
-
--- Two stores put a number.
-pub two-put : (l : List ℕ) (p v : ℕ) → p + 1 < length l → v < 65536 → Put l p v (set (set l p (v % 256)) (p + 1) (v / 256 % 256))
-unfolding number-at
-two-put l p v lt small =
+-- A number that is stored is put.
+pub two-put : (l : List ℕ) (p v : ℕ) (z : List ℕ) → p + 1 < length l → v < 65536 → z ≡ sets l p (number-bytes 2 v) → Put l p v z
+two-put l p v z lt small e =
     record {
-      here = omega (arith, low, high);
-      below =
-          λ q le. omega (
-            arith,
-            other-byte l p v q (λ e. omega arith) (λ e. omega arith),
-            other-byte l p v (q + 1) (λ e. omega arith) (λ e. omega arith),
-          );
-      above =
-          λ q le. omega (
-            arith,
-            other-byte l p v q (λ e. omega arith) (λ e. omega arith),
-            other-byte l p v (q + 1) (λ e. omega arith) (λ e. omega arith),
-          );
-      front = λ m le. take-set-le m (set l p (v % 256)) (p + 1) (v / 256 % 256) (omega arith) ∙ take-set-le m l p (v % 256) le;
+      here = ap (λ x. number-at 2 x p) e ∙ stored-read l p v lt small;
+      below = λ q le. ap (λ x. number-at 2 x q) e ∙ stored-beside l p v q (inl (omega arith));
+      above = λ q le. ap (λ x. number-at 2 x q) e ∙ stored-beside l p v q (inr (omega arith));
+      front = λ m le. ap (take m) e ∙ take-stored m l p v le;
     }
-  where
-    low : byte-at (stored l p v) p ≡ v % 256
-    low =
-        getD-set-other (set l p (v % 256)) (p + 1) p (v / 256 % 256) 0 (λ e. omega arith)
-        ∙ getD-set-same l p (v % 256) 0 (omega arith)
-
-    high : byte-at (stored l p v) (p + 1) ≡ v / 256 % 256
-    high = getD-set-same (set l p (v % 256)) (p + 1) (v / 256 % 256) 0 (rw (length-set l p (v % 256)) lt)
 
 -- At first nothing is cleared.
 pub cleared-start : (l : List ℕ) (p : ℕ) → Cleared l p 0 l

@@ -10,9 +10,9 @@ use lib.ListN.{take}
 use lib.Seq.{take-take}
 use Rattle.base.specs.Bytes.{number-at}
 use Rattle.base.proofs.Lists.{never-both}
-use Rattle.pair_graph.specs.Steps.{class-in, kept-in}
+use Rattle.pair_graph.specs.Steps.{class-in, safe-in, FlaggedGraph}
 use Rattle.row_classes.specs.View.{old-part, new-in, link-in, head-in, View, view-of, buckets, bucket-of}
-use Rattle.row_classes.specs.Passes.{Small, Put, Cleared, Readable, Given, Tells, Found, Passed, Entered}
+use Rattle.row_classes.specs.Passes.{Small, Put, Cleared, Tells, Found, Passed, Entered}
 use Rattle.row_classes.specs.Passes.{AdoptedOne, Adopted}
 use Rattle.row_classes.proofs.Turns.{one-more, Walking, walk-start, walk-on, walk-falls, walk-found, walk-end, found-most}
 use Rattle.row_classes.proofs.Turns.{numbered-start, numbered-more, numbered-skip, bucket-small}
@@ -21,19 +21,8 @@ use Rattle.row_classes.proofs.Turns.{chained-start, chained-more, chain
 -- ---- what there is to read
 
 -- The flag that is read is set.
-pub kept-true : (flags : List ℕ) (i : ℕ) (r : Bool) → r ≡ kept-in flags i → r ≡ true → kept-in flags i ≡ true
-kept-true flags i r e f = sym e ∙ f
-
--- Pair i can be read.
-pub readable-last : (steps flags entries : List ℕ) (actions i : ℕ) → Given steps flags entries actions (i + 1) → kept-in flags i ≡ true
-    → Readable steps flags entries actions i
-readable-last steps flags entries actions i h e = h .readable i (omega arith) e
-
--- What is given for n pairs is given for fewer.
-pub given-less : (steps flags entries : List ℕ) (actions n i : ℕ) → Given steps flags entries actions n → i < n
-    → Given steps flags entries actions (i + 1)
-given-less steps flags entries actions n i h l =
-    record { pairs-most = omega arith; flags-room = omega arith; readable = λ k less e. h .readable k (omega arith) e }
+pub safe-true : (flags : List ℕ) (i : ℕ) (r : Bool) → r ≡ safe-in flags i → r ≡ true → safe-in flags i ≡ true
+safe-true flags i r e f = sym e ∙ f
 
 -- ---- the walk
 
@@ -41,23 +30,23 @@ given-less steps flags entries actions n i h l =
 pred-suc : (at : ℕ) → 0 < at → at ≡ suc (at - 1)
 pred-suc at l = omega arith
 
-module _ (steps flags entries : List ℕ) (actions : ℕ) (area : List ℕ) (i h : ℕ)
-    (passed : Passed steps flags entries actions (old-part area) i area)
-    (in-h : h ≡ bucket-of (view-of steps flags entries actions (old-part area)) i) where
+module _ (graph flags : List ℕ) (actions : ℕ) (area : List ℕ) (i h : ℕ)
+    (passed : Passed graph flags actions (old-part area) i area)
+    (in-h : h ≡ bucket-of (view-of graph flags actions (old-part area)) i) where
   -- the view, and the walk in it
   abbrev here : View
-  here = view-of steps flags entries actions (old-part area)
+  here = view-of graph flags actions (old-part area)
 
   -- The walk begins.
   pub begin-walk : (at : ℕ) → Small 65535 at (number-at 2 area (6000 + 2 * h)) → h < 1021
-      → Walking (view-of steps flags entries actions (old-part area)) i h at
+      → Walking (view-of graph flags actions (old-part area)) i h at
   begin-walk at s l = walk-start here (link-in area) (head-in area) i h (passed .chained) in-h at (s .is) l
 
-  module _ (at : ℕ) (w : Walking (view-of steps flags entries actions (old-part area)) i h at) (more : 0 < at) (r : Bool)
-      (tells : Tells (view-of steps flags entries actions (old-part area)) (at - 1) i r) where
+  module _ (at : ℕ) (w : Walking (view-of graph flags actions (old-part area)) i h at) (more : 0 < at) (r : Bool)
+      (tells : Tells (view-of graph flags actions (old-part area)) (at - 1) i r) where
     -- It goes on.
     pub keep-walking : (next : ℕ) → r ≡ false → Small 65535 next (number-at 2 area (4000 + 2 * (at - 1)))
-        → Walking (view-of steps flags entries actions (old-part area)) i h next
+        → Walking (view-of graph flags actions (old-part area)) i h next
     keep-walking next e s =
         walk-on here (link-in area) (head-in area) i h (passed .chained) in-h at (at - 1) next w (pred-suc at more) (s .is)
         (tells .other e)
@@ -69,23 +58,26 @@ module _ (steps flags entries : List ℕ) (actions : ℕ) (area : List ℕ) (i h
 
     -- A pair that looks the same.
     pub walk-hit : (c : ℕ) → r ≡ true → Small 65535 c (number-at 2 area (2000 + 2 * (at - 1)))
-        → Found (view-of steps flags entries actions (old-part area)) (new-in area) i c
+        → Found (view-of graph flags actions (old-part area)) (new-in area) i c
     walk-hit c e s =
         walk-found here (link-in area) (head-in area) i h (passed .chained) in-h (new-in area) at (at - 1) c w (pred-suc at more)
         (s .is) (tells .same e)
 
   -- No pair looks the same.
-  pub walk-over : (at : ℕ) → Walking (view-of steps flags entries actions (old-part area)) i h at → at ≤ 0
-      → Found (view-of steps flags entries actions (old-part area)) (new-in area) i i
+  pub walk-over : (at : ℕ) → Walking (view-of graph flags actions (old-part area)) i h at → at ≤ 0
+      → Found (view-of graph flags actions (old-part area)) (new-in area) i i
   walk-over at w l = walk-end here (link-in area) (head-in area) i h (passed .chained) in-h (new-in area) at w l
 
--- The member that the walk has come to can be read.
-pub walk-readable : (steps flags entries : List ℕ) (actions : ℕ) (classes : List ℕ) (i h at : ℕ)
-    → Given steps flags entries actions (i + 1) → Walking (view-of steps flags entries actions classes) i h at → 0 < at
-    → Readable steps flags entries actions (at - 1)
-unfolding view-of
-walk-readable steps flags entries actions classes i h at g w l =
-    let m = w .node (at - 1) (pred-suc at l) in g .readable (at - 1) (omega arith) (m .is-kept)
+-- The member that the walk has come to is one of the pairs.
+pub walk-below : (v : View) (i h at pairs : ℕ) → Walking v i h at → i < pairs → 0 < at → at - 1 < pairs
+walk-below v i h at pairs w l more =
+    let m = w .node (at - 1) (pred-suc at more) in omega (arith, m .there)
+
+-- It is one of a thousand.
+pub walk-small : (v : View) (i h at pairs actions : ℕ) (graph flags : List ℕ) → FlaggedGraph pairs actions graph flags → Walking v i h at
+    → i < pairs → 0 < at → at - 1 < 1000
+walk-small v i h at pairs actions graph flags held w l more =
+    omega (arith, walk-below v i h at pairs w l more, held .graph .pairs-most)
 
 -- ---- one pair
 
@@ -117,20 +109,20 @@ entered a x y z i h c b l s p q r =
           | no more ↦ (let far : h < g = omega (arith, e) in r .above (6000 + 2 * g) (omega arith) ∙ before g)
         ]
 
-module _ (steps flags entries : List ℕ) (actions : ℕ) (classes : List ℕ) (i : ℕ) (area : List ℕ)
-    (passed : Passed steps flags entries actions classes i area) where
+module _ (graph flags : List ℕ) (actions : ℕ) (classes : List ℕ) (i : ℕ) (area : List ℕ)
+    (passed : Passed graph flags actions classes i area) where
   -- The new class that is found fits two bytes.
-  pub found-short : (c : ℕ) → kept-in flags i ≡ true → Given steps flags entries actions (i + 1)
-      → Found (view-of steps flags entries actions classes) (new-in area) i c → c < 65536
+  pub found-short : (c pairs : ℕ) → safe-in flags i ≡ true → FlaggedGraph pairs actions graph flags → i < pairs
+      → Found (view-of graph flags actions classes) (new-in area) i c → c < 65536
   unfolding view-of
-  found-short c e l f =
-      omega (arith, found-most (view-of steps flags entries actions classes) (new-in area) i c (passed .numbered) e f)
+  found-short c pairs e held l f =
+      omega (arith, held .graph .pairs-most, found-most (view-of graph flags actions classes) (new-in area) i c (passed .numbered) e f)
 
   -- A pair that is not kept is passed over.
-  pub passed-skip : (r : Bool) → r ≡ kept-in flags i → r ≡ false → Passed steps flags entries actions classes (i + 1) area
+  pub passed-skip : (r : Bool) → r ≡ safe-in flags i → r ≡ false → Passed graph flags actions classes (i + 1) area
   unfolding view-of
   passed-skip r e f =
-      let v = view-of steps flags entries actions classes in
+      let v = view-of graph flags actions classes in
       record {
         front = passed .front;
         numbered = numbered-skip v (new-in area) i (passed .numbered) (sym e ∙ f);
@@ -138,13 +130,13 @@ module _ (steps flags entries : List ℕ) (actions : ℕ) (classes : List ℕ) (
       }
 
   -- A kept pair is entered.
-  pub passed-more : (r : Bool) (h c : ℕ) (after : List ℕ) → r ≡ kept-in flags i → r ≡ true
-      → h ≡ bucket-of (view-of steps flags entries actions classes) i
-      → Found (view-of steps flags entries actions classes) (new-in area) i c → Entered area i h c after
-      → Passed steps flags entries actions classes (i + 1) after
+  pub passed-more : (r : Bool) (h c : ℕ) (after : List ℕ) → r ≡ safe-in flags i → r ≡ true
+      → h ≡ bucket-of (view-of graph flags actions classes) i
+      → Found (view-of graph flags actions classes) (new-in area) i c → Entered area i h c after
+      → Passed graph flags actions classes (i + 1) after
   unfolding view-of
   passed-more r h c after e f in-h found en =
-      let v = view-of steps flags entries actions classes in
+      let v = view-of graph flags actions classes in
       let small : h < buckets = subst (λ x. x < buckets) (sym in-h) (bucket-small v i) in
       record {
         front = en .front ∙ passed .front;
@@ -161,10 +153,10 @@ bucket-below v i h e = subst (λ x. x < buckets) (sym e) (bucket-small v i)
 -- ---- all pairs
 
 -- The pass begins with empty buckets.
-pub pass-start : (steps flags entries : List ℕ) (actions : ℕ) (area after : List ℕ) → Cleared area 6000 1021 after
-    → Passed steps flags entries actions (old-part area) 0 after
-pass-start steps flags entries actions area after c =
-    let v = view-of steps flags entries actions (old-part area) in
+pub pass-start : (graph flags : List ℕ) (actions : ℕ) (area after : List ℕ) → Cleared area 6000 1021 after
+    → Passed graph flags actions (old-part area) 0 after
+pass-start graph flags actions area after c =
+    let v = view-of graph flags actions (old-part area) in
     record {
       front =
           sym (take-take 2000 6000 after (omega arith)) ∙ ap (take 2000) (c .front) ∙ take-take 2000 6000 area (omega arith);
@@ -173,36 +165,36 @@ pass-start steps flags entries actions area after c =
     }
 
 -- What a call for pair i asks for,
-pub passed-here : (steps flags entries : List ℕ) (actions : ℕ) (classes : List ℕ) (i : ℕ) (area : List ℕ)
-    → Passed steps flags entries actions classes i area → Passed steps flags entries actions (old-part area) i area
-passed-here steps flags entries actions classes i area p =
-    subst (λ l. Passed steps flags entries actions l i area) (sym (p .front)) p
+pub passed-here : (graph flags : List ℕ) (actions : ℕ) (classes : List ℕ) (i : ℕ) (area : List ℕ)
+    → Passed graph flags actions classes i area → Passed graph flags actions (old-part area) i area
+passed-here graph flags actions classes i area p =
+    subst (λ l. Passed graph flags actions l i area) (sym (p .front)) p
 
 -- and what it gives.
-pub passed-on : (steps flags entries : List ℕ) (actions : ℕ) (classes : List ℕ) (i : ℕ) (area after : List ℕ)
-    → Passed steps flags entries actions classes i area → Passed steps flags entries actions (old-part area) (i + 1) after
-    → Passed steps flags entries actions classes (i + 1) after
-passed-on steps flags entries actions classes i area after p q =
-    subst (λ l. Passed steps flags entries actions l (i + 1) after) (p .front) q
+pub passed-on : (graph flags : List ℕ) (actions : ℕ) (classes : List ℕ) (i : ℕ) (area after : List ℕ)
+    → Passed graph flags actions classes i area → Passed graph flags actions (old-part area) (i + 1) after
+    → Passed graph flags actions classes (i + 1) after
+passed-on graph flags actions classes i area after p q =
+    subst (λ l. Passed graph flags actions l (i + 1) after) (p .front) q
 
 -- The loop begins where the buckets are empty.
-pub pass-loop : (steps flags entries : List ℕ) (actions : ℕ) (area after : List ℕ) → Cleared area 6000 1021 after
-    → Passed steps flags entries actions (old-part after) 0 after
-pass-loop steps flags entries actions area after c =
-    passed-here steps flags entries actions (old-part area) 0 after (pass-start steps flags entries actions area after c)
+pub pass-loop : (graph flags : List ℕ) (actions : ℕ) (area after : List ℕ) → Cleared area 6000 1021 after
+    → Passed graph flags actions (old-part after) 0 after
+pass-loop graph flags actions area after c =
+    passed-here graph flags actions (old-part area) 0 after (pass-start graph flags actions area after c)
 
 -- At its end every pair has been passed.
-pub pass-end : (steps flags entries : List ℕ) (actions : ℕ) (area after last : List ℕ) (n i : ℕ) → Cleared area 6000 1021 after
-    → Passed steps flags entries actions (old-part after) i last → i ≤ n → n ≤ i
-    → Passed steps flags entries actions (old-part area) n last
-pass-end steps flags entries actions area after last n i c p le ge =
+pub pass-end : (graph flags : List ℕ) (actions : ℕ) (area after last : List ℕ) (n i : ℕ) → Cleared area 6000 1021 after
+    → Passed graph flags actions (old-part after) i last → i ≤ n → n ≤ i
+    → Passed graph flags actions (old-part area) n last
+pass-end graph flags actions area after last n i c p le ge =
     let same : i ≡ n = omega arith in
-    let q = subst (λ k. Passed steps flags entries actions (old-part after) k last) same p in
-    subst (λ l. Passed steps flags entries actions l n last) (pass-start steps flags entries actions area after c .front) q
+    let q = subst (λ k. Passed graph flags actions (old-part after) k last) same p in
+    subst (λ l. Passed graph flags actions l n last) (pass-start graph flags actions area after c .front) q
 
 -- ---- the new classes become the classes
 
-module _ (flags : List ℕ) (i : ℕ) (area : List ℕ) (r : Bool) (is : r ≡ kept-in flags i) where
+module _ (flags : List ℕ) (i : ℕ) (area : List ℕ) (r : Bool) (is : r ≡ safe-in flags i) where
   -- A pair that is not kept stays as it is.
   pub adopt-skip : r ≡ false → AdoptedOne flags i area 0 area
   adopt-skip f =
@@ -216,7 +208,7 @@ module _ (flags : List ℕ) (i : ℕ) (area : List ℕ) (r : Bool) (is : r ≡ k
         other = λ z. absurd (omega arith);
       }
 
-  module _ (new old : ℕ) (after : List ℕ) (yes-kept : r ≡ true) (small : i < 1000) (hn : Small 65535 new (number-at 2 area (2000 + 2 * i)))
+  module _ (new old : ℕ) (after : List ℕ) (yes-safe : r ≡ true) (small : i < 1000) (hn : Small 65535 new (number-at 2 area (2000 + 2 * i)))
       (ho : Small 65535 old (number-at 2 area (2 * i))) (put : Put area (2 * i) new after) where
     elsewhere : (k : ℕ) → (k ≡ i → ⊥) → class-in after k ≡ class-in area k
     elsewhere k e =
@@ -230,7 +222,7 @@ module _ (flags : List ℕ) (i : ℕ) (area : List ℕ) (r : Bool) (is : r ≡ k
     adopt-same e =
         record {
           here = λ k. put .here ∙ hn .is;
-          gone = λ e. never-both yes-kept (is ∙ e);
+          gone = λ e. never-both yes-safe (is ∙ e);
           else = elsewhere;
           news = λ k. put .above (2000 + 2 * k) (omega arith);
           most = omega arith;
@@ -243,12 +235,12 @@ module _ (flags : List ℕ) (i : ℕ) (area : List ℕ) (r : Bool) (is : r ≡ k
     adopt-other e =
         record {
           here = λ k. put .here ∙ hn .is;
-          gone = λ e. never-both yes-kept (is ∙ e);
+          gone = λ e. never-both yes-safe (is ∙ e);
           else = elsewhere;
           news = λ k. put .above (2000 + 2 * k) (omega arith);
           most = omega arith;
           same = λ z k. absurd (omega arith);
-          other = λ z. (sym is ∙ yes-kept, λ f. e (hn .is ∙ f ∙ sym (ho .is)));
+          other = λ z. (sym is ∙ yes-safe, λ f. e (hn .is ∙ f ∙ sym (ho .is)));
         }
 
 -- At first nothing is adopted.
@@ -270,23 +262,23 @@ pub adopted-more : (flags : List ℕ) (i : ℕ) (area x z : List ℕ) (r s : ℕ
 adopted-more flags i area x z r s a o =
     record {
       here =
-          one-more (λ k. kept-in flags k ≡ true → class-in z k ≡ new-in area k) i
+          one-more (λ k. safe-in flags k ≡ true → class-in z k ≡ new-in area k) i
           (λ k l e. o .else k (λ f. omega arith) ∙ a .here k l e) (λ e. o .here e ∙ a .news i);
       gone =
-          one-more (λ k. kept-in flags k ≡ false → class-in z k ≡ class-in area k) i
+          one-more (λ k. safe-in flags k ≡ false → class-in z k ≡ class-in area k) i
           (λ k l e. o .else k (λ f. omega arith) ∙ a .gone k l e) (λ e. o .gone e ∙ a .else i (omega arith));
       else = λ k l. o .else k (λ f. omega arith) ∙ a .else k (omega arith);
       news = λ k. o .news k ∙ a .news k;
       most = omega arith;
       same =
           λ e.
-          one-more (λ k. kept-in flags k ≡ true → new-in area k ≡ class-in area k) i (a .same (omega arith))
+          one-more (λ k. safe-in flags k ≡ true → new-in area k ≡ class-in area k) i (a .same (omega arith))
           (λ p. sym (a .news i) ∙ o .same (omega arith) p ∙ a .else i (omega arith));
       other = λ l. go r l (a .other);
     }
   where
-    go : (x : ℕ) → 0 < x + s → (0 < x → (k : ℕ) × (k < i) × (kept-in flags k ≡ true) × (new-in area k ≡ class-in area k → ⊥))
-        → (k : ℕ) × (k < i + 1) × (kept-in flags k ≡ true) × (new-in area k ≡ class-in area k → ⊥)
+    go : (x : ℕ) → 0 < x + s → (0 < x → (k : ℕ) × (k < i) × (safe-in flags k ≡ true) × (new-in area k ≡ class-in area k → ⊥))
+        → (k : ℕ) × (k < i + 1) × (safe-in flags k ≡ true) × (new-in area k ≡ class-in area k → ⊥)
     go zero l f =
         let (p, q) = o .other (omega arith) in
         (i, omega arith, p, λ e. q (a .news i ∙ e ∙ sym (a .else i (omega arith))))

@@ -5,26 +5,21 @@ use mathlib.Core.Bool.{Bool, true, false}
 use mathlib.Core.List.{List}
 use lib.ListN.{length, take}
 use Rattle.base.specs.Bytes.{number-at}
-use Rattle.pair_graph.specs.Graph.{to, Classes}
-use Rattle.pair_graph.specs.Steps.{cell, move-at, class-in, kept-in}
-use Rattle.row_classes.specs.View.{old-part, new-in, link-in, head-in, pairs-graph}
+use Rattle.pair_graph.specs.Graph.{Classes}
+use Rattle.pair_graph.specs.Steps.{class-in, safe-in, graph-with, FlaggedGraph}
+use Rattle.row_classes.specs.View.{old-part, new-in, link-in, head-in}
 use Rattle.row_classes.specs.View.{View, shows-in, view-of, Alike, buckets, bucket-of}
 
 -- ---- the whole
 
--- The bytes are those of a graph of n pairs with their flags and states, and there is room to work.
-pub record Ready (steps flags entries : List ℕ) (actions n : ℕ) (area : List ℕ) : Type 0 where
-  pub pairs-most : n ≤ 1000
-  pub actions-most : actions ≤ 16
-  pub steps-room : cell n 0 ≤ length steps
-  pub flags-room : n ≤ length flags
-  pub entries-room : 62 * n ≤ length entries
+-- The area holds a graph of n pairs with their flags, and there is room to work.
+pub record Ready (graph flags : List ℕ) (actions n : ℕ) (area : List ℕ) : Type 0 where
+  pub held : FlaggedGraph n actions graph flags
   pub area-room : 8042 ≤ length area
-  pub targets : (i a j : ℕ) → i < n → kept-in flags i ≡ true → a < actions → move-at steps i a ≡ to j → j < n
 
 -- The area holds the classes, whatever the kinds of the actions; no class is above its pair.
-pub record Classified (steps flags entries : List ℕ) (actions n : ℕ) (area : List ℕ) : Type 0 where
-  pub for-kinds : (kind : ℕ → ℕ) → Classes (pairs-graph steps entries actions n kind) (kept-in flags) (class-in area)
+pub record Classified (graph flags : List ℕ) (actions n : ℕ) (area : List ℕ) : Type 0 where
+  pub for-kinds : (kind : ℕ → ℕ) → Classes (graph-with n actions kind graph) (safe-in flags) (class-in area)
   pub most : (i : ℕ) → i < n → class-in area i ≤ i
 
 -- ---- numbers
@@ -46,35 +41,12 @@ pub record Cleared (area : List ℕ) (p count : ℕ) (after : List ℕ) : Type 0
   pub zeros : (k : ℕ) → k < count → number-at 2 after (p + 2 * k) ≡ 0
   pub front : take p after ≡ take p area
 
--- ---- what is asked for to look at a pair
-
--- The bytes have what action a of pair i shows.
-pub record Shows (steps flags : List ℕ) (i a : ℕ) : Type 0 where
-  pub action : a < 16
-  pub steps-room : 32 * i + 32 ≤ length steps
-  pub target : (j : ℕ) → move-at steps i a ≡ to j → j < 1000
-  pub flags-room : (j : ℕ) → move-at steps i a ≡ to j → j < length flags
-
--- They have it for every action of pair i.
-pub record Stepping (steps flags : List ℕ) (actions i : ℕ) : Type 0 where
-  pub shows : (a : ℕ) → a < actions → Shows steps flags i a
-
--- The bytes have what is seen of pair i.
-pub record Readable (steps flags entries : List ℕ) (actions i : ℕ) : Type 0 where
-  pub small : i < 1000
-  pub entry-room : 62 * i + 2 ≤ length entries
-  pub stepping : Stepping steps flags actions i
-
--- They have it of every kept pair below n.
-pub record Given (steps flags entries : List ℕ) (actions n : ℕ) : Type 0 where
-  pub pairs-most : n ≤ 1000
-  pub flags-room : n ≤ length flags
-  pub readable : (i : ℕ) → i < n → kept-in flags i ≡ true → Readable steps flags entries actions i
+-- ---- what is seen
 
 -- the answer says whether each action shows the same of two pairs
-pub record SameSteps (steps flags classes : List ℕ) (actions i j : ℕ) (r : Bool) : Type 0 where
-  pub same : r ≡ true → (a : ℕ) → a < actions → shows-in steps flags classes i a ≡ shows-in steps flags classes j a
-  pub other : r ≡ false → ((a : ℕ) → a < actions → shows-in steps flags classes i a ≡ shows-in steps flags classes j a) → ⊥
+pub record SameSteps (graph flags classes : List ℕ) (actions i j : ℕ) (r : Bool) : Type 0 where
+  pub same : r ≡ true → (a : ℕ) → a < actions → shows-in graph flags classes i a ≡ shows-in graph flags classes j a
+  pub other : r ≡ false → ((a : ℕ) → a < actions → shows-in graph flags classes i a ≡ shows-in graph flags classes j a) → ⊥
 
 -- the answer says whether two pairs look the same
 pub record Tells (v : View) (i j : ℕ) (r : Bool) : Type 0 where
@@ -86,33 +58,33 @@ pub record Tells (v : View) (i j : ℕ) (r : Bool) : Type 0 where
 -- Pair k is one of the kept pairs below i, and belongs to bucket h.
 pub record Member (v : View) (i k h : ℕ) : Type 0 where
   pub there : k < i
-  pub is-kept : v .kept k ≡ true
+  pub is-safe : v .safe k ≡ true
   pub in-bucket : bucket-of v k ≡ h
 
 -- The buckets hold every kept pair below i: from a head along the links, each number smaller than the one before, to 0.
 pub record Chained (v : View) (link head : ℕ → ℕ) (i : ℕ) : Type 0 where
   pub heads : (h k : ℕ) → h < buckets → head h ≡ suc k → Member v i k h
-  pub links : (l k : ℕ) → l < i → v .kept l ≡ true → link l ≡ suc k → Member v l k (bucket-of v l)
-  pub all-heads : (l : ℕ) → l < i → v .kept l ≡ true → l < head (bucket-of v l)
-  pub all-links : (l k : ℕ) → l < i → v .kept l ≡ true → k < l → v .kept k ≡ true → bucket-of v k ≡ bucket-of v l → k < link l
+  pub links : (l k : ℕ) → l < i → v .safe l ≡ true → link l ≡ suc k → Member v l k (bucket-of v l)
+  pub all-heads : (l : ℕ) → l < i → v .safe l ≡ true → l < head (bucket-of v l)
+  pub all-links : (l k : ℕ) → l < i → v .safe l ≡ true → k < l → v .safe k ≡ true → bucket-of v k ≡ bucket-of v l → k < link l
 
 -- Every kept pair below i has its new class: a kept pair, not a later one, that looks the same; and one for all that look the same.
 pub record Numbered (v : View) (new : ℕ → ℕ) (i : ℕ) : Type 0 where
-  pub most : (k : ℕ) → k < i → v .kept k ≡ true → new k ≤ k
-  pub is-kept : (k : ℕ) → k < i → v .kept k ≡ true → v .kept (new k) ≡ true
-  pub alike : (k : ℕ) → k < i → v .kept k ≡ true → Alike v k (new k)
-  pub joined : (k l : ℕ) → k < i → l < i → v .kept k ≡ true → v .kept l ≡ true → Alike v k l → new k ≡ new l
+  pub most : (k : ℕ) → k < i → v .safe k ≡ true → new k ≤ k
+  pub is-safe : (k : ℕ) → k < i → v .safe k ≡ true → v .safe (new k) ≡ true
+  pub alike : (k : ℕ) → k < i → v .safe k ≡ true → Alike v k (new k)
+  pub joined : (k l : ℕ) → k < i → l < i → v .safe k ≡ true → v .safe l ≡ true → Alike v k l → new k ≡ new l
 
 -- The new class of pair i, where those below it have theirs: that of one that looks the same, or i if there is none.
 pub data Found (v : View) (new : ℕ → ℕ) (i : ℕ) : ℕ → Type 0 where
-  earlier : (k : ℕ) → k < i → v .kept k ≡ true → Alike v k i → Found v new i (new k)
-  first : ((k : ℕ) → k < i → v .kept k ≡ true → Alike v k i → ⊥) → Found v new i i
+  earlier : (k : ℕ) → k < i → v .safe k ≡ true → Alike v k i → Found v new i (new k)
+  first : ((k : ℕ) → k < i → v .safe k ≡ true → Alike v k i → ⊥) → Found v new i i
 
 -- The pass has come to pair i.
-pub record Passed (steps flags entries : List ℕ) (actions : ℕ) (classes : List ℕ) (i : ℕ) (area : List ℕ) : Type 0 where
+pub record Passed (graph flags : List ℕ) (actions : ℕ) (classes : List ℕ) (i : ℕ) (area : List ℕ) : Type 0 where
   pub front : old-part area ≡ classes
-  pub numbered : Numbered (view-of steps flags entries actions classes) (new-in area) i
-  pub chained : Chained (view-of steps flags entries actions classes) (link-in area) (head-in area) i
+  pub numbered : Numbered (view-of graph flags actions classes) (new-in area) i
+  pub chained : Chained (view-of graph flags actions classes) (link-in area) (head-in area) i
 
 -- Pair i has the new class c and stands at the head of bucket h.
 pub record Entered (area : List ℕ) (i h c : ℕ) (after : List ℕ) : Type 0 where
@@ -128,20 +100,20 @@ pub record Entered (area : List ℕ) (i h c : ℕ) (after : List ℕ) : Type 0 w
 
 -- The class of pair i is its new class, if it is kept; r is 1 if that is another than before, and else 0.
 pub record AdoptedOne (flags : List ℕ) (i : ℕ) (area : List ℕ) (r : ℕ) (after : List ℕ) : Type 0 where
-  pub here : kept-in flags i ≡ true → class-in after i ≡ new-in area i
-  pub gone : kept-in flags i ≡ false → class-in after i ≡ class-in area i
+  pub here : safe-in flags i ≡ true → class-in after i ≡ new-in area i
+  pub gone : safe-in flags i ≡ false → class-in after i ≡ class-in area i
   pub else : (k : ℕ) → (k ≡ i → ⊥) → class-in after k ≡ class-in area k
   pub news : (k : ℕ) → new-in after k ≡ new-in area k
   pub most : r ≤ 1
-  pub same : r ≡ 0 → kept-in flags i ≡ true → new-in area i ≡ class-in area i
-  pub other : r ≡ 1 → (kept-in flags i ≡ true) × (new-in area i ≡ class-in area i → ⊥)
+  pub same : r ≡ 0 → safe-in flags i ≡ true → new-in area i ≡ class-in area i
+  pub other : r ≡ 1 → (safe-in flags i ≡ true) × (new-in area i ≡ class-in area i → ⊥)
 
 -- The same of every pair below i; r says how many are other than before.
 pub record Adopted (flags : List ℕ) (i : ℕ) (area : List ℕ) (r : ℕ) (after : List ℕ) : Type 0 where
-  pub here : (k : ℕ) → k < i → kept-in flags k ≡ true → class-in after k ≡ new-in area k
-  pub gone : (k : ℕ) → k < i → kept-in flags k ≡ false → class-in after k ≡ class-in area k
+  pub here : (k : ℕ) → k < i → safe-in flags k ≡ true → class-in after k ≡ new-in area k
+  pub gone : (k : ℕ) → k < i → safe-in flags k ≡ false → class-in after k ≡ class-in area k
   pub else : (k : ℕ) → i ≤ k → class-in after k ≡ class-in area k
   pub news : (k : ℕ) → new-in after k ≡ new-in area k
   pub most : r ≤ i
-  pub same : r ≡ 0 → (k : ℕ) → k < i → kept-in flags k ≡ true → new-in area k ≡ class-in area k
-  pub other : 0 < r → (k : ℕ) × (k < i) × (kept-in flags k ≡ true) × (new-in area k ≡ class-in area k → ⊥)
+  pub same : r ≡ 0 → (k : ℕ) → k < i → safe-in flags k ≡ true → new-in area k ≡ class-in area k
+  pub other : 0 < r → (k : ℕ) × (k < i) × (safe-in flags k ≡ true) × (new-in area k ≡ class-in area k → ⊥)

@@ -6,8 +6,7 @@ use mathlib.Core.Option.{Option, none, some}
 use mathlib.Core.List.{List}
 use lib.ListN.{take}
 use Rattle.base.specs.Bytes.{number-at}
-use Rattle.pair_graph.specs.Graph.{Graph, allowed-to}
-use Rattle.pair_graph.specs.Steps.{move-at, class-in, kept-in, state-in, graph-with}
+use Rattle.pair_graph.specs.Steps.{class-in, safe-in, state-in, led-to}
 
 -- ---- the parts of the area in which a pass works
 
@@ -29,14 +28,10 @@ head-in area h = number-at 2 area (6000 + 2 * h)
 
 -- ---- what is seen
 
--- The graph of n pairs in the bytes.
-abbrev pub pairs-graph : List ℕ → List ℕ → ℕ → ℕ → (ℕ → ℕ) → Graph
-pairs-graph steps entries actions n kind = graph-with n actions (state-in entries) kind steps
-
 -- What is seen of the pairs.
 pub record View : Type 0 where
   pub actions : ℕ
-  pub kept : ℕ → Bool
+  pub safe : ℕ → Bool
   pub state : ℕ → ℕ
   pub class : ℕ → ℕ
   -- what action a of pair i shows
@@ -49,17 +44,17 @@ shown class (some j) = class j + 1
 
 -- what action a of pair i shows, with the classes in the given bytes
 unfoldable pub shows-in : List ℕ → List ℕ → List ℕ → ℕ → ℕ → ℕ
-shows-in steps flags classes i a = shown (class-in classes) (allowed-to (kept-in flags) (move-at steps i a))
+shows-in graph flags classes i a = shown (class-in classes) (led-to graph flags i a)
 
 -- What is seen with the classes in the given bytes.
-unfoldable pub view-of : List ℕ → List ℕ → List ℕ → ℕ → List ℕ → View
-view-of steps flags entries actions classes =
+unfoldable pub view-of : List ℕ → List ℕ → ℕ → List ℕ → View
+view-of graph flags actions classes =
     record {
       actions = actions;
-      kept = kept-in flags;
-      state = state-in entries;
+      safe = safe-in flags;
+      state = state-in graph;
       class = class-in classes;
-      shows = shows-in steps flags classes;
+      shows = shows-in graph flags classes;
     }
 
 -- Two pairs look the same.

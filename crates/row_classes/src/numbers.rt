@@ -9,7 +9,7 @@ pub fn number(bytes: &[u8], p: usize) -> usize
     requires { ⌜ p + 1 < length (now bytes) ⌝ }
     ensures { λ r. ⌜ Small 65535 r (number-at 2 (now (bytes .entry)) p) ⌝ }
 {
-    bytes[p] as usize + 256 * (bytes[p + 1] as usize)
+    lent_bytes::two_bytes(bytes, p)
 }
 
 // Writes v at p.
@@ -18,8 +18,7 @@ pub fn put(bytes: &mut [u8], p: usize, v: usize)
     requires { ⌜ v < 65536 ⌝ }
     ensures { λ r. ⌜ Put (now (bytes .entry)) p v (now (bytes .exit)) ⌝ }
 {
-    bytes[p] = (v % 256) as u8;
-    bytes[p + 1] = (v / 256 % 256) as u8;
+    lent_bytes::put_two_bytes(bytes, p, v);
 }
 
 // Writes 0 for each of the `count` numbers from p on.

@@ -3,9 +3,9 @@ ghost use Prim.Native.Nat.{_+_, _<_, _≤_};
 ghost use mathlib.Core.Path.{_≡_};
 ghost use mathlib.Core.Bool.{true};
 ghost use lib.ListN.{length};
-ghost use Rattle.pair_graph.specs.Steps.{kept-in};
+ghost use Rattle.pair_graph.specs.Steps.{safe-in, FlaggedGraph};
 ghost use Rattle.row_classes.specs.View.{view-of, bucket-of, old-part, new-in};
-ghost use Rattle.row_classes.specs.Passes.{Given, Found, Passed, Entered, AdoptedOne, Adopted};
+ghost use Rattle.row_classes.specs.Passes.{Found, Passed, Entered, AdoptedOne, Adopted};
 use crate::numbers;
 use crate::view;
 
@@ -19,26 +19,27 @@ const HEADS: usize = 6000;
 
 // The new class of pair i: that of an earlier pair that looks the same, or i if there is none. The bucket of pair i has all that can.
 fn found(
-    steps: &[u8],
+    graph: &[u8],
     flags: &[u8],
-    entries: &[u8],
+    pairs: usize,
     actions: usize,
     area: &[u8],
     i: usize,
     h: usize,
 ) -> usize
-    requires { ⌜ Given (now steps) (now flags) (now entries) actions (i + 1) ⌝ }
-    requires { ⌜ Passed (now steps) (now flags) (now entries) actions (old-part (now area)) i (now area) ⌝ }
-    requires { ⌜ kept-in (now flags) i ≡ true ⌝ }
+    requires { ⌜ FlaggedGraph pairs actions (now graph) (now flags) ⌝ }
+    requires { ⌜ i < pairs ⌝ }
+    requires { ⌜ Passed (now graph) (now flags) actions (old-part (now area)) i (now area) ⌝ }
+    requires { ⌜ safe-in (now flags) i ≡ true ⌝ }
     requires { ⌜ h < 1021 ⌝ }
-    requires { ⌜ h ≡ bucket-of (view-of (now steps) (now flags) (now entries) actions (old-part (now area))) i ⌝ }
+    requires { ⌜ h ≡ bucket-of (view-of (now graph) (now flags) actions (old-part (now area))) i ⌝ }
     requires { ⌜ 8042 ≤ length (now area) ⌝ }
-    ensures { λ r. ⌜ Found (view-of (now (steps .entry)) (now (flags .entry)) (now (entries .entry)) actions (old-part (now (area .entry)))) (new-in (now (area .entry))) i r ⌝ }
+    ensures { λ r. ⌜ Found (view-of (now (graph .entry)) (now (flags .entry)) actions (old-part (now (area .entry)))) (new-in (now (area .entry))) i r ⌝ }
 {
     let mut at = numbers::number(area, HEADS + 2 * h);
     while 0 < at {
         let k = at - 1;
-        if view::alike(steps, flags, entries, actions, area, k, i) {
+        if view::alike(graph, flags, pairs, actions, area, k, i) {
             return numbers::number(area, NEW + 2 * k);
         }
         at = numbers::number(area, LINKS + 2 * k);
@@ -60,50 +61,44 @@ fn enter(area: &mut [u8], i: usize, h: usize, c: usize)
     numbers::put(area, HEADS + 2 * h, i + 1);
 }
 
-// Pair i gets its new class, if it is kept.
-fn place(steps: &[u8], flags: &[u8], entries: &[u8], actions: usize, i: usize, area: &mut [u8])
-    requires { ⌜ Given (now steps) (now flags) (now entries) actions (i + 1) ⌝ }
-    requires { ⌜ Passed (now steps) (now flags) (now entries) actions (old-part (now area)) i (now area) ⌝ }
+// Pair i gets its new class, if it is safe.
+fn place(graph: &[u8], flags: &[u8], pairs: usize, actions: usize, i: usize, area: &mut [u8])
+    requires { ⌜ FlaggedGraph pairs actions (now graph) (now flags) ⌝ }
+    requires { ⌜ i < pairs ⌝ }
+    requires { ⌜ Passed (now graph) (now flags) actions (old-part (now area)) i (now area) ⌝ }
     requires { ⌜ 8042 ≤ length (now area) ⌝ }
-    ensures { λ r. ⌜ Passed (now (steps .entry)) (now (flags .entry)) (now (entries .entry)) actions (old-part (now (area .entry))) (i + 1) (now (area .exit)) ⌝ }
+    ensures { λ r. ⌜ Passed (now (graph .entry)) (now (flags .entry)) actions (old-part (now (area .entry))) (i + 1) (now (area .exit)) ⌝ }
 {
-    if !view::kept(flags, i) {
+    if !pair_graph::is_safe(flags, i) {
         return;
     }
-    let h = view::bucket(steps, flags, entries, actions, area, i);
-    let c = found(steps, flags, entries, actions, area, i, h);
+    let h = view::bucket(graph, flags, pairs, actions, area, i);
+    let c = found(graph, flags, pairs, actions, area, i, h);
     enter(area, i, h, c);
 }
 
-// Every kept pair gets its new class.
-pub fn renumber(
-    steps: &[u8],
-    flags: &[u8],
-    entries: &[u8],
-    actions: usize,
-    n: usize,
-    area: &mut [u8],
-)
-    requires { ⌜ Given (now steps) (now flags) (now entries) actions n ⌝ }
+// Every safe pair gets its new class.
+pub fn renumber(graph: &[u8], flags: &[u8], actions: usize, n: usize, area: &mut [u8])
+    requires { ⌜ FlaggedGraph n actions (now graph) (now flags) ⌝ }
     requires { ⌜ 8042 ≤ length (now area) ⌝ }
-    ensures { λ r. ⌜ Passed (now (steps .entry)) (now (flags .entry)) (now (entries .entry)) actions (old-part (now (area .entry))) n (now (area .exit)) ⌝ }
+    ensures { λ r. ⌜ Passed (now (graph .entry)) (now (flags .entry)) actions (old-part (now (area .entry))) n (now (area .exit)) ⌝ }
 {
     numbers::clear(area, HEADS, view::BUCKETS);
     let mut i = 0;
     while i < n {
-        place(steps, flags, entries, actions, i, area);
+        place(graph, flags, n, actions, i, area);
         i += 1;
     }
 }
 
-// The new class of pair i becomes its class, if it is kept. Answers 1 if that is another than before, and else 0.
+// The new class of pair i becomes its class, if it is safe. Answers 1 if that is another than before, and else 0.
 fn adopt_one(flags: &[u8], area: &mut [u8], i: usize) -> usize
     requires { ⌜ i < 1000 ⌝ }
     requires { ⌜ i < length (now flags) ⌝ }
     requires { ⌜ 8042 ≤ length (now area) ⌝ }
     ensures { λ r. ⌜ AdoptedOne (now (flags .entry)) i (now (area .entry)) r (now (area .exit)) ⌝ }
 {
-    if !view::kept(flags, i) {
+    if !pair_graph::is_safe(flags, i) {
         return 0;
     }
     let new = numbers::number(area, NEW + 2 * i);

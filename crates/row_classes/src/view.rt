@@ -2,41 +2,24 @@
 ghost use Prim.Native.Nat.{_+_, _*_, _<_, _≤_};
 ghost use mathlib.Core.Path.{_≡_};
 ghost use lib.ListN.{length};
-ghost use Rattle.pair_graph.specs.Steps.{class-in, kept-in, state-in};
+ghost use Rattle.pair_graph.specs.Steps.{graph-size, pair-room, class-in, state-in, FlaggedGraph};
 ghost use Rattle.row_classes.specs.View.{shows-in, view-of, bucket-of, old-part};
-ghost use Rattle.row_classes.specs.Passes.{Small, Shows, Stepping, SameSteps, Readable, Tells};
+ghost use Rattle.row_classes.specs.Passes.{Small, SameSteps, Tells};
 use crate::numbers;
-
-// The bytes of an entry in the pairs area, and the actions that a pair has room for.
-const ENTRY_SIZE: usize = 62;
-
-const ACTION_ROOM: usize = 16;
-
-// The first number in `steps` that stands for a pair: 0 is 'not enabled', 1 is 'broken'.
-const FIRST_PAIR: usize = 2;
-
-// The flag of a pair that is kept.
-const KEPT: u8 = 1;
+use pair_graph::Led;
 
 // The buckets, and the factor of the hash.
 pub const BUCKETS: usize = 1021;
 
 const FACTOR: usize = 31;
 
-// Pair i is kept.
-pub fn kept(flags: &[u8], i: usize) -> bool
-    requires { ⌜ i < length (now flags) ⌝ }
-    ensures { λ r. ⌜ r ≡ kept-in (now (flags .entry)) i ⌝ }
+// The state of pair i.
+fn state(graph: &[u8], i: usize) -> usize
+    requires { ⌜ graph-size ≤ length (now graph) ⌝ }
+    requires { ⌜ i < pair-room ⌝ }
+    ensures { λ r. ⌜ Small 65535 r (state-in (now (graph .entry)) i) ⌝ }
 {
-    flags[i] == KEPT
-}
-
-// The tower state of pair i.
-fn state(entries: &[u8], i: usize) -> usize
-    requires { ⌜ 62 * i + 2 ≤ length (now entries) ⌝ }
-    ensures { λ r. ⌜ Small 65535 r (state-in (now (entries .entry)) i) ⌝ }
-{
-    numbers::number(entries, ENTRY_SIZE * i)
+    pair_graph::state(graph, i)
 }
 
 // The class of pair i.
@@ -49,32 +32,48 @@ fn class(area: &[u8], i: usize) -> usize
 }
 
 // What action a shows of pair i: the class it leads to plus 1, or 0 where it is not allowed.
-fn seen(steps: &[u8], flags: &[u8], area: &[u8], i: usize, a: usize) -> usize
-    requires { ⌜ Shows (now steps) (now flags) i a ⌝ }
+fn seen(
+    graph: &[u8],
+    flags: &[u8],
+    pairs: usize,
+    actions: usize,
+    area: &[u8],
+    i: usize,
+    a: usize,
+) -> usize
+    requires { ⌜ FlaggedGraph pairs actions (now graph) (now flags) ⌝ }
+    requires { ⌜ i < pairs ⌝ }
+    requires { ⌜ a < actions ⌝ }
     requires { ⌜ 2000 ≤ length (now area) ⌝ }
-    ensures { λ r. ⌜ Small 65536 r (shows-in (now (steps .entry)) (now (flags .entry)) (old-part (now (area .entry))) i a) ⌝ }
+    ensures { λ r. ⌜ Small 65536 r (shows-in (now (graph .entry)) (now (flags .entry)) (old-part (now (area .entry))) i a) ⌝ }
 {
-    let to = numbers::number(steps, 2 * (ACTION_ROOM * i + a));
-    if to < FIRST_PAIR {
+    let Led::To(j) = pair_graph::allowed(graph, flags, pairs, actions, i, a) else {
         return 0;
-    }
-    let j = to - FIRST_PAIR;
-    if !kept(flags, j) {
-        return 0;
-    }
+    };
     class(area, j) + 1
 }
 
 // Each action shows the same of pairs i and j.
-fn same_steps(steps: &[u8], flags: &[u8], actions: usize, area: &[u8], i: usize, j: usize) -> bool
-    requires { ⌜ Stepping (now steps) (now flags) actions i ⌝ }
-    requires { ⌜ Stepping (now steps) (now flags) actions j ⌝ }
+fn same_steps(
+    graph: &[u8],
+    flags: &[u8],
+    pairs: usize,
+    actions: usize,
+    area: &[u8],
+    i: usize,
+    j: usize,
+) -> bool
+    requires { ⌜ FlaggedGraph pairs actions (now graph) (now flags) ⌝ }
+    requires { ⌜ i < pairs ⌝ }
+    requires { ⌜ j < pairs ⌝ }
     requires { ⌜ 2000 ≤ length (now area) ⌝ }
-    ensures { λ r. ⌜ SameSteps (now (steps .entry)) (now (flags .entry)) (old-part (now (area .entry))) actions i j r ⌝ }
+    ensures { λ r. ⌜ SameSteps (now (graph .entry)) (now (flags .entry)) (old-part (now (area .entry))) actions i j r ⌝ }
 {
     let mut a = 0;
     while a < actions {
-        if seen(steps, flags, area, i, a) != seen(steps, flags, area, j, a) {
+        if seen(graph, flags, pairs, actions, area, i, a)
+            != seen(graph, flags, pairs, actions, area, j, a)
+        {
             return false;
         }
         a += 1;
@@ -84,45 +83,47 @@ fn same_steps(steps: &[u8], flags: &[u8], actions: usize, area: &[u8], i: usize,
 
 // Pairs i and j look the same: equal state, equal class, and each action shows the same.
 pub fn alike(
-    steps: &[u8],
+    graph: &[u8],
     flags: &[u8],
-    entries: &[u8],
+    pairs: usize,
     actions: usize,
     area: &[u8],
     i: usize,
     j: usize,
 ) -> bool
-    requires { ⌜ Readable (now steps) (now flags) (now entries) actions i ⌝ }
-    requires { ⌜ Readable (now steps) (now flags) (now entries) actions j ⌝ }
+    requires { ⌜ FlaggedGraph pairs actions (now graph) (now flags) ⌝ }
+    requires { ⌜ i < pairs ⌝ }
+    requires { ⌜ j < pairs ⌝ }
     requires { ⌜ 2000 ≤ length (now area) ⌝ }
-    ensures { λ r. ⌜ Tells (view-of (now (steps .entry)) (now (flags .entry)) (now (entries .entry)) actions (old-part (now (area .entry)))) i j r ⌝ }
+    ensures { λ r. ⌜ Tells (view-of (now (graph .entry)) (now (flags .entry)) actions (old-part (now (area .entry)))) i j r ⌝ }
 {
-    if state(entries, i) != state(entries, j) {
+    if state(graph, i) != state(graph, j) {
         return false;
     }
     if class(area, i) != class(area, j) {
         return false;
     }
-    same_steps(steps, flags, actions, area, i, j)
+    same_steps(graph, flags, pairs, actions, area, i, j)
 }
 
 // The bucket of pair i: one and the same for pairs that look the same.
 pub fn bucket(
-    steps: &[u8],
+    graph: &[u8],
     flags: &[u8],
-    entries: &[u8],
+    pairs: usize,
     actions: usize,
     area: &[u8],
     i: usize,
 ) -> usize
-    requires { ⌜ Readable (now steps) (now flags) (now entries) actions i ⌝ }
+    requires { ⌜ FlaggedGraph pairs actions (now graph) (now flags) ⌝ }
+    requires { ⌜ i < pairs ⌝ }
     requires { ⌜ 2000 ≤ length (now area) ⌝ }
-    ensures { λ r. ⌜ r ≡ bucket-of (view-of (now (steps .entry)) (now (flags .entry)) (now (entries .entry)) actions (old-part (now (area .entry)))) i ⌝ }
+    ensures { λ r. ⌜ r ≡ bucket-of (view-of (now (graph .entry)) (now (flags .entry)) actions (old-part (now (area .entry)))) i ⌝ }
 {
-    let mut sum = (state(entries, i) * FACTOR + class(area, i)) % BUCKETS;
+    let mut sum = (state(graph, i) * FACTOR + class(area, i)) % BUCKETS;
     let mut next = 0;
     while next < actions {
-        sum = (sum * FACTOR + seen(steps, flags, area, i, next)) % BUCKETS;
+        sum = (sum * FACTOR + seen(graph, flags, pairs, actions, area, i, next)) % BUCKETS;
         next += 1;
     }
     sum

@@ -7,11 +7,11 @@ use lib.ListN.{length}
 use Rattle.base.specs.Choice.{pick}
 use Rattle.base.specs.Lists.{below}
 use Rattle.base.specs.Answers.{Answer, give, _if_else_}
-use Rattle.base.specs.declared.Reason.the-variants.{Start, Withheld, Step, Stopped, Broken}
+use Rattle.base.specs.declared.Reason.the-variants.{Start, Withheld, WrongStep, Stopped, Broken}
 use Rattle.base.specs.declared.Refusal.the-variants.{Pairs, NotGood}
 use Rattle.logic.specs.Tower.{Tower}
 use Rattle.logic.specs.Book.{Book}
-use Rattle.logic.specs.Tables.{Table}
+use Rattle.logic.specs.Tables.{Table, rows-tower}
 use Rattle.outcome.specs.Check.{wrong-start, stopped, judge-row, judge-rows, over-items, some-broken, judge}
 use Rattle.row_judge.specs.RowVerdict.{some-withheld, some-wrong-step, row-verdict, rows-from, rows-verdict, answer-after}
 use Rattle.row_judge.specs.declared.RowVerdict.{RowVerdict}
@@ -25,9 +25,9 @@ judge-row-after tower table r v after =
     go (some-withheld tower table r) (some-wrong-step tower table r) (stopped tower table r)
   where
     go : (b c d : Bool)
-        → (NotGood (Withheld r) if b else NotGood (Step r) if c else NotGood (Stopped r) if d else answer-after v after)
+        → (NotGood (Withheld r) if b else NotGood (WrongStep r) if c else NotGood (Stopped r) if d else answer-after v after)
         ≡ answer-after
-        (pick b (λ _. Wrong (Withheld r)) (λ _. pick c (λ _. Wrong (Step r)) (λ _. pick d (λ _. Wrong (Stopped r)) (λ _. v)))) after
+        (pick b (λ _. Wrong (Withheld r)) (λ _. pick c (λ _. Wrong (WrongStep r)) (λ _. pick d (λ _. Wrong (Stopped r)) (λ _. v)))) after
     go true c d = refl
     go false true d = refl
     go false false true = refl
@@ -45,12 +45,12 @@ judge-rows-after tower table (r ∷ rs) after =
 pub judge-after-rows : (tower : Tower) (book : Book) (table : Table)
     → judge tower book table
     ≡ answer-after (rows-verdict tower table)
-    (Pairs if over-items tower book table else NotGood Broken if some-broken tower book table else give tt)
+    (Pairs if over-items tower book table else NotGood Broken if some-broken (rows-tower tower table) book else give tt)
 unfolding judge rows-verdict _if_else_ answer-after
 judge-after-rows tower book table = go (wrong-start tower table)
   where
     after : Answer (Unit {0})
-    after = Pairs if over-items tower book table else NotGood Broken if some-broken tower book table else give tt
+    after = Pairs if over-items tower book table else NotGood Broken if some-broken (rows-tower tower table) book else give tt
 
     go : (b : Bool)
         → (NotGood Start if b else judge-rows tower table (below (length table)) after)

@@ -12,7 +12,7 @@ use mir.Val.{Fits}
 use Rattle.base.specs.Choice.{pick}
 use Rattle.base.specs.Lists.{some-of, every, count-from, below, is-there, there-with}
 use Rattle.base.specs.declared.Reason.{Reason}
-use Rattle.base.specs.declared.Reason.the-variants.{Start, Withheld, Step, Stopped}
+use Rattle.base.specs.declared.Reason.the-variants.{Start, Withheld, WrongStep, Stopped}
 use Rattle.logic.specs.Tower.{Tower, tower-of, controllable, goes-on}
 use Rattle.logic.specs.Tables.{Table, row-at, move}
 use Rattle.logic.specs.TableFile.{step-size}
@@ -31,16 +31,6 @@ use Rattle.row_judge.specs.RowVerdict.{Judgeable, some-withheld, some-wr
 use Rattle.row_judge.specs.declared.RowVerdict.{RowVerdict}
 use Rattle.row_judge.specs.declared.RowVerdict.the-variants.{Right, Wrong}
 use Rattle.row_judge.proofs.Scans.{Left, left-cons, left-more, left-none}
-
--- ---- kinds
-
-pub kind-ours : (kind : ℕ) → eqb kind 1 ≡ controllable kind
-unfolding controllable
-kind-ours kind = refl
-
-pub kind-goes-on : (kind : ℕ) → true ≡ goes-on kind
-unfolding goes-on
-kind-goes-on kind = refl
 
 -- ---- what the callees want
 
@@ -244,7 +234,7 @@ module _ (tower : Tower) (table : Table) (r : ℕ) (b : Bool) (is-b : b ≡ some
   row-withheld f = rw (← is-b, f)
 
   module _ (c : Bool) (no-b : b ≡ false) (is-c : c ≡ some-wrong-step tower table r) where
-    pub row-wrong-step : c ≡ true → Wrong (Step r) ≡ row-verdict tower table r Right
+    pub row-wrong-step : c ≡ true → Wrong (WrongStep r) ≡ row-verdict tower table r Right
     unfolding row-verdict
     row-wrong-step f = rw (← is-b, no-b, ← is-c, f)
 
@@ -266,8 +256,8 @@ module _ (tower : Tower) (table : Table) (r : ℕ) (v : RowVerdict) (is-v : v �
   row-leaves f = go (some-withheld tower table r) (some-wrong-step tower table r) (stopped tower table r) (sym is-v ∙ f)
     where
       go : (b c d : Bool)
-          → pick b (λ _. Wrong (Withheld r)) (λ _. pick c (λ _. Wrong (Step r)) (λ _. pick d (λ _. Wrong (Stopped r)) (λ _. Right))) ≡ Right
-          → pick b (λ _. Wrong (Withheld r)) (λ _. pick c (λ _. Wrong (Step r)) (λ _. pick d (λ _. Wrong (Stopped r)) (λ _. after))) ≡ after
+          → pick b (λ _. Wrong (Withheld r)) (λ _. pick c (λ _. Wrong (WrongStep r)) (λ _. pick d (λ _. Wrong (Stopped r)) (λ _. Right))) ≡ Right
+          → pick b (λ _. Wrong (Withheld r)) (λ _. pick c (λ _. Wrong (WrongStep r)) (λ _. pick d (λ _. Wrong (Stopped r)) (λ _. after))) ≡ after
       go true c d e = cc
       go false true d e = cc
       go false false true e = cc
@@ -279,8 +269,8 @@ module _ (tower : Tower) (table : Table) (r : ℕ) (v : RowVerdict) (is-v : v �
   row-decides q f = go (some-withheld tower table r) (some-wrong-step tower table r) (stopped tower table r) (sym is-v ∙ f)
     where
       go : (b c d : Bool)
-          → pick b (λ _. Wrong (Withheld r)) (λ _. pick c (λ _. Wrong (Step r)) (λ _. pick d (λ _. Wrong (Stopped r)) (λ _. Right))) ≡ Wrong q
-          → pick b (λ _. Wrong (Withheld r)) (λ _. pick c (λ _. Wrong (Step r)) (λ _. pick d (λ _. Wrong (Stopped r)) (λ _. after))) ≡ Wrong q
+          → pick b (λ _. Wrong (Withheld r)) (λ _. pick c (λ _. Wrong (WrongStep r)) (λ _. pick d (λ _. Wrong (Stopped r)) (λ _. Right))) ≡ Wrong q
+          → pick b (λ _. Wrong (Withheld r)) (λ _. pick c (λ _. Wrong (WrongStep r)) (λ _. pick d (λ _. Wrong (Stopped r)) (λ _. after))) ≡ Wrong q
       go true c d e = e
       go false true d e = e
       go false false true e = e

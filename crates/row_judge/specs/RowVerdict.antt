@@ -8,7 +8,7 @@ use lib.ListN.{length}
 use Rattle.base.specs.Choice.{pick}
 use Rattle.base.specs.Lists.{some-of, below}
 use Rattle.base.specs.Answers.{Answer, refuse}
-use Rattle.base.specs.declared.Reason.the-variants.{Start, Withheld, Step, Stopped}
+use Rattle.base.specs.declared.Reason.the-variants.{Start, Withheld, WrongStep, Stopped}
 use Rattle.base.specs.declared.Refusal.the-variants.{NotGood}
 use Rattle.logic.specs.Tower.{Tower, FitTower, tower-of}
 use Rattle.logic.specs.Tables.{Table, row-at}
@@ -36,7 +36,7 @@ some-wrong-step tower table r = some-of (wrong-step tower table r) (row-at table
 unfoldable pub row-verdict : Tower → Table → ℕ → RowVerdict → RowVerdict
 row-verdict tower table r after =
     pick (some-withheld tower table r) (λ _. Wrong (Withheld r)) (λ _.
-    pick (some-wrong-step tower table r) (λ _. Wrong (Step r)) (λ _.
+    pick (some-wrong-step tower table r) (λ _. Wrong (WrongStep r)) (λ _.
     pick (stopped tower table r) (λ _. Wrong (Stopped r)) (λ _. after)))
 
 -- the rows in turn

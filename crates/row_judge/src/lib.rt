@@ -2,7 +2,7 @@
 // the tower, row by row. The book has no part in it.
 ghost use Prim.Native.Nat.{_+_, _<_};
 ghost use mathlib.Core.Path.{_≡_};
-ghost use Rattle.logic.specs.Tower.{controllable, goes-on, tower-of};
+ghost use Rattle.logic.specs.Tower.{tower-of};
 ghost use Rattle.reading.specs.TableReading.{rows-of, row-first, row-count, step-of, table-of};
 ghost use Rattle.outcome.specs.Check.{wrong-start, withheld, wrong-step, stopped};
 ghost use Rattle.row_judge.specs.RowVerdict.{Judgeable, some-withheld, some-wrong-step, row-verdict, rows-verdict};
@@ -10,30 +10,12 @@ ghost use Rattle.row_judge.specs.declared.RowVerdict.the-variants.{Right
 use base::Reason;
 use table_reader::Target;
 use tower_reader::Reached;
+use tower_reader::kinds;
 
 // Whether the rows are right, or the first reason why not.
 pub enum RowVerdict {
     Right,
     Wrong(Reason),
-}
-
-// The kind of the actions that are ours.
-const OURS: usize = 1;
-
-// ---- what kinds mean
-
-// An action of this kind may be withheld.
-fn controllable(kind: usize) -> bool
-    ensures { λ b. ⌜ b ≡ controllable kind ⌝ }
-{
-    kind == OURS
-}
-
-// A row that allows an action of this kind has not stopped. Every kind counts.
-fn goes_on(kind: usize) -> bool
-    ensures { λ b. ⌜ b ≡ goes-on kind ⌝ }
-{
-    true
 }
 
 // ---- a
@@ -55,7 +37,7 @@ fn withheld(tower: &[u8], table: &[u8], r: usize, a: usize) -> bool
     requires { ⌜ a < tower-of (now tower) .actions ⌝ }
     ensures { λ b. ⌜ b ≡ withheld (tower-of (now (tower .entry))) (table-of (now (table .entry))) r a ⌝ }
 {
-    if controllable(tower_reader::kind(tower, a)) {
+    if kinds::controllable(tower_reader::kind(tower, a)) {
         return false;
     }
     let reached = tower_reader::target(tower, table_reader::row_state(table, r), a);
@@ -132,7 +114,7 @@ fn stopped(tower: &[u8], table: &[u8], r: usize) -> bool
     let mut i = table_reader::row_first(table, r);
     let end = i + table_reader::row_count(table, r);
     while i < end {
-        if goes_on(tower_reader::kind(tower, table_reader::step_action(table, i))) {
+        if kinds::goes_on(tower_reader::kind(tower, table_reader::step_action(table, i))) {
             return false;
         }
         i += 1;
@@ -152,7 +134,7 @@ fn judge_row(tower: &[u8], table: &[u8], r: usize) -> RowVerdict
         return RowVerdict::Wrong(Reason::Withheld(r));
     }
     if some_wrong_step(tower, table, r) {
-        return RowVerdict::Wrong(Reason::Step(r));
+        return RowVerdict::Wrong(Reason::WrongStep(r));
     }
     if stopped(tower, table, r) {
         return RowVerdict::Wrong(Reason::Stopped(r));

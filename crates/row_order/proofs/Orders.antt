@@ -13,12 +13,12 @@ use borrow.Author.Tests.{eqb-true, eq-eqb, ne-eqb, le-ltb}
 use Rattle.base.specs.Choice.{pick}
 use Rattle.base.specs.Lists.{below, present, some-of, place-of}
 use Rattle.base.specs.Bytes.{number-at}
-use Rattle.base.specs.Search.{new-ones, search-on, search-from}
+use Rattle.base.specs.Search.{Apart, new-ones, search-on, search-from}
 use Rattle.base.proofs.Lists.{IsSame, never-both, false-by, true-by, or-fails-left, or-fails-right, or-neither, some-append, mem-getD, below-mem, length-below, place-of-append-left, place-of-append-right}
-use Rattle.base.proofs.Search.{Apart, apart-few}
+use Rattle.base.proofs.Search.{apart-few}
 use Rattle.pair_graph.specs.Steps.{class-in}
 use Rattle.row_order.specs.Orders.{classes-part, same-in, order-at, order-of, of-class, mark-in, grown, Numbered}
-use Rattle.lent_bytes.proofs.Numbers.{number-in-part}
+use Rattle.base.proofs.Bytes.{number-at-take}
 
 -- ---- pairs of one class
 
@@ -36,7 +36,7 @@ same-is part =
 
 -- The class of a pair is read from the area.
 pub class-read : (area : List ℕ) (j : ℕ) → j < 1000 → class-in (classes-part area) j ≡ number-at 2 area (2 * j)
-class-read area j h = number-in-part order-at area (2 * j) (omega arith)
+class-read area j h = number-at-take 2 order-at area (2 * j) (omega arith)
 
 -- One more that is of no class seen keeps them apart.
 pub apart-snoc : (part xs : List ℕ) (y : ℕ) → Apart (same-in part) xs → some-of (same-in part y) xs ≡ false

@@ -16,113 +16,15 @@ use mir.Val.{Fits}
 use Rattle.base.specs.Choice.{pick}
 use Rattle.base.specs.Lists.{present, some-of}
 use Rattle.base.specs.Bytes.{number-at}
-use Rattle.base.specs.Search.{search-on, search-from}
-use Rattle.base.proofs.Search.{Apart}
-use Rattle.pair_graph.specs.Graph.{Move, not-enabled, broken, to, allowed-to}
-use Rattle.pair_graph.specs.Steps.{action-room, cell, move-of, move-at, class-in, kept-in}
-use Rattle.row_order.specs.Orders.{led-to, led-of, followers, Moves, order-at, marks-at, classes-part, same-in, order-of, of-class, mark-in, grown, Numbered, Grows, Classed, Cleared, InOrder}
-use Rattle.row_order.specs.declared.Led.{Led}
-use Rattle.row_order.specs.declared.Led.the-variants.{To, Nowhere}
+use Rattle.base.specs.Search.{Apart, search-on, search-from}
+use Rattle.pair_graph.specs.Steps.{class-in, led-to, led-of, FlaggedGraph}
+use Rattle.pair_graph.specs.declared.Led.{Led}
+use Rattle.pair_graph.specs.declared.Led.the-variants.{To, Nowhere}
+use Rattle.pair_graph.proofs.Moves.{led-some, led-none, allowed-below}
+use Rattle.row_order.specs.Orders.{followers, order-at, marks-at, classes-part, same-in, order-of, of-class, mark-in, grown, Numbered, Grows, Classed, Cleared, InOrder}
 use Rattle.lent_bytes.proofs.Numbers.{stored, stored-read, stored-beside, take-stored, length-stored}
 use Rattle.row_order.proofs.Rest.{rest, rest-all, rest-next, rest-none}
 use Rattle.row_order.proofs.Orders.{class-read, apart-snoc, apart-below, length-order, order-read, order-same, rows-few, row-below, none-marked, some-marked, of-same, mark-new, mark-other, grown-none, grown-known, grown-new, grown-present, grown-longer, search-turn, search-done, search-start}
-
--- ---- where an action leads
-
-module _ (steps flags : List ℕ) (n actions i a : ℕ) (moves : Moves steps flags n actions) (i-below : i < n) (a-below : a < actions) where
-  -- The move is there as a whole.
-  pub move-there : 2 * (16 * i + a) + 1 < length steps
-  unfolding cell action-room
-  move-there = omega arith
-
-  -- The numbers on the way to its place fit.
-  pub pair-fits : length steps < 2 ^ 64 → Fits w64 (16 * i)
-  pair-fits h = omega (arith, move-there)
-
-  pub move-fits : length steps < 2 ^ 64 → Fits w64 (16 * i + a)
-  move-fits h = omega (arith, move-there)
-
-  pub place-fits : length steps < 2 ^ 64 → Fits w64 (2 * (16 * i + a))
-  place-fits h = omega (arith, move-there)
-
--- A number below 2 leads to no pair.
-low-move : (flags : List ℕ) (k : ℕ) → k < 2 → Nowhere ≡ led-of (allowed-to (kept-in flags) (move-of k))
-unfolding led-of move-of allowed-to
-low-move flags zero l = refl
-low-move flags (suc zero) l = refl
-low-move flags (suc (suc k)) l = absurd (omega arith)
-
--- Any other leads to one.
-high-move : (k : ℕ) → 2 ≤ k → move-of k ≡ to (k - 2)
-unfolding move-of
-high-move zero l = absurd (omega arith)
-high-move (suc zero) l = absurd (omega arith)
-high-move (suc (suc j)) l = let e : j ≡ suc (suc j) - 2 = omega arith in ap to e
-
--- It is allowed if that pair is kept.
-kept-move : (flags : List ℕ) (j : ℕ) (b : Bool) → kept-in flags j ≡ b
-    → led-of (allowed-to (kept-in flags) (to j)) ≡ led-of (pick b (λ _. some j) (λ _. none))
-unfolding allowed-to
-kept-move flags j b e = rw e
-
-module _ (steps flags : List ℕ) (i a m : ℕ) (is-m : m ≡ number-at 2 steps (2 * (16 * i + a))) where
-  -- The move as it is written.
-  move-is : move-at steps i a ≡ move-of m
-  unfolding move-at cell action-room
-  move-is = ap move-of (sym is-m)
-
-  -- It leads to no pair.
-  pub led-low : m < 2 → Nowhere ≡ led-of (led-to steps flags i a)
-  unfolding led-to
-  led-low h = rw move-is (low-move flags m h)
-
-  -- The pair that it leads to is one of the n.
-  pub led-below : (n actions : ℕ) → Moves steps flags n actions → i < n → a < actions → 2 ≤ m → m - 2 < length flags
-  led-below n actions moves l k h =
-      let b = moves .targets i a (m - 2) l k (move-is ∙ high-move m h) in
-      omega arith
-
-  -- It leads to a pair that is not kept.
-  pub led-removed : 2 ≤ m → (getD flags (m - 2) 0 ≡ 1 → ⊥) → Nowhere ≡ led-of (led-to steps flags i a)
-  unfolding led-to led-of kept-in
-  led-removed h k =
-      let e = kept-move flags (m - 2) false (ne-eqb (getD flags (m - 2) 0) 1 k) in
-      rw (move-is, high-move m h) (sym e)
-
-  -- It leads to a kept pair.
-  pub led-kept : 2 ≤ m → getD flags (m - 2) 0 ≡ 1 → To (m - 2) ≡ led-of (led-to steps flags i a)
-  unfolding led-to led-of kept-in
-  led-kept h k =
-      let e = kept-move flags (m - 2) true (eq-eqb (getD flags (m - 2) 0) 1 k) in
-      rw (move-is, high-move m h) (sym e)
-
--- What an answer says of where the action leads.
-pub led-some : (o : Option ℕ) (r : Led) (j : ℕ) → r ≡ led-of o → r ≡ To j → o ≡ some j
-unfolding led-of
-led-some none r j e f = let z : _≡_ {A = ℕ} 0 1 = cc in absurd (omega arith)
-led-some (some k) r j e f = cc
-
-pub led-none : (o : Option ℕ) (r : Led) → r ≡ led-of o → r ≡ Nowhere → o ≡ none
-unfolding led-of
-led-none none r e f = refl
-led-none (some k) r e f = let z : _≡_ {A = ℕ} 0 1 = cc in absurd (omega arith)
-
--- An allowed move leads to the pair that it names.
-move-led : (kept : ℕ → Bool) (m : Move) (j : ℕ) → allowed-to kept m ≡ some j → m ≡ to j
-unfolding allowed-to
-move-led kept not-enabled j e = let z : _≡_ {A = ℕ} 0 1 = cc in absurd (omega arith)
-move-led kept broken j e = let z : _≡_ {A = ℕ} 0 1 = cc in absurd (omega arith)
-move-led kept (to h) j e = go (kept h) e
-  where
-    go : (b : Bool) → pick b (λ _. some h) (λ _. none) ≡ some j → to h ≡ to j
-    go true p = cc
-    go false p = let z : _≡_ {A = ℕ} 0 1 = cc in absurd (omega arith)
-
--- The pair that an allowed action leads to is one of the n.
-pub allowed-below : (steps flags : List ℕ) (n actions i a j : ℕ) → Moves steps flags n actions → i < n → a < actions
-    → led-to steps flags i a ≡ some j → j < n
-unfolding led-to
-allowed-below steps flags n actions i a j moves l k e = moves .targets i a j l k (move-led (kept-in flags) (move-at steps i a) j e)
 
 -- ---- meeting a pair
 
@@ -285,51 +187,51 @@ module _ (n : ℕ) (area : List ℕ) (rows j : ℕ) (h : Numbered n area rows) (
                 }
 
 -- An action that leads nowhere.
-pub meets-nothing : (steps flags : List ℕ) (n : ℕ) (area : List ℕ) (rows i a : ℕ) (r : Led) → Numbered n area rows
-    → r ≡ led-of (led-to steps flags i a) → r ≡ Nowhere → Grows n area rows (present (led-to steps flags i a ∷ [])) area rows
+pub meets-nothing : (graph flags : List ℕ) (n : ℕ) (area : List ℕ) (rows i a : ℕ) (r : Led) → Numbered n area rows
+    → r ≡ led-of (led-to graph flags i a) → r ≡ Nowhere → Grows n area rows (present (led-to graph flags i a ∷ [])) area rows
 unfolding present
-meets-nothing steps flags n area rows i a r h e f =
-    let o = led-none (led-to steps flags i a) r e f in
+meets-nothing graph flags n area rows i a r h e f =
+    let o = led-none (led-to graph flags i a) r e f in
     rw o (meets-none n area rows h)
 
 -- An action that leads to a pair: it is one of the n,
-pub led-pair-below : (steps flags : List ℕ) (n actions i a j : ℕ) (r : Led) → Moves steps flags n actions → i < n → a < actions
-    → r ≡ led-of (led-to steps flags i a) → r ≡ To j → j < n
-led-pair-below steps flags n actions i a j r moves l k e f =
-    allowed-below steps flags n actions i a j moves l k (led-some (led-to steps flags i a) r j e f)
+pub led-pair-below : (graph flags : List ℕ) (n actions i a j : ℕ) (r : Led) → FlaggedGraph n actions graph flags → i < n → a < actions
+    → r ≡ led-of (led-to graph flags i a) → r ≡ To j → j < n
+led-pair-below graph flags n actions i a j r moves l k e f =
+    allowed-below graph flags n actions i a j moves l k (led-some (led-to graph flags i a) r j e f)
 
 -- and is met.
-pub meets-led : (steps flags : List ℕ) (n : ℕ) (area : List ℕ) (rows i a j : ℕ) (r : Led) (z : List ℕ) (s : ℕ)
-    → r ≡ led-of (led-to steps flags i a) → r ≡ To j → Grows n area rows (j ∷ []) z s
-    → Grows n area rows (present (led-to steps flags i a ∷ [])) z s
+pub meets-led : (graph flags : List ℕ) (n : ℕ) (area : List ℕ) (rows i a j : ℕ) (r : Led) (z : List ℕ) (s : ℕ)
+    → r ≡ led-of (led-to graph flags i a) → r ≡ To j → Grows n area rows (j ∷ []) z s
+    → Grows n area rows (present (led-to graph flags i a ∷ [])) z s
 unfolding present
-meets-led steps flags n area rows i a j r z s e f g =
-    let o = led-some (led-to steps flags i a) r j e f in
+meets-led graph flags n area rows i a j r z s e f g =
+    let o = led-some (led-to graph flags i a) r j e f in
     rw o g
 
 -- ---- expanding a row
 
 -- From so many rows in the area at first, the actions below a are done.
-pub record Expanding (steps flags : List ℕ) (n actions i : ℕ) (first : List ℕ) (rows-first : ℕ) (area : List ℕ) (rows a : ℕ) : Type 0 where
+pub record Expanding (graph flags : List ℕ) (n actions i : ℕ) (first : List ℕ) (rows-first : ℕ) (area : List ℕ) (rows a : ℕ) : Type 0 where
   pub same-length : length area ≡ length first
   pub same-classes : classes-part area ≡ classes-part first
   pub numbered : Numbered n area rows
-  pub left : grown (classes-part first) (order-of area rows) (rest (led-to steps flags i) actions a)
-      ≡ grown (classes-part first) (order-of first rows-first) (followers steps flags actions i)
+  pub left : grown (classes-part first) (order-of area rows) (rest (led-to graph flags i) actions a)
+      ≡ grown (classes-part first) (order-of first rows-first) (followers graph flags actions i)
 
 -- At first none is done.
-pub expand-start : (steps flags : List ℕ) (n actions i : ℕ) (area : List ℕ) (rows : ℕ) → Numbered n area rows
-    → Expanding steps flags n actions i area rows area rows 0
+pub expand-start : (graph flags : List ℕ) (n actions i : ℕ) (area : List ℕ) (rows : ℕ) → Numbered n area rows
+    → Expanding graph flags n actions i area rows area rows 0
 unfolding followers
-expand-start steps flags n actions i area rows h =
-    record { same-length = refl; same-classes = refl; numbered = h; left = rw (rest-all (led-to steps flags i) actions) }
+expand-start graph flags n actions i area rows h =
+    record { same-length = refl; same-classes = refl; numbered = h; left = rw (rest-all (led-to graph flags i) actions) }
 
 -- One more is done.
-pub expand-more : (steps flags : List ℕ) (n actions i : ℕ) (first : List ℕ) (rows-first : ℕ) (area : List ℕ) (rows a : ℕ) (z : List ℕ) (s : ℕ)
-    → Expanding steps flags n actions i first rows-first area rows a → a < actions
-    → Grows n area rows (present (led-to steps flags i a ∷ [])) z s → Expanding steps flags n actions i first rows-first z s (a + 1)
-expand-more steps flags n actions i first rows-first area rows a z s h l g =
-    let f = led-to steps flags i in
+pub expand-more : (graph flags : List ℕ) (n actions i : ℕ) (first : List ℕ) (rows-first : ℕ) (area : List ℕ) (rows a : ℕ) (z : List ℕ) (s : ℕ)
+    → Expanding graph flags n actions i first rows-first area rows a → a < actions
+    → Grows n area rows (present (led-to graph flags i a ∷ [])) z s → Expanding graph flags n actions i first rows-first z s (a + 1)
+expand-more graph flags n actions i first rows-first area rows a z s h l g =
+    let f = led-to graph flags i in
     let part = classes-part first in
     let step : order-of z s ≡ grown part (order-of area rows) (present (f a ∷ [])) =
     g .order ∙ ap (λ (p : List ℕ). grown p (order-of area rows) (present (f a ∷ []))) (h .same-classes) in
@@ -344,10 +246,10 @@ expand-more steps flags n actions i first rows-first area rows a z s h l g =
     }
 
 -- All are done.
-pub expand-end : (steps flags : List ℕ) (n actions i : ℕ) (first : List ℕ) (rows-first : ℕ) (area : List ℕ) (rows a : ℕ)
-    → Expanding steps flags n actions i first rows-first area rows a → actions ≤ a
-    → Grows n first rows-first (followers steps flags actions i) area rows
-expand-end steps flags n actions i first rows-first area rows a h l =
+pub expand-end : (graph flags : List ℕ) (n actions i : ℕ) (first : List ℕ) (rows-first : ℕ) (area : List ℕ) (rows a : ℕ)
+    → Expanding graph flags n actions i first rows-first area rows a → actions ≤ a
+    → Grows n first rows-first (followers graph flags actions i) area rows
+expand-end graph flags n actions i first rows-first area rows a h l =
     let part = classes-part first in
     record {
       same-length = h .same-length;
@@ -355,7 +257,7 @@ expand-end steps flags n actions i first rows-first area rows a h l =
       numbered = h .numbered;
       order =
           sym (grown-none part (order-of area rows))
-          ∙ ap (grown part (order-of area rows)) (sym (rest-none (led-to steps flags i) actions a l)) ∙ h .left;
+          ∙ ap (grown part (order-of area rows)) (sym (rest-none (led-to graph flags i) actions a l)) ∙ h .left;
     }
 
 -- ---- clearing the marks
@@ -413,35 +315,35 @@ marks-room n area h = omega arith
 -- ---- the search
 
 -- From the rows of the area at first, those below r are expanded.
-pub record Searching (steps flags : List ℕ) (n actions : ℕ) (first area : List ℕ) (rows r : ℕ) : Type 0 where
+pub record Searching (graph flags : List ℕ) (n actions : ℕ) (first area : List ℕ) (rows r : ℕ) : Type 0 where
   pub same-length : length area ≡ length first
   pub same-classes : classes-part area ≡ classes-part first
   pub numbered : Numbered n area rows
   pub done : r ≤ rows
-  pub left : search-on (same-in (classes-part first)) (followers steps flags actions) n (suc n - r) (order-of area rows)
+  pub left : search-on (same-in (classes-part first)) (followers graph flags actions) n (suc n - r) (order-of area rows)
       (drop r (order-of area rows))
-      ≡ search-from (same-in (classes-part first)) (followers steps flags actions) n 0
+      ≡ search-from (same-in (classes-part first)) (followers graph flags actions) n 0
 
 -- At first pair 0 is the one row, and is not expanded.
-pub searching-start : (steps flags : List ℕ) (n actions : ℕ) (area : List ℕ) (rows : ℕ) → Numbered n area rows → order-of area rows ≡ 0 ∷ []
-    → Searching steps flags n actions area area rows 0
-searching-start steps flags n actions area rows h e =
+pub searching-start : (graph flags : List ℕ) (n actions : ℕ) (area : List ℕ) (rows : ℕ) → Numbered n area rows → order-of area rows ≡ 0 ∷ []
+    → Searching graph flags n actions area area rows 0
+searching-start graph flags n actions area rows h e =
     let fuel : suc n - 0 ≡ suc n = omega arith in
     record {
       same-length = refl;
       same-classes = refl;
       numbered = h;
       done = omega arith;
-      left = rw (e, fuel) (search-start (classes-part area) (followers steps flags actions) n);
+      left = rw (e, fuel) (search-start (classes-part area) (followers graph flags actions) n);
     }
 
 -- The next row is expanded.
-pub searching-more : (steps flags : List ℕ) (n actions : ℕ) (first area : List ℕ) (rows r i : ℕ) (z : List ℕ) (s : ℕ)
-    → Searching steps flags n actions first area rows r → r < rows → i ≡ number-at 2 area (2000 + 2 * r)
-    → Grows n area rows (followers steps flags actions i) z s → Searching steps flags n actions first z s (r + 1)
-searching-more steps flags n actions first area rows r i z s h l is-i g =
+pub searching-more : (graph flags : List ℕ) (n actions : ℕ) (first area : List ℕ) (rows r i : ℕ) (z : List ℕ) (s : ℕ)
+    → Searching graph flags n actions first area rows r → r < rows → i ≡ number-at 2 area (2000 + 2 * r)
+    → Grows n area rows (followers graph flags actions i) z s → Searching graph flags n actions first z s (r + 1)
+searching-more graph flags n actions first area rows r i z s h l is-i g =
     let part = classes-part first in
-    let follow = followers steps flags actions in
+    let follow = followers graph flags actions in
     let seen = order-of area rows in
     let few = rows-few n area rows (h .numbered) in
     let len = length-order area rows in
@@ -462,11 +364,11 @@ searching-more steps flags n actions first area rows r i z s h l is-i g =
     }
 
 -- All rows are expanded.
-pub searching-end : (steps flags : List ℕ) (n actions : ℕ) (first area : List ℕ) (rows r : ℕ)
-    → Searching steps flags n actions first area rows r → rows ≤ r → InOrder steps flags n actions first area rows
-searching-end steps flags n actions first area rows r h l =
+pub searching-end : (graph flags : List ℕ) (n actions : ℕ) (first area : List ℕ) (rows r : ℕ)
+    → Searching graph flags n actions first area rows r → rows ≤ r → InOrder graph flags n actions first area rows
+searching-end graph flags n actions first area rows r h l =
     let part = classes-part first in
-    let follow = followers steps flags actions in
+    let follow = followers graph flags actions in
     let seen = order-of area rows in
     let few = rows-few n area rows (h .numbered) in
     let end : r ≡ length seen = omega (arith, length-order area rows) in
@@ -508,9 +410,9 @@ unfolding order-of some-of
 first-row n area z s g = g .order ∙ grown-new (classes-part area) [] 0 refl
 
 -- The rows after pair 0 are in order.
-pub ordered : (steps flags : List ℕ) (n actions : ℕ) (area now first z : List ℕ) (s rows : ℕ) → Cleared n area now 2000
-    → Grows n now 0 (0 ∷ []) first s → InOrder steps flags n actions first z rows → InOrder steps flags n actions area z rows
-ordered steps flags n actions area now first z s rows clear g o =
+pub ordered : (graph flags : List ℕ) (n actions : ℕ) (area now first z : List ℕ) (s rows : ℕ) → Cleared n area now 2000
+    → Grows n now 0 (0 ∷ []) first s → InOrder graph flags n actions first z rows → InOrder graph flags n actions area z rows
+ordered graph flags n actions area now first z s rows clear g o =
     let e = g .same-classes ∙ cleared-part n area now 2000 clear in
     record {
       same-length = o .same-length ∙ g .same-length ∙ clear .same-length;

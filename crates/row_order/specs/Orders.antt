@@ -3,41 +3,20 @@
 use Prim.Native.Nat.{ℕ, zero, suc, _+_, _*_, _≤_, _<_}
 use mathlib.Core.Path.{_≡_}
 use mathlib.Core.Bool.{Bool}
-use mathlib.Core.Option.{Option, none, some}
 use mathlib.Core.List.{List, [], _∷_, _++_, map, List·Memᴰ}
 use lib.ListN.{length, getD, take}
 use lib.Dec.{eqb}
 use Rattle.base.specs.Choice.{pick}
 use Rattle.base.specs.Lists.{below, present, some-of, place-of}
 use Rattle.base.specs.Bytes.{number-at}
-use Rattle.base.specs.Search.{new-ones, search-from}
-use Rattle.base.proofs.Search.{Apart}
-use Rattle.pair_graph.specs.Graph.{to, allowed-to}
-use Rattle.pair_graph.specs.Steps.{cell, move-at, class-in, kept-in}
-use Rattle.row_order.specs.declared.Led.{Led}
-use Rattle.row_order.specs.declared.Led.the-variants.{To, Nowhere}
+use Rattle.base.specs.Search.{Apart, new-ones, search-from}
+use Rattle.pair_graph.specs.Steps.{class-in, led-to}
 
 -- ---- the graph
 
--- the pair that action a leads to from pair i, if it is allowed
-unfoldable pub led-to : List ℕ → List ℕ → ℕ → ℕ → Option ℕ
-led-to steps flags i a = allowed-to (kept-in flags) (move-at steps i a)
-
--- as the code answers it
-unfoldable pub led-of : Option ℕ → Led
-led-of none = Nowhere
-led-of (some j) = To j
-
 -- the pairs that allowed actions lead to from pair i, actions ascending
 unfoldable pub followers : List ℕ → List ℕ → ℕ → ℕ → List ℕ
-followers steps flags actions i = present (map (led-to steps flags i) (below actions))
-
--- The moves and flags of n pairs: every move leads to one of them.
-pub record Moves (steps flags : List ℕ) (n actions : ℕ) : Type 0 where
-  pub few : actions ≤ 16
-  pub steps-there : cell n 0 ≤ length steps
-  pub flags-there : n ≤ length flags
-  pub targets : (i a j : ℕ) → i < n → a < actions → move-at steps i a ≡ to j → j < n
+followers graph flags actions i = present (map (led-to graph flags i) (below actions))
 
 -- ---- the area
 
@@ -104,8 +83,8 @@ pub record Cleared (n : ℕ) (area after : List ℕ) (k : ℕ) : Type 0 where
   pub zeros : (i : ℕ) → i < k → getD after (marks-at n + i) 0 ≡ 0
 
 -- The rows are in order: the classes are kept, and the rows are what a search from pair 0 meets.
-pub record InOrder (steps flags : List ℕ) (n actions : ℕ) (area after : List ℕ) (rows : ℕ) : Type 0 where
+pub record InOrder (graph flags : List ℕ) (n actions : ℕ) (area after : List ℕ) (rows : ℕ) : Type 0 where
   pub same-length : length after ≡ length area
   pub same-classes : classes-part after ≡ classes-part area
   pub numbered : Numbered n after rows
-  pub order : order-of after rows ≡ search-from (same-in (classes-part area)) (followers steps flags actions) n 0
+  pub order : order-of after rows ≡ search-from (same-in (classes-part area)) (followers graph flags actions) n 0

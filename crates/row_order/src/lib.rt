@@ -6,45 +6,14 @@ ghost use mathlib.Core.Path.{_≡_};
 ghost use mathlib.Core.List.{[], _∷_};
 ghost use lib.ListN.{length};
 ghost use Rattle.base.specs.Lists.{present};
-ghost use Rattle.row_order.specs.Orders.{led-to, led-of, followers, Moves, order-of, marks-at, Numbered, Grows, Classed, Cleared, InOrder};
-
-// Room for so many actions from each pair, two bytes each.
-const ACTION_ROOM: usize = 16;
-
-// How a move is written that leads to pair 0. What is below leads to no pair.
-const FIRST_PAIR: usize = 2;
-
-// The flag of a kept pair.
-const KEPT: u8 = 1;
+ghost use Rattle.pair_graph.specs.Steps.{led-to, FlaggedGraph};
+ghost use Rattle.row_order.specs.Orders.{followers, order-of, marks-at, Numbered, Grows, Classed, Cleared, InOrder};
+use pair_graph::Led;
 
 // Where the list of rows begins in the area, and how many classes there may be.
 const ORDER_AT: usize = 2000;
 
 const MOST_CLASSES: usize = 1000;
-
-// Where an action leads: to a kept pair, or nowhere if it is not allowed.
-pub enum Led {
-    To(usize),
-    Nowhere,
-}
-
-// Where action a leads from pair i.
-pub fn allowed(steps: &[u8], flags: &[u8], pairs: usize, actions: usize, i: usize, a: usize) -> Led
-    requires { ⌜ Moves (now steps) (now flags) pairs actions ⌝ }
-    requires { ⌜ i < pairs ⌝ }
-    requires { ⌜ a < actions ⌝ }
-    ensures { λ r. ⌜ r ≡ led-of (led-to (now (steps .entry)) (now (flags .entry)) i a) ⌝ }
-{
-    let m = lent_bytes::two_bytes(steps, 2 * (ACTION_ROOM * i + a));
-    if m < FIRST_PAIR {
-        return Led::Nowhere;
-    }
-    let j = m - FIRST_PAIR;
-    if flags[j] != KEPT {
-        return Led::Nowhere;
-    }
-    Led::To(j)
-}
 
 // Meets pair j after so many rows: if its class has no row yet, it is the next row. Returns the number of rows.
 fn meet(area: &mut [u8], pairs: usize, rows: usize, j: usize) -> usize
@@ -52,7 +21,7 @@ fn meet(area: &mut [u8], pairs: usize, rows: usize, j: usize) -> usize
     requires { ⌜ j < pairs ⌝ }
     ensures { λ r. ⌜ Grows pairs (now (area .entry)) rows (j ∷ []) (now (area .exit)) r ⌝ }
 {
-    let class = lent_bytes::two_bytes(area, 2 * j);
+    let class = pair_graph::class(area, j);
     let mark = ORDER_AT + 2 * pairs + 2 * class;
     if lent_bytes::two_bytes(area, mark) != 0 {
         return rows;
@@ -64,7 +33,7 @@ fn meet(area: &mut [u8], pairs: usize, rows: usize, j: usize) -> usize
 
 // Meets the pair that action a leads to from pair i, if it is allowed. Returns the number of rows.
 fn meet_by(
-    steps: &[u8],
+    graph: &[u8],
     flags: &[u8],
     area: &mut [u8],
     pairs: usize,
@@ -73,13 +42,13 @@ fn meet_by(
     i: usize,
     a: usize,
 ) -> usize
-    requires { ⌜ Moves (now steps) (now flags) pairs actions ⌝ }
+    requires { ⌜ FlaggedGraph pairs actions (now graph) (now flags) ⌝ }
     requires { ⌜ Numbered pairs (now area) rows ⌝ }
     requires { ⌜ i < pairs ⌝ }
     requires { ⌜ a < actions ⌝ }
-    ensures { λ r. ⌜ Grows pairs (now (area .entry)) rows (present (led-to (now (steps .entry)) (now (flags .entry)) i a ∷ [])) (now (area .exit)) r ⌝ }
+    ensures { λ r. ⌜ Grows pairs (now (area .entry)) rows (present (led-to (now (graph .entry)) (now (flags .entry)) i a ∷ [])) (now (area .exit)) r ⌝ }
 {
-    let Led::To(j) = allowed(steps, flags, pairs, actions, i, a) else {
+    let Led::To(j) = pair_graph::allowed(graph, flags, pairs, actions, i, a) else {
         return rows;
     };
     meet(area, pairs, rows, j)
@@ -87,7 +56,7 @@ fn meet_by(
 
 // Meets the pairs that allowed actions lead to from pair i, actions ascending. Returns the number of rows.
 fn expand(
-    steps: &[u8],
+    graph: &[u8],
     flags: &[u8],
     area: &mut [u8],
     pairs: usize,
@@ -95,15 +64,15 @@ fn expand(
     rows: usize,
     i: usize,
 ) -> usize
-    requires { ⌜ Moves (now steps) (now flags) pairs actions ⌝ }
+    requires { ⌜ FlaggedGraph pairs actions (now graph) (now flags) ⌝ }
     requires { ⌜ Numbered pairs (now area) rows ⌝ }
     requires { ⌜ i < pairs ⌝ }
-    ensures { λ r. ⌜ Grows pairs (now (area .entry)) rows (followers (now (steps .entry)) (now (flags .entry)) actions i) (now (area .exit)) r ⌝ }
+    ensures { λ r. ⌜ Grows pairs (now (area .entry)) rows (followers (now (graph .entry)) (now (flags .entry)) actions i) (now (area .exit)) r ⌝ }
 {
     let mut met = rows;
     let mut a = 0;
     while a < actions {
-        met = meet_by(steps, flags, area, pairs, actions, met, i, a);
+        met = meet_by(graph, flags, area, pairs, actions, met, i, a);
         a += 1;
     }
     met
@@ -124,23 +93,23 @@ fn clear_marks(area: &mut [u8], pairs: usize)
 
 // Expands the rows in order, from the first on, until none is left. Returns the number of rows.
 fn expand_all(
-    steps: &[u8],
+    graph: &[u8],
     flags: &[u8],
     area: &mut [u8],
     pairs: usize,
     actions: usize,
     first: usize,
 ) -> usize
-    requires { ⌜ Moves (now steps) (now flags) pairs actions ⌝ }
+    requires { ⌜ FlaggedGraph pairs actions (now graph) (now flags) ⌝ }
     requires { ⌜ Numbered pairs (now area) first ⌝ }
     requires { ⌜ order-of (now area) first ≡ 0 ∷ [] ⌝ }
-    ensures { λ r. ⌜ InOrder (now (steps .entry)) (now (flags .entry)) pairs actions (now (area .entry)) (now (area .exit)) r ⌝ }
+    ensures { λ r. ⌜ InOrder (now (graph .entry)) (now (flags .entry)) pairs actions (now (area .entry)) (now (area .exit)) r ⌝ }
 {
     let mut rows = first;
     let mut r = 0;
     while r < rows {
         let i = lent_bytes::two_bytes(area, ORDER_AT + 2 * r);
-        rows = expand(steps, flags, area, pairs, actions, rows, i);
+        rows = expand(graph, flags, area, pairs, actions, rows, i);
         r += 1;
     }
     rows
@@ -148,17 +117,17 @@ fn expand_all(
 
 // Numbers the rows from pair 0 on. Returns how many there are.
 pub fn order_rows(
-    steps: &[u8],
+    graph: &[u8],
     flags: &[u8],
     area: &mut [u8],
     pairs: usize,
     actions: usize,
 ) -> usize
-    requires { ⌜ Moves (now steps) (now flags) pairs actions ⌝ }
+    requires { ⌜ FlaggedGraph pairs actions (now graph) (now flags) ⌝ }
     requires { ⌜ Classed pairs (now area) ⌝ }
-    ensures { λ r. ⌜ InOrder (now (steps .entry)) (now (flags .entry)) pairs actions (now (area .entry)) (now (area .exit)) r ⌝ }
+    ensures { λ r. ⌜ InOrder (now (graph .entry)) (now (flags .entry)) pairs actions (now (area .entry)) (now (area .exit)) r ⌝ }
 {
     clear_marks(area, pairs);
     let first = meet(area, pairs, 0, 0);
-    expand_all(steps, flags, area, pairs, actions, first)
+    expand_all(graph, flags, area, pairs, actions, first)
 }

@@ -16,13 +16,13 @@ pub record ReadsBook (a : Answer) (marks : ℕ) (text nodes nodes-after : List �
   pub areas : nodes-after ∷ [] ≡ read-outcome marks text (nodes ∷ []) .areas
 
 -- The maker.
-pub record MakesTable (a : Answer) (tower text out nodes pairs index steps flags classes out-after nodes-after pairs-after index-after steps-after flags-after classes-after : List ℕ) : Type 0 where
-  pub answer : a ≡ shown (make-said (make-outcome tower text out (nodes ∷ pairs ∷ index ∷ steps ∷ flags ∷ classes ∷ []) .answer))
-  pub output : out-after ≡ make-outcome tower text out (nodes ∷ pairs ∷ index ∷ steps ∷ flags ∷ classes ∷ []) .output
-  pub areas : nodes-after ∷ pairs-after ∷ index-after ∷ steps-after ∷ flags-after ∷ classes-after ∷ []
-      ≡ make-outcome tower text out (nodes ∷ pairs ∷ index ∷ steps ∷ flags ∷ classes ∷ []) .areas
+pub record MakesTable (a : Answer) (tower text out nodes pairs index graph flags classes out-after nodes-after pairs-after index-after graph-after flags-after classes-after : List ℕ) : Type 0 where
+  pub answer : a ≡ shown (make-said (make-outcome tower text out (nodes ∷ pairs ∷ index ∷ graph ∷ flags ∷ classes ∷ []) .answer))
+  pub output : out-after ≡ make-outcome tower text out (nodes ∷ pairs ∷ index ∷ graph ∷ flags ∷ classes ∷ []) .output
+  pub areas : nodes-after ∷ pairs-after ∷ index-after ∷ graph-after ∷ flags-after ∷ classes-after ∷ []
+      ≡ make-outcome tower text out (nodes ∷ pairs ∷ index ∷ graph ∷ flags ∷ classes ∷ []) .areas
 
 -- The checker.
-pub record ChecksTable (a : Answer) (tower text table nodes pairs index nodes-after pairs-after index-after : List ℕ) : Type 0 where
-  pub answer : a ≡ shown (verdict-said (check-outcome tower text table (nodes ∷ pairs ∷ index ∷ []) .answer))
-  pub areas : nodes-after ∷ pairs-after ∷ index-after ∷ [] ≡ check-outcome tower text table (nodes ∷ pairs ∷ index ∷ []) .areas
+pub record ChecksTable (a : Answer) (tower text table nodes pairs index graph nodes-after pairs-after index-after graph-after : List ℕ) : Type 0 where
+  pub answer : a ≡ shown (verdict-said (check-outcome tower text table (nodes ∷ pairs ∷ index ∷ graph ∷ []) .answer))
+  pub areas : nodes-after ∷ pairs-after ∷ index-after ∷ graph-after ∷ [] ≡ check-outcome tower text table (nodes ∷ pairs ∷ index ∷ graph ∷ []) .areas

@@ -20,4 +20,5 @@ shown said =
       place = said-place said;
       first = getD (said-values said) 0 0;
       second = getD (said-values said) 1 0;
+      third = getD (said-values said) 2 0;
     }

@@ -5,7 +5,8 @@ ghost use Rattle.base.specs.Answers.{answered, refusal-said};
 ghost use Rattle.succoryvise.specs.Shown.{shown};
 use base::Refusal;
 
-// Number 0 and the values of an answer, or a refusal's number, place and letter (0 for none).
+// Number 0 and the values of an answer, or a refusal's number, place and letter (0 for none). No
+// entry has a third value yet: it is room, so that one can come and callers keep their struct.
 #[repr(C)]
 pub struct Answer {
     pub number: u32,
@@ -13,6 +14,7 @@ pub struct Answer {
     pub place: usize,
     pub first: usize,
     pub second: usize,
+    pub third: usize,
 }
 
 // An answer without values.
@@ -25,6 +27,7 @@ pub fn yes() -> Answer
         place: 0,
         first: 0,
         second: 0,
+        third: 0,
     }
 }
 
@@ -38,6 +41,7 @@ pub fn value(first: usize) -> Answer
         place: 0,
         first: first,
         second: 0,
+        third: 0,
     }
 }
 
@@ -51,6 +55,7 @@ pub fn two_values(first: usize, second: usize) -> Answer
         place: 0,
         first: first,
         second: second,
+        third: 0,
     }
 }
 
@@ -67,5 +72,6 @@ pub fn refused(refusal: Refusal) -> Answer
         place: place,
         first: 0,
         second: 0,
+        third: 0,
     }
 }

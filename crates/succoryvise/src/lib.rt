@@ -1,6 +1,7 @@
 // The interface for C and Rust: the entries, with answers as numbers. None of them requires
 // anything of its caller but slices that are memory: `&[u8]` is a pointer and a length. What each
-// answers and leaves in its areas is an equation with the definitions of `outcome`.
+// answers and leaves in its areas is an equation with the definitions of `outcome`. The names of the
+// entries end in the version, so that a caller that was compiled for another one does not link.
 pub mod answer;
 
 ghost use mathlib.Core.Path.{_≡_};
@@ -8,6 +9,7 @@ ghost use Rattle.base.specs.Answers.{follow-said};
 ghost use Rattle.outcome.specs.Follow.{follow-outcome};
 ghost use Rattle.succoryvise.specs.Shown.{shown};
 ghost use Rattle.succoryvise.specs.Entries.{ReadsBook, MakesTable, ChecksTable};
+ghost use Rattle.succoryvise.specs.Version.{interface-version};
 use answer::Answer;
 use base::BookAnswer;
 use base::FollowAnswer;
@@ -15,10 +17,21 @@ use base::MakeAnswer;
 use base::Refusal;
 use base::Verdict;
 
+// The version of this interface.
+const VERSION: u32 = 1;
+
+// The version of this interface, for those who look functions up by name and do not link them.
+#[no_mangle]
+pub extern "C" fn succoryvise_version() -> u32
+    ensures { λ n. ⌜ n ≡ interface-version ⌝ }
+{
+    VERSION
+}
+
 // Reads a rule book under P marks: the numbers of its lines and nodes, or why it is turned down.
 // Refused with 15 it changes nothing; else the lent area is all zero afterwards.
 #[no_mangle]
-pub extern "C" fn succoryvise_read_book(marks: usize, text: &[u8], nodes: &mut [u8]) -> Answer
+pub extern "C" fn succoryvise_read_book_v1(marks: usize, text: &[u8], nodes: &mut [u8]) -> Answer
     ensures { λ a. ⌜ ReadsBook a marks (now (text .entry)) (now (nodes .entry)) (now (nodes .exit)) ⌝ }
 {
     match book_reader::read_book(marks, text, nodes) {
@@ -34,20 +47,20 @@ pub extern "C" fn succoryvise_read_book(marks: usize, text: &[u8], nodes: &mut [
 // bytes, or why there is none. A refusal changes no byte of `out`, and bytes behind the table stay.
 // Refused with 15 it changes nothing; else the lent areas are all zero afterwards.
 #[no_mangle]
-pub extern "C" fn succoryvise_make(
+pub extern "C" fn succoryvise_make_v1(
     tower: &[u8],
     text: &[u8],
     out: &mut [u8],
     nodes: &mut [u8],
     pairs: &mut [u8],
     index: &mut [u8],
-    steps: &mut [u8],
+    graph: &mut [u8],
     flags: &mut [u8],
     classes: &mut [u8],
 ) -> Answer
-    ensures { λ a. ⌜ MakesTable a (now (tower .entry)) (now (text .entry)) (now (out .entry)) (now (nodes .entry)) (now (pairs .entry)) (now (index .entry)) (now (steps .entry)) (now (flags .entry)) (now (classes .entry)) (now (out .exit)) (now (nodes .exit)) (now (pairs .exit)) (now (index .exit)) (now (steps .exit)) (now (flags .exit)) (now (classes .exit)) ⌝ }
+    ensures { λ a. ⌜ MakesTable a (now (tower .entry)) (now (text .entry)) (now (out .entry)) (now (nodes .entry)) (now (pairs .entry)) (now (index .entry)) (now (graph .entry)) (now (flags .entry)) (now (classes .entry)) (now (out .exit)) (now (nodes .exit)) (now (pairs .exit)) (now (index .exit)) (now (graph .exit)) (now (flags .exit)) (now (classes .exit)) ⌝ }
 {
-    match maker::make(tower, text, out, nodes, pairs, index, steps, flags, classes) {
+    match maker::make(tower, text, out, nodes, pairs, index, graph, flags, classes) {
         MakeAnswer::Made(length) => answer::value(length),
         MakeAnswer::Refused(refusal) => answer::refused(refusal),
     }
@@ -56,17 +69,18 @@ pub extern "C" fn succoryvise_make(
 // Whether the table is good for the tower and the book, or the first reason why not. Refused with
 // 15 it changes nothing; else the lent areas are all zero afterwards.
 #[no_mangle]
-pub extern "C" fn succoryvise_check(
+pub extern "C" fn succoryvise_check_v1(
     tower: &[u8],
     text: &[u8],
     table: &[u8],
     nodes: &mut [u8],
     pairs: &mut [u8],
     index: &mut [u8],
+    graph: &mut [u8],
 ) -> Answer
-    ensures { λ a. ⌜ ChecksTable a (now (tower .entry)) (now (text .entry)) (now (table .entry)) (now (nodes .entry)) (now (pairs .entry)) (now (index .entry)) (now (nodes .exit)) (now (pairs .exit)) (now (index .exit)) ⌝ }
+    ensures { λ a. ⌜ ChecksTable a (now (tower .entry)) (now (text .entry)) (now (table .entry)) (now (nodes .entry)) (now (pairs .entry)) (now (index .entry)) (now (graph .entry)) (now (nodes .exit)) (now (pairs .exit)) (now (index .exit)) (now (graph .exit)) ⌝ }
 {
-    match checker::check(tower, text, table, nodes, pairs, index) {
+    match checker::check(tower, text, table, nodes, pairs, index, graph) {
         Verdict::Good => answer::yes(),
         Verdict::NotGood(reason) => answer::refused(Refusal::NotGood(reason)),
         Verdict::Refused(refusal) => answer::refused(refusal),
@@ -75,7 +89,7 @@ pub extern "C" fn succoryvise_check(
 
 // The row that an action leads to from a row of the table, or why there is none.
 #[no_mangle]
-pub extern "C" fn succoryvise_follow(table: &[u8], row: usize, action: usize) -> Answer
+pub extern "C" fn succoryvise_follow_v1(table: &[u8], row: usize, action: usize) -> Answer
     ensures { λ a. ⌜ a ≡ shown (follow-said (follow-outcome (now (table .entry)) row action)) ⌝ }
 {
     match follower::follow(table, row, action) {

@@ -1,3 +1,3 @@
-pub mod Bytes
+mod Places
 pub mod Laws
 pub mod Ways

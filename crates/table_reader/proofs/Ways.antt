@@ -4,6 +4,7 @@ use mathlib.Core.Path.{_≡_, refl, sym, _∙_, ap}
 use mathlib.Core.Bool.{Bool, true, false, _&&_, and-false, and-true}
 use mathlib.Core.List.{List}
 use native.Mathlib.Omega.{arith}
+use native.Mathlib.Nat.{mul-le-mul}
 use native.Mathlib.Numerals.{add-one}
 use lib.ListN.{length, getD}
 use lib.Dec.{leb, ltb, eqb}
@@ -13,27 +14,16 @@ use mir.Val.{Fits}
 use Rattle.base.specs.Bytes.{number-at}
 use Rattle.base.specs.Lists.{count-from}
 use Rattle.base.proofs.Lists.{and-left, and-right, and-fails-left, and-fails-right, false-by}
-use Rattle.logic.specs.Tower.{most-states, most-actions, in-range, state-width}
+use Rattle.logic.specs.declared.FileLayout.{FileLayout}
+use Rattle.logic.specs.Tower.{most-actions, in-range}
 use Rattle.logic.specs.Tables.{step-to, move}
 use Rattle.logic.specs.TableFile.{most-rows, rows-at, row-size, step-size, steps-at}
-use Rattle.reading.specs.TableReading.{rows-of, steps-of, table-states, table-actions, row-state, row-count, row-first, step-place, step-action, step-target, header-right, steps-right, rows-right, laid-out, table-of}
-use Rattle.reading.proofs.TableHeader.{header-out}
-use Rattle.table_reader.specs.Layout.{laid-out-for, counts-right, places-right, step-right, row-right}
+use Rattle.reading.specs.TableReading.{rows-of, steps-of, table-states, table-actions, table-layout, row-place, row-state, row-count, row-first, step-place, step-action, step-target, header-right, steps-right, rows-right, laid-out, table-of}
+use Rattle.reading.proofs.TableHeader.{table-layout-fits, header-out}
+use Rattle.table_reader.specs.Layout.{laid-out-for, counts-right, offsets-right, places-right, step-right, row-right}
 use Rattle.table_reader.specs.Moves.{target-read}
 use Rattle.table_reader.specs.declared.Target.the-variants.{Row, Nothing}
 use Rattle.table_reader.proofs.Laws.{rows-within, laid-out-known, steps-from, move-read, step-to-here, step-to-next}
-
--- ---- in_range
-
--- No count below 1 is in range.
-pub range-none : (most n : ℕ) → n < 1 → false ≡ in-range most n
-unfolding in-range
-range-none most n h = sym (and-fails-left (leb n most) (lt-leb 1 n h))
-
--- Any other is in range if it is at most the most there may be.
-pub range-some : (most n : ℕ) → 1 ≤ n → leb n most ≡ in-range most n
-unfolding in-range
-range-some most n h = sym (rw (le-leb 1 n h))
 
 -- ---- counts_right
 
@@ -44,66 +34,72 @@ module _ (bytes : List ℕ) where
   rows-out-of-range n b e f g = sym (rw (← e, ← f, g))
 
   -- S is out of range.
-  pub states-out-of-range : (n : ℕ) (b : Bool) → n ≡ table-states bytes → b ≡ in-range most-states n → b ≡ false → false ≡ counts-right bytes
+  pub states-out-of-range : (n : ℕ) (k : FileLayout) (b : Bool) → n ≡ table-states bytes → k ≡ table-layout bytes → b ≡ in-range (k .most) n
+      → b ≡ false → false ≡ counts-right bytes
   unfolding counts-right
-  states-out-of-range n b e f g = sym (rw (← e, ← f, g, and-false))
+  states-out-of-range n k b e is-k f g = sym (rw (← e, ← is-k, ← f, g, and-false))
 
   -- Rows and S are in range: A decides.
-  pub actions-left : (n m k : ℕ) (b c d : Bool) → n ≡ rows-of bytes → b ≡ in-range most-rows n → b ≡ true → m ≡ table-states bytes
-      → c ≡ in-range most-states m → c ≡ true → k ≡ table-actions bytes → d ≡ in-range most-actions k → d ≡ counts-right bytes
+  pub actions-left : (n m a : ℕ) (k : FileLayout) (b c d : Bool) → n ≡ rows-of bytes → b ≡ in-range most-rows n → b ≡ true
+      → m ≡ table-states bytes → k ≡ table-layout bytes → c ≡ in-range (k .most) m → c ≡ true → a ≡ table-actions bytes
+      → d ≡ in-range most-actions a → d ≡ counts-right bytes
   unfolding counts-right
-  actions-left n m k b c d e f g h i j l q = q ∙ sym (rw (← e, ← f, g, ← h, ← i, j, ← l))
+  actions-left n m a k b c d e f g h is-k i j l q = q ∙ sym (rw (← e, ← f, g, ← h, ← is-k, ← i, j, ← l))
 
--- ---- places_right
+-- ---- offsets_right, places_right
+
+-- Where the steps begin.
+steps-place : (bytes : List ℕ) (n p : ℕ) → n ≡ rows-of bytes → p ≡ row-place bytes n → steps-at (table-layout bytes) (rows-of bytes) ≡ p
+unfolding row-place steps-at
+steps-place bytes n p is-n is-p = sym (rw is-n at is-p)
 
 module _ (bytes : List ℕ) where
   -- The offset of rows is wrong.
-  pub rows-offset-wrong : (o : ℕ) → o ≡ number-at 2 bytes 4 → (o ≡ rows-at → ⊥) → false ≡ places-right bytes
-  unfolding places-right
+  pub rows-offset-wrong : (o : ℕ) → o ≡ number-at 2 bytes 4 → (o ≡ rows-at → ⊥) → false ≡ offsets-right bytes
+  unfolding offsets-right
   rows-offset-wrong o e h = sym (rw (← e, ne-eqb o rows-at h))
 
-  -- The offset of steps is wrong.
-  pub steps-offset-wrong : (n o : ℕ) → n ≡ rows-of bytes → o ≡ number-at 2 bytes 6 → (o ≡ rows-at + row-size * n → ⊥)
-      → false ≡ places-right bytes
-  unfolding places-right steps-at
-  steps-offset-wrong n o e f h = sym (rw (← e, ← f, ne-eqb o (rows-at + row-size * n) h, and-false))
+  -- It is right: the offset of steps decides.
+  pub steps-offset-left : (o q n p : ℕ) → o ≡ number-at 2 bytes 4 → o ≡ rows-at → q ≡ number-at 2 bytes 6 → p ≡ row-place bytes n
+      → n ≡ rows-of bytes → eqb q p ≡ offsets-right bytes
+  unfolding offsets-right
+  steps-offset-left o q n p e h f is-p is-n = sym (rw (← e, eq-eqb o rows-at h, ← f, steps-place bytes n p is-n is-p))
+
+  -- An offset is wrong.
+  pub offsets-wrong : (b : Bool) → b ≡ offsets-right bytes → b ≡ false → false ≡ places-right bytes
+  unfolding places-right
+  offsets-wrong b e f = sym (rw (← e, f))
 
   -- Both offsets are right: the length decides.
-  pub size-left : (n o p m : ℕ) → o ≡ number-at 2 bytes 4 → o ≡ rows-at → n ≡ rows-of bytes → p ≡ number-at 2 bytes 6
-      → p ≡ rows-at + row-size * n → m ≡ steps-of bytes → eqb (length bytes) (rows-at + row-size * n + step-size * m) ≡ places-right bytes
-  unfolding places-right steps-at step-place
-  size-left n o p m g h i j k x = sym (rw (← g, eq-eqb o rows-at h, ← i, ← j, eq-eqb p (rows-at + row-size * n) k, ← x))
+  pub size-left : (b : Bool) (n p m : ℕ) → b ≡ offsets-right bytes → b ≡ true → p ≡ row-place bytes n → n ≡ rows-of bytes
+      → m ≡ steps-of bytes → eqb (length bytes) (p + step-size * m) ≡ places-right bytes
+  unfolding places-right step-place
+  size-left b n p m e f is-p is-n x = sym (rw (← e, f, steps-place bytes n p is-n is-p, ← x))
 
 -- The places that the header gives fit.
 module _ (bytes : List ℕ) (small : (p : ℕ) → Fits w8 (getD bytes p 0)) where
-  -- The bytes of all rows.
-  pub rows-fit : (n : ℕ) → n ≡ rows-of bytes → Fits w64 (row-size * n)
-  unfolding number-at row-size state-width
-  rows-fit n e = omega (arith, small 0, small 1)
-
-  -- The place of the steps.
-  pub steps-at-fits : (n : ℕ) → n ≡ rows-of bytes → Fits w64 (rows-at + row-size * n)
-  unfolding number-at rows-at row-size state-width
-  steps-at-fits n e = omega (arith, small 0, small 1)
-
   -- The bytes of all steps.
   pub steps-fit : (m : ℕ) → m ≡ steps-of bytes → Fits w64 (step-size * m)
   unfolding number-at step-size
   steps-fit m e = omega (arith, small 2, small 3)
 
   -- The place behind the last step.
-  pub size-fits : (n m : ℕ) → n ≡ rows-of bytes → m ≡ steps-of bytes → Fits w64 (rows-at + row-size * n + step-size * m)
-  unfolding number-at rows-at row-size state-width step-size
-  size-fits n m e f = omega (arith, small 0, small 1, small 2, small 3)
+  pub size-fits : (n p m : ℕ) → n ≡ rows-of bytes → p ≡ row-place bytes n → m ≡ steps-of bytes → Fits w64 (p + step-size * m)
+  unfolding number-at row-place rows-at row-size step-size
+  size-fits n p m e is-p f =
+      let few : n ≤ 65536 = omega (arith, small 0, small 1) in
+      let size : table-layout bytes .width + 3 ≤ 5 = omega (arith, table-layout-fits bytes .few-bytes) in
+      let rows : (table-layout bytes .width + 3) * n ≤ 5 * 65536 = mul-le-mul size few in
+      omega (arith, small 2, small 3)
 
 -- ---- header_right
 
 -- The header's tests in the order in which the reader makes them.
 header-tests : (bytes : List ℕ) → header-right bytes ≡ (leb rows-at (length bytes) && counts-right bytes && places-right bytes)
-unfolding header-right counts-right places-right
+unfolding header-right counts-right places-right offsets-right
 header-tests bytes =
     reorder (leb rows-at (length bytes)) (in-range most-rows (rows-of bytes)) (eqb (number-at 2 bytes 4) rows-at)
-    (eqb (number-at 2 bytes 6) (steps-at (rows-of bytes))) (in-range most-states (table-states bytes))
+    (eqb (number-at 2 bytes 6) (steps-at (table-layout bytes) (rows-of bytes))) (in-range (table-layout bytes .most) (table-states bytes))
     (in-range most-actions (table-actions bytes)) (eqb (length bytes) (step-place bytes (steps-of bytes)))
   where
     reorder : (a b c d e f g : Bool) → (a && b && c && d && e && f && g) ≡ (a && (b && e && f) && (c && d && g))

@@ -5,21 +5,22 @@ use mathlib.Core.List.{List}
 use lib.ListN.{length}
 use lib.Dec.{leb, ltb, eqb}
 use Rattle.base.specs.Bytes.{number-at}
-use Rattle.logic.specs.Tower.{most-states, most-actions, in-range}
+use Rattle.logic.specs.Tower.{most-actions, in-range}
 use Rattle.logic.specs.TableFile.{most-rows, rows-at, steps-at}
-use Rattle.reading.specs.TableReading.{rows-of, steps-of, table-states, table-actions, row-state, row-count, row-first, step-place, step-action, step-target, steps-right, laid-out}
+use Rattle.reading.specs.TableReading.{rows-of, steps-of, table-states, table-actions, table-layout, row-state, row-count, row-first, step-place, step-action, step-target, steps-right, laid-out}
 
 -- the header's counts: rows, S and A are in range
 unfoldable pub counts-right : List ℕ → Bool
 counts-right bytes =
-    in-range most-rows (rows-of bytes) && in-range most-states (table-states bytes) && in-range most-actions (table-actions bytes)
+    in-range most-rows (rows-of bytes) && in-range (table-layout bytes .most) (table-states bytes) && in-range most-actions (table-actions bytes)
+
+-- the header's offsets are right
+unfoldable pub offsets-right : List ℕ → Bool
+offsets-right bytes = eqb (number-at 2 bytes 4) rows-at && eqb (number-at 2 bytes 6) (steps-at (table-layout bytes) (rows-of bytes))
 
 -- the header's offsets are right, and nothing follows the last step
 unfoldable pub places-right : List ℕ → Bool
-places-right bytes =
-    eqb (number-at 2 bytes 4) rows-at
-    && eqb (number-at 2 bytes 6) (steps-at (rows-of bytes))
-    && eqb (length bytes) (step-place bytes (steps-of bytes))
+places-right bytes = offsets-right bytes && eqb (length bytes) (step-place bytes (steps-of bytes))
 
 -- step i: the action is from `low` or above and below A, the target below rows
 unfoldable pub step-right : List ℕ → ℕ → ℕ → Bool

@@ -4,13 +4,12 @@ ghost use mathlib.Core.Path.{_≡_};
 ghost use mathlib.Core.Bool.{true};
 ghost use Prim.Native.Nat.{_+_, _<_, _≤_};
 ghost use lib.ListN.{length};
-ghost use Rattle.base.specs.Bytes.{number-at};
-ghost use Rattle.logic.specs.Tower.{state-width, in-range};
 ghost use Rattle.logic.specs.Tables.{move};
 ghost use Rattle.logic.specs.TableFile.{rows-at};
-ghost use Rattle.reading.specs.TableReading.{rows-of, steps-of, table-states, table-actions, row-state, row-count, row-first, step-place, step-action, step-target, header-right, steps-right, rows-right, laid-out, table-of};
-ghost use Rattle.table_reader.specs.Layout.{counts-right, places-right, step-right, row-right, laid-out-for};
+ghost use Rattle.reading.specs.TableReading.{rows-of, steps-of, table-states, table-actions, table-layout, row-place, row-state, row-count, row-first, step-place, step-action, step-target, header-right, steps-right, rows-right, laid-out, table-of};
+ghost use Rattle.table_reader.specs.Layout.{counts-right, offsets-right, places-right, step-right, row-right, laid-out-for};
 ghost use Rattle.table_reader.specs.Moves.{target-read};
+use logic::FileLayout;
 
 // The places of the six two-byte numbers in the header.
 const ROWS: usize = 0;
@@ -25,41 +24,14 @@ const STATES: usize = 8;
 
 const ACTIONS: usize = 10;
 
-// Where the rows begin.
-const ROWS_AT: usize = 12;
-
-// Bytes in a state's number, in a row and in a step.
-const STATE_WIDTH: usize = 1;
-
-const ROW_SIZE: usize = STATE_WIDTH + 3;
-
-const STEP_SIZE: usize = 3;
-
-// The largest counts.
+// The most rows.
 const MOST_ROWS: usize = 1000;
 
-const MOST_STATES: usize = 200;
-
-const MOST_ACTIONS: usize = 16;
-
-// ---- numbers
-
-// The state's number at place p.
-fn state_number(bytes: &[u8], p: usize) -> usize
-    requires { ⌜ p + state-width ≤ length (now bytes) ⌝ }
-    ensures { λ r. ⌜ r ≡ number-at state-width (now (bytes .entry)) p ⌝ }
+// The layout of a table file. Here every file has the same.
+pub fn table_layout(bytes: &[u8]) -> FileLayout
+    ensures { λ r. ⌜ r ≡ table-layout (now (bytes .entry)) ⌝ }
 {
-    bytes[p] as usize
-}
-
-// A count is from 1 to the most there may be.
-fn in_range(most: usize, n: usize) -> bool
-    ensures { λ r. ⌜ r ≡ in-range most n ⌝ }
-{
-    if n < 1 {
-        return false;
-    }
-    n <= most
+    file_layout::narrow()
 }
 
 // ---- the header
@@ -98,13 +70,22 @@ pub fn actions(bytes: &[u8]) -> usize
 
 // ---- a row
 
+// Where row r is written. At the number of rows this is where the steps begin.
+fn row_place(bytes: &[u8], r: usize) -> usize
+    requires { ⌜ r ≤ rows-of (now bytes) ⌝ }
+    ensures { λ p. ⌜ p ≡ row-place (now (bytes .entry)) r ⌝ }
+{
+    file_layout::row_at(table_layout(bytes), r)
+}
+
 // The state of row r.
 pub fn row_state(bytes: &[u8], r: usize) -> usize
     requires { ⌜ header-right (now bytes) ≡ true ⌝ }
     requires { ⌜ r < rows-of (now bytes) ⌝ }
     ensures { λ s. ⌜ s ≡ row-state (now (bytes .entry)) r ⌝ }
 {
-    state_number(bytes, ROWS_AT + ROW_SIZE * r)
+    let layout = table_layout(bytes);
+    lent_bytes::number(bytes, row_place(bytes, r), layout.width)
 }
 
 // The number of steps of row r.
@@ -113,7 +94,9 @@ pub fn row_count(bytes: &[u8], r: usize) -> usize
     requires { ⌜ r < rows-of (now bytes) ⌝ }
     ensures { λ n. ⌜ n ≡ row-count (now (bytes .entry)) r ⌝ }
 {
-    bytes[ROWS_AT + ROW_SIZE * r + STATE_WIDTH] as usize
+    let layout = table_layout(bytes);
+    let p = row_place(bytes, r);
+    bytes[p + layout.width] as usize
 }
 
 // The first step of row r.
@@ -122,7 +105,8 @@ pub fn row_first(bytes: &[u8], r: usize) -> usize
     requires { ⌜ r < rows-of (now bytes) ⌝ }
     ensures { λ i. ⌜ i ≡ row-first (now (bytes .entry)) r ⌝ }
 {
-    lent_bytes::two_bytes(bytes, ROWS_AT + ROW_SIZE * r + STATE_WIDTH + 1)
+    let layout = table_layout(bytes);
+    lent_bytes::two_bytes(bytes, row_place(bytes, r) + layout.width + 1)
 }
 
 // ---- a step
@@ -133,7 +117,7 @@ fn step_place(bytes: &[u8], i: usize) -> usize
     requires { ⌜ i < steps-of (now bytes) ⌝ }
     ensures { λ p. ⌜ p ≡ step-place (now (bytes .entry)) i ⌝ }
 {
-    ROWS_AT + ROW_SIZE * rows(bytes) + STEP_SIZE * i
+    row_place(bytes, rows(bytes)) + file_layout::STEP_SIZE * i
 }
 
 // The action of step i.
@@ -162,13 +146,29 @@ fn counts_right(bytes: &[u8]) -> bool
     requires { ⌜ rows-at ≤ length (now bytes) ⌝ }
     ensures { λ r. ⌜ r ≡ counts-right (now (bytes .entry)) ⌝ }
 {
-    if !in_range(MOST_ROWS, lent_bytes::two_bytes(bytes, ROWS)) {
+    if !file_layout::in_range(MOST_ROWS, lent_bytes::two_bytes(bytes, ROWS)) {
         return false;
     }
-    if !in_range(MOST_STATES, lent_bytes::two_bytes(bytes, STATES)) {
+    let layout = table_layout(bytes);
+    if !file_layout::in_range(layout.most, lent_bytes::two_bytes(bytes, STATES)) {
         return false;
     }
-    in_range(MOST_ACTIONS, lent_bytes::two_bytes(bytes, ACTIONS))
+    file_layout::in_range(
+        file_layout::MOST_ACTIONS,
+        lent_bytes::two_bytes(bytes, ACTIONS),
+    )
+}
+
+// The offsets of the header are right.
+fn offsets_right(bytes: &[u8]) -> bool
+    requires { ⌜ rows-at ≤ length (now bytes) ⌝ }
+    ensures { λ r. ⌜ r ≡ offsets-right (now (bytes .entry)) ⌝ }
+{
+    if lent_bytes::two_bytes(bytes, ROWS_OFFSET) != file_layout::ROWS_AT {
+        return false;
+    }
+    let steps_at = row_place(bytes, lent_bytes::two_bytes(bytes, ROWS));
+    lent_bytes::two_bytes(bytes, STEPS_OFFSET) == steps_at
 }
 
 // The offsets of the header are right, and nothing follows the last step.
@@ -176,21 +176,18 @@ fn places_right(bytes: &[u8]) -> bool
     requires { ⌜ rows-at ≤ length (now bytes) ⌝ }
     ensures { λ r. ⌜ r ≡ places-right (now (bytes .entry)) ⌝ }
 {
-    if lent_bytes::two_bytes(bytes, ROWS_OFFSET) != ROWS_AT {
+    if !offsets_right(bytes) {
         return false;
     }
-    let steps_at = ROWS_AT + ROW_SIZE * lent_bytes::two_bytes(bytes, ROWS);
-    if lent_bytes::two_bytes(bytes, STEPS_OFFSET) != steps_at {
-        return false;
-    }
-    bytes.len() == steps_at + STEP_SIZE * lent_bytes::two_bytes(bytes, STEPS)
+    let steps_at = row_place(bytes, lent_bytes::two_bytes(bytes, ROWS));
+    bytes.len() == steps_at + file_layout::STEP_SIZE * lent_bytes::two_bytes(bytes, STEPS)
 }
 
 // The header is whole, and its counts and places are right.
 fn header_right(bytes: &[u8]) -> bool
     ensures { λ r. ⌜ r ≡ header-right (now (bytes .entry)) ⌝ }
 {
-    if bytes.len() < ROWS_AT {
+    if bytes.len() < file_layout::ROWS_AT {
         return false;
     }
     if !counts_right(bytes) {

@@ -13,9 +13,9 @@ use Rattle.base.specs.Search.{new-ones, search-on, search-from}
 use Rattle.base.proofs.Lists.{mem-below, present-map-out}
 use Rattle.logic.specs.Tables.{Step}
 use Rattle.pair_graph.specs.GraphTable.{allowed, allowed-all, same-class, row-order, graph-step, graph-row, graph-table}
-use Rattle.pair_graph.specs.Steps.{class-in, kept-in, state-in}
-use Rattle.row_order.specs.Orders.{led-to, followers, same-in, Moves}
-use Rattle.row_order.proofs.Ways.{allowed-below}
+use Rattle.pair_graph.specs.Steps.{class-in, safe-in, state-in, led-to, FlaggedGraph}
+use Rattle.row_order.specs.Orders.{followers, same-in}
+use Rattle.pair_graph.proofs.Moves.{allowed-below}
 use Rattle.table_writer.specs.Writing.{graph-in, table-in, step-in, step-from, steps-in, row-in}
 
 -- Each of them is below n.
@@ -93,28 +93,28 @@ module _ (n : ℕ) (test other : ℕ → ℕ → Bool) (agree : (i j : ℕ) → 
 
 -- ---- the table
 
-module _ (steps flags entries classes part : List ℕ) (n actions : ℕ) (moves : Moves steps flags n actions) (least : 1 ≤ n)
+module _ (graph flags classes part : List ℕ) (n actions : ℕ) (moves : FlaggedGraph n actions graph flags) (least : 1 ≤ n)
     (agree : (i : ℕ) → i < n → class-in classes i ≡ class-in part i) where
   same-agrees : (i j : ℕ) → i < n → j < n → same-in classes i j ≡ same-in part i j
   unfolding same-in
   same-agrees i j l k = ap₂ eqb (agree i l) (agree j k)
 
-  followers-below : (i : ℕ) → i < n → Below n (followers steps flags actions i)
+  followers-below : (i : ℕ) → i < n → Below n (followers graph flags actions i)
   unfolding followers
   followers-below i l = λ y m.
-      let (a, at, e) = present-map-out (led-to steps flags i) (below actions) m in
-      allowed-below steps flags n actions i a y moves l (mem-below actions at) e
+      let (a, at, e) = present-map-out (led-to graph flags i) (below actions) m in
+      allowed-below graph flags n actions i a y moves l (mem-below actions at) e
 
   -- The order of the rows is what the search meets.
-  rows-met : row-order (graph-in steps entries n actions) (kept-in flags) (class-in classes) ≡ search-from (same-in part) (followers steps flags actions) n 0
+  rows-met : row-order (graph-in graph n actions) (safe-in flags) (class-in classes) ≡ search-from (same-in part) (followers graph flags actions) n 0
   unfolding row-order same-class allowed-all allowed graph-in search-from same-in followers led-to
   rows-met =
-      search-same n (same-in classes) (same-in part) same-agrees (followers steps flags actions) followers-below n (suc n) (0 ∷ []) (0 ∷ [])
+      search-same n (same-in classes) (same-in part) same-agrees (followers graph flags actions) followers-below n (suc n) (0 ∷ []) (0 ∷ [])
       (below-one n 0 (omega arith)) (below-one n 0 (omega arith))
 
-  module _ (order : List ℕ) (is-order : order ≡ search-from (same-in part) (followers steps flags actions) n 0) (rows-below : Below n order) where
+  module _ (order : List ℕ) (is-order : order ≡ search-from (same-in part) (followers graph flags actions) n 0) (rows-below : Below n order) where
     step-same : (a : ℕ) (o : Option ℕ) → ((j : ℕ) → o ≡ some j → j < n)
-        → graph-step (graph-in steps entries n actions) (kept-in flags) (class-in classes) a o ≡ step-in part order a o
+        → graph-step (graph-in graph n actions) (safe-in flags) (class-in classes) a o ≡ step-in part order a o
     unfolding graph-step step-in same-class same-in
     step-same a none h = refl
     step-same a (some j) h =
@@ -122,22 +122,22 @@ module _ (steps flags entries classes part : List ℕ) (n actions : ℕ) (moves 
         let place = place-same n (same-in classes) (same-in part) same-agrees j order (h j refl) rows-below in
         ap (λ (t : ℕ). some (record { action = a; target = t })) (ap (place-of (same-in classes j)) at ∙ place)
 
-    row-same : (i : ℕ) → i < n → graph-row (graph-in steps entries n actions) (kept-in flags) (class-in classes) i ≡ row-in steps flags entries part order actions i
+    row-same : (i : ℕ) → i < n → graph-row (graph-in graph n actions) (safe-in flags) (class-in classes) i ≡ row-in graph flags part order actions i
     unfolding graph-row row-in steps-in step-from led-to allowed graph-in
     row-same i l =
-        ap (λ (ss : List Step). record { state = state-in entries i; steps = ss })
+        ap (λ (ss : List Step). record { state = state-in graph i; steps = ss })
         (ap present
         (map-same
-        (λ a. graph-step (graph-in steps entries n actions) (kept-in flags) (class-in classes) a (led-to steps flags i a))
-        (step-from steps flags part order i)
+        (λ a. graph-step (graph-in graph n actions) (safe-in flags) (class-in classes) a (led-to graph flags i a))
+        (step-from graph flags part order i)
         (below actions)
         (λ a m.
-        step-same a (led-to steps flags i a) (λ j e. allowed-below steps flags n actions i a j moves l (mem-below actions m) e))))
+        step-same a (led-to graph flags i a) (λ j e. allowed-below graph flags n actions i a j moves l (mem-below actions m) e))))
 
     -- The table of the graph is the table over the list of rows.
-    pub table-same : table-in steps flags entries classes n actions ≡ map (row-in steps flags entries part order actions) order
+    pub table-same : table-in graph flags classes n actions ≡ map (row-in graph flags part order actions) order
     unfolding table-in graph-table
     table-same =
-        ap (map (graph-row (graph-in steps entries n actions) (kept-in flags) (class-in classes))) (rows-met ∙ sym is-order)
-        ∙ map-same (graph-row (graph-in steps entries n actions) (kept-in flags) (class-in classes)) (row-in steps flags entries part order actions)
+        ap (map (graph-row (graph-in graph n actions) (safe-in flags) (class-in classes))) (rows-met ∙ sym is-order)
+        ∙ map-same (graph-row (graph-in graph n actions) (safe-in flags) (class-in classes)) (row-in graph flags part order actions)
         order (λ y m. row-same y (rows-below y m))

@@ -2,7 +2,7 @@
 use Prim.Native.Nat.{ℕ, suc, _+_, _-_, _*_, _%_, _^_, _≤_, _<_}
 use native.Mathlib.Omega.{arith}
 use native.Mathlib.Numerals.{add-one}
-use mathlib.Core.Path.{_≡_, refl, sym, _∙_, ap}
+use mathlib.Core.Path.{_≡_, refl, sym, _∙_, ap, ap₂}
 use mathlib.Core.Bool.{Bool, true}
 use mathlib.Core.Option.{some}
 use mathlib.Core.List.{List, [], _∷_, _++_}
@@ -12,33 +12,34 @@ use mir.Syntax.{w64}
 use mir.Val.{Fits}
 use Rattle.base.specs.Lists.{below, present, joined, some-of, place-of}
 use Rattle.base.specs.Bytes.{number-at, number-bytes}
+use Rattle.base.proofs.Bytes.{length-number-bytes}
 use Rattle.base.proofs.Lists.{mem-along, present-map-in, below-mem, some-of-mem}
 use Rattle.base.specs.Search.{search-from}
 use Rattle.base.proofs.Search.{search-closed}
 use Rattle.logic.specs.Tables.{Step}
-use Rattle.logic.specs.TableFile.{rows-at, row-size, steps-at, header-bytes, step-bytes}
-use Rattle.logic.specs.Tower.{state-width}
-use Rattle.pair_graph.specs.Steps.{class-in}
-use Rattle.row_order.specs.Orders.{led-to, led-of, followers, classes-part, same-in, order-of, of-class}
-use Rattle.row_order.specs.declared.Led.{Led}
-use Rattle.row_order.specs.declared.Led.the-variants.{To, Nowhere}
+use Rattle.logic.specs.declared.FileLayout.{FileLayout}
+use Rattle.logic.specs.TableFile.{rows-at, steps-at, header-bytes, step-bytes}
+use Rattle.pair_graph.specs.Steps.{class-in, led-to, led-of}
+use Rattle.row_order.specs.Orders.{followers, classes-part, same-in, order-of, of-class}
+use Rattle.pair_graph.specs.declared.Led.{Led}
+use Rattle.pair_graph.specs.declared.Led.the-variants.{To, Nowhere}
 use Rattle.row_order.proofs.Orders.{same-is, class-read, length-order, rows-few, mark-some, of-same}
-use Rattle.row_order.proofs.Ways.{led-some, led-none, allowed-below}
+use Rattle.pair_graph.proofs.Moves.{led-some, led-none, allowed-below}
 use Rattle.table_writer.specs.Writing.{step-in, step-from, Laid, IsRow, Marked, Wrote}
-use Rattle.table_writer.proofs.Tables.{no-steps, one-step}
+use Rattle.table_writer.proofs.Tables.{sets-append, no-steps, one-step}
 use Rattle.table_writer.proofs.Going.{row-pair-below}
 
 -- ---- one step more or none
 
-pub no-step : (steps flags : List ℕ) (i a : ℕ) (r : Led) → r ≡ led-of (led-to steps flags i a) → r ≡ Nowhere
-    → 0 ≡ length (present (led-to steps flags i a ∷ []))
+pub no-step : (graph flags : List ℕ) (i a : ℕ) (r : Led) → r ≡ led-of (led-to graph flags i a) → r ≡ Nowhere
+    → 0 ≡ length (present (led-to graph flags i a ∷ []))
 unfolding present
-no-step steps flags i a r e f = let o = led-none (led-to steps flags i a) r e f in rw o
+no-step graph flags i a r e f = let o = led-none (led-to graph flags i a) r e f in rw o
 
-pub a-step : (steps flags : List ℕ) (i a j : ℕ) (r : Led) → r ≡ led-of (led-to steps flags i a) → r ≡ To j
-    → 1 ≡ length (present (led-to steps flags i a ∷ []))
+pub a-step : (graph flags : List ℕ) (i a j : ℕ) (r : Led) → r ≡ led-of (led-to graph flags i a) → r ≡ To j
+    → 1 ≡ length (present (led-to graph flags i a ∷ []))
 unfolding present
-a-step steps flags i a j r e f = let o = led-some (led-to steps flags i a) r j e f in rw o
+a-step graph flags i a j r e f = let o = led-some (led-to graph flags i a) r j e f in rw o
 
 -- ---- the row of a class
 
@@ -73,13 +74,13 @@ row-read area n j c m h e f =
     let g : m ≡ number-at 2 area (2000 + 2 * n + 2 * number-at 2 area (2 * j)) = f ∙ ap (λ k. number-at 2 area (2000 + 2 * n + 2 * k)) e in
     omega (arith, mark-least area n j c m h e f)
 
-module _ (steps flags area : List ℕ) (n actions rows i a j : ℕ) (r : Led) (laid : Laid steps flags area n actions rows) (row : IsRow area rows i)
-    (l : a < actions) (is-r : r ≡ led-of (led-to steps flags i a)) (is-to : r ≡ To j) where
-  led-is : led-to steps flags i a ≡ some j
-  led-is = led-some (led-to steps flags i a) r j is-r is-to
+module _ (graph flags area : List ℕ) (n actions rows i a j : ℕ) (r : Led) (laid : Laid graph flags area n actions rows) (row : IsRow area rows i)
+    (l : a < actions) (is-r : r ≡ led-of (led-to graph flags i a)) (is-to : r ≡ To j) where
+  led-is : led-to graph flags i a ≡ some j
+  led-is = led-some (led-to graph flags i a) r j is-r is-to
 
   target-below : j < n
-  target-below = allowed-below steps flags n actions i a j (laid .moves) (row-pair-below steps flags area n actions rows i laid row) l led-is
+  target-below = allowed-below graph flags n actions i a j (laid .held) (row-pair-below graph flags area n actions rows i laid row) l led-is
 
   class-is : class-in (classes-part area) j ≡ number-at 2 area (2 * j)
   class-is = class-read area j (omega (arith, target-below, laid .numbered .pairs))
@@ -93,10 +94,10 @@ module _ (steps flags area : List ℕ) (n actions rows i a j : ℕ) (r : Led) (l
   target-met =
       let part = classes-part area in
       let few = rows-few n area rows (laid .numbered) in
-      let long : length (search-from (same-in part) (followers steps flags actions) n 0) ≤ n =
+      let long : length (search-from (same-in part) (followers graph flags actions) n 0) ≤ n =
       omega (arith, ap length (laid .order), length-order area rows) in
-      let follows = present-map-in (led-to steps flags i) (below actions) (below-mem actions a l) led-is in
-      let (z, m, e) = search-closed (same-in part) (followers steps flags actions) n 0 (same-is part) long (mem-along (laid .order) (row .listed)) follows in
+      let follows = present-map-in (led-to graph flags i) (below actions) (below-mem actions a l) led-is in
+      let (z, m, e) = search-closed (same-in part) (followers graph flags actions) n 0 (same-is part) long (mem-along (laid .order) (row .listed)) follows in
       some-of-mem (same-in part j) (mem-along (sym (laid .order)) m) e
 
   mark-is : number-at 2 area (2000 + 2 * n + 2 * number-at 2 area (2 * j)) ≡ suc (place-of (same-in (classes-part area) j) (order-of area rows))
@@ -120,7 +121,7 @@ module _ (steps flags area : List ℕ) (n actions rows i a j : ℕ) (r : Led) (l
 
   -- One step.
   steps-one : (t : ℕ) → t + 1 ≡ number-at 2 area (2000 + 2 * n + 2 * number-at 2 area (2 * j))
-      → present (step-from steps flags (classes-part area) (order-of area rows) i a ∷ []) ≡ record { action = a; target = t } ∷ []
+      → present (step-from graph flags (classes-part area) (order-of area rows) i a ∷ []) ≡ record { action = a; target = t } ∷ []
   unfolding step-from step-in present
   steps-one t e =
       let same : place-of (same-in (classes-part area) j) (order-of area rows) ≡ t = omega (arith, mark-is) in
@@ -128,19 +129,19 @@ module _ (steps flags area : List ℕ) (n actions rows i a j : ℕ) (r : Led) (l
 
   -- There is room for it.
   pub step-room : (p : ℕ) (out : List ℕ)
-      → p + 3 * length (present (step-from steps flags (classes-part area) (order-of area rows) i a ∷ [])) ≤ length out → p + 3 ≤ length out
+      → p + 3 * length (present (step-from graph flags (classes-part area) (order-of area rows) i a ∷ [])) ≤ length out → p + 3 ≤ length out
   unfolding step-from step-in present
   step-room p out h = let e = rw led-is at h in omega arith
 
   pub step-fits : (p : ℕ) (out : List ℕ)
-      → p + 3 * length (present (step-from steps flags (classes-part area) (order-of area rows) i a ∷ [])) ≤ length out → length out < 2 ^ 64
+      → p + 3 * length (present (step-from graph flags (classes-part area) (order-of area rows) i a ∷ [])) ≤ length out → length out < 2 ^ 64
       → Fits w64 (p + 3)
   step-fits p out h f = omega (arith, step-room p out h)
 
   -- It is written.
   pub wrote-one : (p t : ℕ) (out z : List ℕ) → t + 1 ≡ number-at 2 area (2000 + 2 * n + 2 * number-at 2 area (2 * j))
       → z ≡ sets out p (number-bytes 1 a ++ number-bytes 2 t)
-      → Wrote (present (step-from steps flags (classes-part area) (order-of area rows) i a ∷ [])) out p z (p + 3)
+      → Wrote (present (step-from graph flags (classes-part area) (order-of area rows) i a ∷ [])) out p z (p + 3)
   unfolding step-bytes
   wrote-one p t out z e is-z =
       let s : Step = record { action = a; target = t } in
@@ -151,11 +152,11 @@ module _ (steps flags area : List ℕ) (n actions rows i a j : ℕ) (r : Led) (l
       })
 
 -- No step is written.
-pub wrote-none : (steps flags area : List ℕ) (rows i a : ℕ) (r : Led) (p : ℕ) (out : List ℕ) → r ≡ led-of (led-to steps flags i a) → r ≡ Nowhere
-    → Wrote (present (step-from steps flags (classes-part area) (order-of area rows) i a ∷ [])) out p out p
+pub wrote-none : (graph flags area : List ℕ) (rows i a : ℕ) (r : Led) (p : ℕ) (out : List ℕ) → r ≡ led-of (led-to graph flags i a) → r ≡ Nowhere
+    → Wrote (present (step-from graph flags (classes-part area) (order-of area rows) i a ∷ [])) out p out p
 unfolding step-from step-in present
-wrote-none steps flags area rows i a r p out is-r f =
-    let o = led-none (led-to steps flags i a) r is-r f in
+wrote-none graph flags area rows i a r p out is-r f =
+    let o = led-none (led-to graph flags i a) r is-r f in
     rw o (record { same-length = refl; left = ap (sets out p) (sym no-steps); behind = omega arith })
 
 -- ---- the pieces as bytes
@@ -167,20 +168,28 @@ unfolding number-bytes
 step-written l p a t z e = e ∙ rw (add-one p)
 
 -- A row.
-pub row-written : (l : List ℕ) (p s c f : ℕ) (z : List ℕ) → z ≡ sets (set (set l p s) (p + 1) (c % 256)) (p + 2) (number-bytes 2 f)
-    → z ≡ sets l p (s ∷ (number-bytes 1 c ++ number-bytes 2 f))
-unfolding number-bytes
-row-written l p s c f z e =
-    let two : p + 2 ≡ suc (suc p) = omega arith in
-    e ∙ rw (add-one p, two)
+pub row-written : (l l₁ l₂ z : List ℕ) (p width s c f : ℕ) → z ≡ sets l₂ (p + width + 1) (number-bytes 2 f)
+    → l₂ ≡ sets l₁ (p + width) (number-bytes 1 c) → l₁ ≡ sets l p (number-bytes width s)
+    → z ≡ sets l p (number-bytes width s ++ (number-bytes 1 c ++ number-bytes 2 f))
+row-written l l₁ l₂ z p width s c f e₃ e₂ e₁ =
+    let state = number-bytes width s in
+    let one = length-number-bytes width s in
+    let two = length-number-bytes 1 c in
+    let last : p + width + 1 ≡ p + width + length (number-bytes 1 c) = omega arith in
+    let first : p + width ≡ p + length state = omega arith in
+    e₃ ∙ ap₂ (λ (k : List ℕ) (q : ℕ). sets k q (number-bytes 2 f)) e₂ last
+    ∙ sym (sets-append l₁ (p + width) (number-bytes 1 c) (number-bytes 2 f))
+    ∙ ap₂ (λ (k : List ℕ) (q : ℕ). sets k q (number-bytes 1 c ++ number-bytes 2 f)) e₁ first
+    ∙ sym (sets-append l p state (number-bytes 1 c ++ number-bytes 2 f))
 
 -- The header.
-pub header-written : (l l₁ l₂ l₃ l₄ l₅ l₆ : List ℕ) (rows total states actions : ℕ) → l₁ ≡ sets l 0 (number-bytes 2 rows)
-    → l₂ ≡ sets l₁ 2 (number-bytes 2 total) → l₃ ≡ sets l₂ 4 (number-bytes 2 12) → l₄ ≡ sets l₃ 6 (number-bytes 2 (12 + 4 * rows))
-    → l₅ ≡ sets l₄ 8 (number-bytes 2 states) → l₆ ≡ sets l₅ 10 (number-bytes 2 actions)
-    → l₆ ≡ sets l 0 (header-bytes rows total states actions)
-unfolding header-bytes joined number-bytes rows-at steps-at row-size state-width
-header-written l l₁ l₂ l₃ l₄ l₅ l₆ rows total states actions e₁ e₂ e₃ e₄ e₅ e₆ = rw (e₆, e₅, e₄, e₃, e₂, e₁)
+pub header-written : (l l₁ l₂ l₃ l₄ l₅ l₆ : List ℕ) (layout : FileLayout) (rows total place states actions : ℕ)
+    → l₆ ≡ sets l₅ 10 (number-bytes 2 actions) → l₅ ≡ sets l₄ 8 (number-bytes 2 states) → l₄ ≡ sets l₃ 6 (number-bytes 2 place)
+    → l₃ ≡ sets l₂ 4 (number-bytes 2 12) → l₂ ≡ sets l₁ 2 (number-bytes 2 total) → l₁ ≡ sets l 0 (number-bytes 2 rows)
+    → place ≡ steps-at layout rows → l₆ ≡ sets l 0 (header-bytes layout rows total states actions)
+unfolding header-bytes joined number-bytes rows-at
+header-written l l₁ l₂ l₃ l₄ l₅ l₆ layout rows total place states actions e₆ e₅ e₄ e₃ e₂ e₁ at =
+    rw (e₆, e₅, e₄, e₃, e₂, e₁, at)
 
 -- ---- stores before a call
 
@@ -188,15 +197,16 @@ header-written l l₁ l₂ l₃ l₄ l₅ l₆ rows total states actions e₁ e�
 pub step-rest-there : (l : List ℕ) (p v : ℕ) → p + 3 ≤ length l → p + 1 + 1 < length (set l p v)
 step-rest-there l p v h = omega (arith, length-set l p v)
 
-pub row-count-there : (l : List ℕ) (p v : ℕ) → p + 4 ≤ length l → p + 1 < length (set l p v)
-row-count-there l p v h = omega (arith, length-set l p v)
+-- So is what follows a row's state, and its step count.
+pub row-count-there : (l z : List ℕ) (p width s : ℕ) → p + width + 3 ≤ length l → z ≡ sets l p (number-bytes width s)
+    → p + width + 1 ≤ length z
+row-count-there l z p width s h e = omega (arith, ap length e, length-sets l p (number-bytes width s))
 
-pub row-rest-there : (l : List ℕ) (p v q w : ℕ) → p + 4 ≤ length l → p + 2 + 1 < length (set (set l p v) q w)
-row-rest-there l p v q w h = omega (arith, length-set l p v, length-set (set l p v) q w)
+pub row-rest-there : (l z y : List ℕ) (p width s c : ℕ) → p + width + 3 ≤ length l → y ≡ sets z (p + width) (number-bytes 1 c)
+    → z ≡ sets l p (number-bytes width s) → p + width + 1 + 1 < length y
+row-rest-there l z y p width s c h f e =
+    omega (arith, ap length e, length-sets l p (number-bytes width s), ap length f, length-sets z (p + width) (number-bytes 1 c))
 
 -- A store and a call keep the length.
 pub step-length : (l : List ℕ) (p v q : ℕ) (ws z : List ℕ) → z ≡ sets (set l p v) q ws → length z ≡ length l
 step-length l p v q ws z e = ap length e ∙ length-sets (set l p v) q ws ∙ length-set l p v
-
-pub row-length : (l : List ℕ) (p v q w r : ℕ) (ws z : List ℕ) → z ≡ sets (set (set l p v) q w) r ws → length z ≡ length l
-row-length l p v q w r ws z e = ap length e ∙ length-sets (set (set l p v) q w) r ws ∙ length-set (set l p v) q w ∙ length-set l p v

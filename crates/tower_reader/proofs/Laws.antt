@@ -2,28 +2,26 @@
 use Prim.Native.Nat.{ℕ, _≤_, _<_}
 use native.Mathlib.Omega.{arith}
 use mathlib.Core.Path.{_≡_, refl, sym, _∙_, ap}
-use mathlib.Core.Logic.{⊎-elim}
-use mathlib.Core.Bool.{Bool, true, false, _&&_, _||_, not}
+use mathlib.Core.Bool.{Bool, true, false, _||_, not}
 use mathlib.Core.Option.{Option, none, some}
 use mathlib.Core.List.{List}
 use lib.ListN.{length}
 use lib.Dec.{leb, ltb, eqb}
 use borrow.Author.Tests.{ltb-true, ltb-false, leb-true, eqb-true, eqb-false, not-false}
-use Rattle.base.specs.Choice.{pick}
-use Rattle.base.specs.Bytes.{number-at}
 use Rattle.base.specs.Answers.{Answer, refuse, give, _if_else_}
 use Rattle.base.specs.Lists.{some-of, below}
 use Rattle.base.specs.declared.Refusal.{Refusal}
 use Rattle.base.specs.declared.Refusal.the-variants.{TowerSize, Range, Action, Target, Mask}
-use Rattle.base.proofs.Lists.{never-both, and-left, and-right, or-cases, or-fails-left, or-fails-right, some-none, below-mem, none-some}
-use Rattle.base.proofs.Lists.{some-one}
+use Rattle.base.proofs.Lists.{or-fails-left, or-fails-right, some-none, below-mem}
 use Rattle.base.proofs.Answers.{if-gives}
-use Rattle.logic.specs.Tower.{Tower, Listed, FitTower, tower-of, in-range, most-states, most-actions, most-marks, not-enabled, last-kind}
-use Rattle.logic.specs.Tower.{header-size, states-of, actions-of, marks-of, start-of, states-at, state-at, length-of, kind-of}
-use Rattle.logic.specs.Tower.{target-of, no-header, bad-counts, bad-size, bad-actions, bad-targets, bad-masks}
+use Rattle.logic.specs.Tower.{Tower, Listed, FitTower, tower-of, in-range, most-actions, most-marks, last-kind, layout-of}
+use Rattle.logic.specs.Tower.{states-of, actions-of, marks-of, start-of, actions-offset, states-offset, states-at, state-at, length-of, kind-of}
+use Rattle.logic.specs.Tower.{no-header, bad-counts, bad-size, bad-actions, bad-targets, bad-masks}
+use Rattle.logic.proofs.Layouts.{file-layout-fits}
+use Rattle.logic.proofs.TowerFile.{target-enabled, range-out, fit-tower}
 use Rattle.reading.specs.TowerReading.{read-tower}
 use Rattle.tower_reader.specs.TowerRead.{tower-read, target-read}
-use Rattle.tower_reader.specs.Stages.{Ranges, Headed, Counted, Sized, bad-action, bad-target, bad-targets-of}
+use Rattle.tower_reader.specs.Stages.{Ranges, Headed, Counted, Sized, bad-action}
 use Rattle.tower_reader.specs.declared.TowerRead.{TowerRead}
 use Rattle.tower_reader.specs.declared.TowerRead.the-variants.{Fit, Refused}
 use Rattle.tower_reader.specs.declared.Reached.{Reached}
@@ -31,37 +29,28 @@ use Rattle.tower_reader.specs.declared.Reached.the-variants.{State, NotE
 
 -- ---- the counts
 
--- a count in range is at least 1
-range-least : (most n : ℕ) → in-range most n ≡ true → 1 ≤ n
-unfolding in-range
-range-least most n e = leb-true 1 n (and-left (leb 1 n) (leb n most) e)
-
--- and at most what it may be
-range-most : (most n : ℕ) → in-range most n ≡ true → n ≤ most
-unfolding in-range
-range-most most n e = leb-true n most (and-right (leb 1 n) (leb n most) e)
-
 -- the last of several tests did not fail
 last-holds : (a b : Bool) → (a || not b) ≡ false → b ≡ true
 last-holds a b e = not-false b (or-fails-right a (not b) e)
 
 -- No count is bad: they are in their ranges.
 pub counts-ranges : (bytes : List ℕ) → bad-counts bytes ≡ false → Ranges bytes
-unfolding bad-counts most-states most-actions most-marks
+unfolding bad-counts most-actions most-marks
 counts-ranges bytes e =
-    let s = in-range 200 (states-of bytes) in
+    let most = layout-of bytes .most in
+    let s = in-range most (states-of bytes) in
     let a = in-range 16 (actions-of bytes) in
     let p = leb (marks-of bytes) 16 in
     let x = ltb (start-of bytes) (states-of bytes) in
     let e₃ = or-fails-left (not s || not a || not p) (not x) e in
     let e₂ = or-fails-left (not s || not a) (not p) e₃ in
-    let in-states = not-false s (or-fails-left (not s) (not a) e₂) in
-    let in-actions = last-holds (not s) a e₂ in
+    let in-states = range-out most (states-of bytes) (not-false s (or-fails-left (not s) (not a) e₂)) in
+    let in-actions = range-out 16 (actions-of bytes) (last-holds (not s) a e₂) in
     record {
-      states-least = range-least 200 (states-of bytes) in-states;
-      states-most = range-most 200 (states-of bytes) in-states;
-      actions-least = range-least 16 (actions-of bytes) in-actions;
-      actions-most = range-most 16 (actions-of bytes) in-actions;
+      states-least = in-states .0;
+      states-most = omega (arith, in-states .1, file-layout-fits bytes .few-states);
+      actions-least = in-actions .0;
+      actions-most = in-actions .1;
       marks-most = leb-true (marks-of bytes) 16 (last-holds (not s || not a) p e₃);
       start-below = ltb-true (start-of bytes) (states-of bytes) (last-holds (not s || not a || not p) x e);
     }
@@ -77,36 +66,33 @@ pub size-length : (bytes : List ℕ) → bad-size bytes ≡ false → length byt
 unfolding bad-size
 size-length bytes e =
     eqb-true (length bytes) (state-at bytes (states-of bytes))
-    (last-holds (not (eqb (number-at 2 bytes 4) header-size) || not (eqb (number-at 2 bytes 6) (states-at bytes)))
+    (last-holds (not (eqb (actions-offset bytes) (layout-of bytes .header)) || not (eqb (states-offset bytes) (states-at bytes)))
     (eqb (length bytes) (state-at bytes (states-of bytes))) e)
 
--- The header is whole: there are 8 bytes.
+-- The header is whole.
 pub header-whole : (bytes : List ℕ) → no-header bytes ≡ false → Headed bytes
-unfolding no-header header-size
-header-whole bytes e = record { header = ltb-false (length bytes) 8 e }
+unfolding no-header
+header-whole bytes e =
+    let whole = ltb-false (length bytes) (layout-of bytes .header) e in
+    record { header = whole; counts = omega (arith, whole, file-layout-fits bytes .counts-inside) }
 
 -- The first two tests found nothing.
 pub counted : (bytes : List ℕ) → no-header bytes ≡ false → bad-counts bytes ≡ false → Counted bytes
-counted bytes e f = record { header = header-whole bytes e .header; ranges = counts-ranges bytes f }
+counted bytes e f = record { headed = header-whole bytes e; ranges = counts-ranges bytes f }
 
 -- The first three tests found nothing.
 pub sized : (bytes : List ℕ) → no-header bytes ≡ false → bad-counts bytes ≡ false → bad-size bytes ≡ false → Sized bytes
-unfolding state-at states-at header-size
+unfolding state-at states-at
 sized bytes e f g =
-    record {
-      header = header-whole bytes e .header;
-      ranges = counts-ranges bytes f;
-      actions = omega (arith, size-length bytes g);
-      end = size-length bytes g;
-    }
+    record { counted = counted bytes e f; actions = omega (arith, size-length bytes g); end = size-length bytes g }
 
 -- A fit file is as long as it has to be.
 pub fit-sized : {bytes : List ℕ} → FitTower bytes → Sized bytes
 fit-sized {bytes} fit = sized bytes (fit .header) (fit .counts) (fit .size)
 
--- The header of a fit file is there.
-pub fit-header : {bytes : List ℕ} (p : ℕ) → FitTower bytes → p < 8 → p < length bytes
-fit-header p fit l = omega (arith, fit-sized fit .header)
+-- Its header is there.
+pub fit-headed : {bytes : List ℕ} → FitTower bytes → Headed bytes
+fit-headed fit = fit-sized fit .counted .headed
 
 -- ---- actions, targets and masks
 
@@ -128,43 +114,10 @@ fit-action-kind {bytes} fit a l =
     let e = none-at (bad-action bytes) (actions-of bytes) a (fit .actions) l in
     ltb-false 1 (kind-of bytes a) (or-fails-right (eqb (length-of bytes a) 0) (ltb last-kind (kind-of bytes a)) e)
 
--- What an action leads to is written in the file, and does not say 'not enabled'.
-pub target-written : (bytes : List ℕ) (x a y : ℕ) → tower-of bytes .target x a ≡ some y
-    → (a < actions-of bytes) × (target-of bytes x a ≡ y) × (eqb (target-of bytes x a) not-enabled ≡ false)
-unfolding tower-of
-target-written bytes x a y e = go (ltb a (actions-of bytes)) (eqb (target-of bytes x a) not-enabled) refl refl e
-  where
-    go : (b c : Bool) → ltb a (actions-of bytes) ≡ b → eqb (target-of bytes x a) not-enabled ≡ c
-        → pick (b && not c) (λ _. some (target-of bytes x a)) (λ _. none) ≡ some y
-        → (a < actions-of bytes) × (target-of bytes x a ≡ y) × (eqb (target-of bytes x a) not-enabled ≡ false)
-    go true false p q f = (ltb-true a (actions-of bytes) p, some-one refl f, q)
-    go true true p q f = none-some refl f
-    go false c p q f = none-some refl f
-
 -- Whatever is enabled is one of the tower's actions.
 pub tower-listed : (bytes : List ℕ) → Listed (tower-of bytes)
 unfolding Listed tower-of
-tower-listed bytes x a y e = target-written bytes x a y e .0
-
--- A target of a fit file is a state, or says 'not enabled'.
-pub fit-written : {bytes : List ℕ} → FitTower bytes → (x a : ℕ) → x < states-of bytes → a < actions-of bytes
-    → (ltb (target-of bytes x a) (states-of bytes) || eqb (target-of bytes x a) not-enabled) ≡ true
-unfolding bad-targets bad-targets-of bad-target
-fit-written {bytes} fit x a k l =
-    not-false (ltb (target-of bytes x a) (states-of bytes) || eqb (target-of bytes x a) not-enabled)
-    (none-at (bad-target bytes x) (actions-of bytes) a (none-at (bad-targets-of bytes) (states-of bytes) x (fit .targets) k) l)
-
--- What an action leads to is one of the tower's states.
-pub fit-target : {bytes : List ℕ} → FitTower bytes → (x a y : ℕ) → x < states-of bytes → tower-of bytes .target x a ≡ some y
-    → y < states-of bytes
-fit-target {bytes} fit x a y k e =
-    let (l, p, q) = target-written bytes x a y e in
-    go l p q
-  where
-    go : a < actions-of bytes → target-of bytes x a ≡ y → eqb (target-of bytes x a) not-enabled ≡ false → y < states-of bytes
-    go l p q =
-        ⊎-elim (λ t. omega (arith, ltb-true (target-of bytes x a) (states-of bytes) t)) (λ t. never-both t q)
-        (or-cases (ltb (target-of bytes x a) (states-of bytes)) (eqb (target-of bytes x a) not-enabled) (fit-written fit x a k l))
+tower-listed bytes x a y e = target-enabled bytes x a y e .action
 
 -- ---- the tower of a fit file
 
@@ -196,7 +149,7 @@ tower-kind bytes a = refl
 -- What holds of the tower of a fit file.
 pub record TowerBounds (tower : Tower) : Type 0 where
   pub states-least : 1 ≤ tower .states
-  pub states-most : tower .states ≤ 200
+  pub states-most : tower .states ≤ 1000
   pub actions-least : 1 ≤ tower .actions
   pub actions-most : tower .actions ≤ 16
   pub marks-most : tower .marks ≤ 16
@@ -220,7 +173,7 @@ fit-bounds {bytes} fit =
       start-below = ranges .start-below;
       kinds = fit-action-kind fit;
       lengths = λ x a l. fit-action-length fit a l;
-      targets = fit-target fit;
+      targets = λ x a y l e. fit-tower bytes fit .targets x a y e;
       listed = tower-listed bytes;
     }
 

@@ -3,20 +3,18 @@ use Prim.Native.Nat.{ℕ, _*_, _/_, _%_, _^_, _≤_, _<_}
 use native.Mathlib.Omega.{arith}
 use native.Mathlib.Nat.{one-mul, mod-eq-of-lt, lt-of-le-of-lt}
 use mathlib.Core.Path.{_≡_, refl, sym, _∙_, ap}
-use mathlib.Core.Bool.{Bool, true, false, _&&_, not}
-use mathlib.Core.Option.{none, some}
+use mathlib.Core.Bool.{Bool, true, false, not, and-false}
 use mathlib.Core.List.{List}
 use lib.ListN.{length}
 use lib.Dec.{leb, ltb, eqb}
 use lib.Pow.{pow-mono}
 use borrow.Author.Tests.{ltb-true, ltb-false, lt-ltb, le-ltb, le-leb, lt-leb, eq-eqb, ne-eqb}
-use Rattle.base.specs.Choice.{pick}
-use Rattle.base.specs.Bytes.{number-at}
 use Rattle.base.specs.Answers.{_if_else_}
 use Rattle.base.specs.declared.Refusal.the-variants.{TowerSize, Range, Action, Target, Mask}
 use Rattle.logic.specs.Time.{ticks}
-use Rattle.logic.specs.Tower.{tower-of, in-range, most-states, most-actions, most-marks, not-enabled, last-kind, header-size, states-of}
-use Rattle.logic.specs.Tower.{actions-of, marks-of, start-of, states-at, state-at, length-of, kind-of, mask-of, target-of, bit}
+use Rattle.logic.specs.declared.FileLayout.{FileLayout}
+use Rattle.logic.specs.Tower.{tower-of, in-range, most-actions, most-marks, not-enabled, last-kind, layout-of, states-of, actions-of}
+use Rattle.logic.specs.Tower.{marks-of, start-of, actions-offset, states-offset, states-at, state-at, length-of, kind-of, mask-of, target-of, bit}
 use Rattle.logic.specs.Tower.{no-header, bad-counts, bad-size, bad-actions, bad-targets, bad-masks}
 use Rattle.reading.specs.TowerReading.{read-tower}
 use Rattle.tower_reader.specs.TowerRead.{tower-read, target-read}
@@ -27,20 +25,10 @@ use Rattle.tower_reader.specs.declared.Reached.the-variants.{State, NotE
 
 -- ---- the header and its counts
 
--- Fewer than 8 bytes.
-pub header-test : (bytes : List ℕ) → ltb (length bytes) 8 ≡ no-header bytes
-unfolding no-header header-size
-header-test bytes = refl
-
--- At least 1: the upper end decides.
-pub range-high : (most n : ℕ) → 1 ≤ n → leb n most ≡ in-range most n
-unfolding in-range
-range-high most n h = rw (le-leb 1 n h)
-
--- Below 1.
-pub range-low : (most n : ℕ) → n < 1 → leb 1 n ≡ in-range most n
-unfolding in-range
-range-low most n h = rw (lt-leb 1 n h)
+-- Fewer bytes than the header's.
+pub header-test : (bytes : List ℕ) (k : FileLayout) → k ≡ layout-of bytes → ltb (length bytes) (k .header) ≡ no-header bytes
+unfolding no-header
+header-test bytes k e = rw e
 
 -- not below is at least
 at-least : (a b : ℕ) → leb a b ≡ not (ltb b a)
@@ -50,54 +38,58 @@ at-least a b = go (ltb b a) refl
     go true e = lt-leb a b (ltb-true b a e)
     go false e = le-leb a b (ltb-false b a e)
 
-module _ (bytes : List ℕ) (s : ℕ) (r : Bool) (at-s : s ≡ states-of bytes) (is-r : r ≡ in-range 200 s) where
+module _ (bytes : List ℕ) (k : FileLayout) (s : ℕ) (r : Bool) (is-k : k ≡ layout-of bytes) (at-s : s ≡ states-of bytes)
+    (is-r : r ≡ in-range (k .most) s) where
+  states-in : in-range (layout-of bytes .most) (states-of bytes) ≡ r
+  states-in = sym (rw (at-s, is-k) at is-r)
+
   -- The states are out of range.
   pub counts-states : r ≡ false → true ≡ bad-counts bytes
-  unfolding bad-counts most-states
-  counts-states f = let h : in-range 200 (states-of bytes) ≡ false = cc in rw h
+  unfolding bad-counts
+  counts-states f = rw (states-in, f)
 
   module _ (a : ℕ) (q : Bool) (good-r : r ≡ true) (at-a : a ≡ actions-of bytes) (is-q : q ≡ in-range 16 a) where
+    actions-in : in-range 16 (actions-of bytes) ≡ q
+    actions-in = cc
+
     -- The states are in range, the actions are not.
     pub counts-actions : q ≡ false → true ≡ bad-counts bytes
-    unfolding bad-counts most-states most-actions
-    counts-actions f =
-        let h : in-range 200 (states-of bytes) ≡ true = cc in
-        let k : in-range 16 (actions-of bytes) ≡ false = cc in
-        rw (h, k)
+    unfolding bad-counts most-actions
+    counts-actions f = rw (states-in, good-r, actions-in, f)
 
     module _ (p : ℕ) (good-q : q ≡ true) (at-p : p ≡ marks-of bytes) where
       -- Too many marks.
       pub counts-marks : 16 < p → true ≡ bad-counts bytes
-      unfolding bad-counts most-states most-actions most-marks
+      unfolding bad-counts most-actions most-marks
       counts-marks l =
-          let h : in-range 200 (states-of bytes) ≡ true = cc in
-          let k : in-range 16 (actions-of bytes) ≡ true = cc in
           let m : leb (marks-of bytes) 16 ≡ false = lt-leb (marks-of bytes) 16 (omega arith) in
-          rw (h, k, m)
+          rw (states-in, good-r, actions-in, good-q, m)
 
       -- The counts are in range: the start decides.
       pub counts-start : (x : ℕ) → p ≤ 16 → x ≡ start-of bytes → leb s x ≡ bad-counts bytes
-      unfolding bad-counts most-states most-actions most-marks
+      unfolding bad-counts most-actions most-marks
       counts-start x l at-x =
-          let h : in-range 200 (states-of bytes) ≡ true = cc in
-          let k : in-range 16 (actions-of bytes) ≡ true = cc in
           let m : leb (marks-of bytes) 16 ≡ true = le-leb (marks-of bytes) 16 (omega arith) in
-          rw (h, k, m, at-s, at-x) (at-least (states-of bytes) (start-of bytes))
+          rw (states-in, good-r, actions-in, good-q, m, at-s, at-x) (at-least (states-of bytes) (start-of bytes))
 
 -- ---- size
 
--- The first offset is wrong.
-pub offset-actions : (bytes : List ℕ) (i : ℕ) → i ≡ number-at 2 bytes 4 → (i ≡ 8 → ⊥) → true ≡ bad-offsets bytes
-unfolding bad-offsets header-size
-offset-actions bytes i at-i f = let h : eqb (number-at 2 bytes 4) 8 ≡ false = ne-eqb (number-at 2 bytes 4) 8 (λ e. f (at-i ∙ e)) in rw h
+module _ (bytes : List ℕ) (k : FileLayout) (i : ℕ) (is-k : k ≡ layout-of bytes) (at-i : i ≡ actions-offset bytes) where
+  -- The first offset is wrong.
+  pub offset-actions : (i ≡ k .header → ⊥) → true ≡ bad-offsets bytes
+  unfolding bad-offsets
+  offset-actions f =
+      let h : eqb (actions-offset bytes) (layout-of bytes .header) ≡ false =
+      rw (← at-i, ← is-k) (ne-eqb i (k .header) f) in
+      rw h
 
--- The first is right: the second decides.
-pub offset-states : (bytes : List ℕ) (i j k : ℕ) → i ≡ number-at 2 bytes 4 → i ≡ 8 → j ≡ number-at 2 bytes 6 → k ≡ states-at bytes
-    → not (eqb j k) ≡ bad-offsets bytes
-unfolding bad-offsets header-size
-offset-states bytes i j k at-i e at-j at-k =
-    let h : eqb (number-at 2 bytes 4) 8 ≡ true = eq-eqb (number-at 2 bytes 4) 8 (sym at-i ∙ e) in
-    rw (h, at-j, at-k)
+  -- The first is right: the second decides.
+  pub offset-states : (j m : ℕ) → i ≡ k .header → j ≡ states-offset bytes → m ≡ states-at bytes → not (eqb j m) ≡ bad-offsets bytes
+  unfolding bad-offsets
+  offset-states j m e at-j at-m =
+      let h : eqb (actions-offset bytes) (layout-of bytes .header) ≡ true =
+      rw (← at-i, ← is-k) (eq-eqb i (k .header) e) in
+      rw (h, at-j, at-m)
 
 -- An offset is wrong.
 pub size-offsets : (bytes : List ℕ) (r : Bool) → r ≡ bad-offsets bytes → r ≡ true → true ≡ bad-size bytes
@@ -133,11 +125,11 @@ module _ (bytes : List ℕ) (x a y s : ℕ) (at-y : y ≡ target-of bytes x a) (
       rw h
 
   -- It is no state: only 'not enabled' is left.
-  pub target-other : s ≤ y → not (eqb y 255) ≡ bad-target bytes x a
+  pub target-other : (k : FileLayout) → s ≤ y → k ≡ layout-of bytes → not (eqb y (k .disabled)) ≡ bad-target bytes x a
   unfolding bad-target not-enabled
-  target-other l =
+  target-other k l is-k =
       let h : ltb (target-of bytes x a) (states-of bytes) ≡ false = le-ltb (target-of bytes x a) (states-of bytes) (omega arith) in
-      rw (h, at-y)
+      rw (h, at-y, is-k)
 
 -- The first bit above the marks is one that a number has.
 pub marks-shift : (bytes : List ℕ) (p : ℕ) → Sized bytes → p ≡ marks-of bytes → p < 64
@@ -169,24 +161,17 @@ pub step-read : (bytes : List ℕ) (x a d : ℕ) → d ≡ length-of bytes a →
 unfolding tower-of
 step-read bytes x a d e = ap ticks e
 
--- What is written says 'not enabled'.
-pub target-none : (bytes : List ℕ) (x a y : ℕ) → y ≡ target-of bytes x a → y ≡ 255 → NotEnabled ≡ target-read (tower-of bytes .target x a)
-unfolding target-read tower-of not-enabled
-target-none bytes x a y e f = go (ltb a (actions-of bytes)) (eqb (target-of bytes x a) 255) (eq-eqb (target-of bytes x a) 255 (sym e ∙ f))
-  where
-    go : (b c : Bool) → c ≡ true → NotEnabled ≡ target-read (pick (b && not c) (λ _. some (target-of bytes x a)) (λ _. none))
-    go true true p = refl
-    go false c p = refl
-    go true false p = let z : _≡_ {A = ℕ} 0 1 = cc in absurd (omega arith)
+module _ (bytes : List ℕ) (x a y : ℕ) (k : FileLayout) (at-y : y ≡ target-of bytes x a) (is-k : k ≡ layout-of bytes) where
+  -- What is written says 'not enabled'.
+  pub target-none : y ≡ k .disabled → NotEnabled ≡ target-read (tower-of bytes .target x a)
+  unfolding target-read tower-of not-enabled
+  target-none f = sym (rw (← at-y, ← is-k, eq-eqb y (k .disabled) f, and-false))
 
--- What is written is a state.
-pub target-some : (bytes : List ℕ) (x a y : ℕ) → a < actions-of bytes → y ≡ target-of bytes x a → (y ≡ 255 → ⊥)
-    → State y ≡ target-read (tower-of bytes .target x a)
-unfolding target-read tower-of not-enabled
-target-some bytes x a y l e f =
-    let h : ltb a (actions-of bytes) ≡ true = lt-ltb a (actions-of bytes) l in
-    let k : eqb (target-of bytes x a) 255 ≡ false = ne-eqb (target-of bytes x a) 255 (λ z. f (e ∙ z)) in
-    rw (h, k, e)
+  -- What is written is a state.
+  pub target-some : x < states-of bytes → a < actions-of bytes → (y ≡ k .disabled → ⊥) → State y ≡ target-read (tower-of bytes .target x a)
+  unfolding target-read tower-of not-enabled
+  target-some state action f =
+      sym (rw (← at-y, ← is-k, lt-ltb x (states-of bytes) state, lt-ltb a (actions-of bytes) action, ne-eqb y (k .disabled) f))
 
 -- The bit of a mask is the mark.
 pub mark-bit : (bytes : List ℕ) (x k m : ℕ) → m ≡ mask-of bytes x → eqb (m / 2 ^ k % 2) 1 ≡ tower-of bytes .marked x k

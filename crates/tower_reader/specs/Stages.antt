@@ -6,38 +6,37 @@ use mathlib.Core.List.{List}
 use lib.ListN.{length}
 use lib.Dec.{leb, ltb, eqb}
 use Rattle.base.specs.Lists.{some-of, below}
-use Rattle.base.specs.Bytes.{number-at}
-use Rattle.logic.specs.Tower.{header-size, states-of, actions-of, marks-of, start-of, states-at, state-at, length-of, kind-of, target-of}
-use Rattle.logic.specs.Tower.{mask-of, last-kind, not-enabled}
+use Rattle.logic.specs.Tower.{layout-of, states-of, actions-of, marks-of, start-of, actions-offset, states-offset, states-at, state-at}
+use Rattle.logic.specs.Tower.{length-of, kind-of, mask-of, target-of, last-kind, not-enabled}
 
--- The counts and the start are in range.
+-- The counts and the start are in range; no layout has more than 1,000 states.
 pub record Ranges (bytes : List ℕ) : Type 0 where
   pub states-least : 1 ≤ states-of bytes
-  pub states-most : states-of bytes ≤ 200
+  pub states-most : states-of bytes ≤ 1000
   pub actions-least : 1 ≤ actions-of bytes
   pub actions-most : actions-of bytes ≤ 16
   pub marks-most : marks-of bytes ≤ 16
   pub start-below : start-of bytes < states-of bytes
 
--- The header is whole.
+-- The header is whole, with A and P in it.
 pub record Headed (bytes : List ℕ) : Type 0 where
-  pub header : 8 ≤ length bytes
+  pub header : layout-of bytes .header ≤ length bytes
+  pub counts : 3 ≤ length bytes
 
 -- The header is whole, and its counts are in range.
 pub record Counted (bytes : List ℕ) : Type 0 where
-  pub header : 8 ≤ length bytes
+  pub headed : Headed bytes
   pub ranges : Ranges bytes
 
 -- The same, and the file is as long as it has to be: every action is there, and the last state ends it.
 pub record Sized (bytes : List ℕ) : Type 0 where
-  pub header : 8 ≤ length bytes
-  pub ranges : Ranges bytes
-  pub actions : 8 + 2 * actions-of bytes ≤ length bytes
+  pub counted : Counted bytes
+  pub actions : layout-of bytes .header + 2 * actions-of bytes ≤ length bytes
   pub end : length bytes ≡ state-at bytes (states-of bytes)
 
 -- a header offset is wrong
 unfoldable pub bad-offsets : List ℕ → Bool
-bad-offsets bytes = not (eqb (number-at 2 bytes 4) header-size) || not (eqb (number-at 2 bytes 6) (states-at bytes))
+bad-offsets bytes = not (eqb (actions-offset bytes) (layout-of bytes .header)) || not (eqb (states-offset bytes) (states-at bytes))
 
 -- action a has length 0, or no known kind
 unfoldable pub bad-action : List ℕ → ℕ → Bool
@@ -45,7 +44,7 @@ bad-action bytes a = eqb (length-of bytes a) 0 || ltb last-kind (kind-of bytes a
 
 -- the target of action a in state x is neither a state nor 'not enabled'
 unfoldable pub bad-target : List ℕ → ℕ → ℕ → Bool
-bad-target bytes x a = not (ltb (target-of bytes x a) (states-of bytes) || eqb (target-of bytes x a) not-enabled)
+bad-target bytes x a = not (ltb (target-of bytes x a) (states-of bytes) || not-enabled bytes x a)
 
 -- some target in state x is such a one
 unfoldable pub bad-targets-of : List ℕ → ℕ → Bool

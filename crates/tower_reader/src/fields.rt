@@ -1,49 +1,84 @@
-// The fields of a tower file, as the definitions have them (logic/specs/Tower.antt). Each function
-// asks for no more of the file than that its field is there, so that the tests can use it too.
-ghost use Prim.Native.Nat.{_+_, _<_, _≤_};
+// The fields of a tower file, as the definitions have them (logic/specs/Tower.antt), through the
+// layout of the file. Each function asks for no more of the file than that its field is there, so
+// that the tests can use it too.
+ghost use Prim.Native.Nat.{_<_, _≤_};
 ghost use mathlib.Core.Path.{_≡_};
 ghost use lib.ListN.{length};
-ghost use Rattle.base.specs.Bytes.{byte-at, number-at};
-ghost use Rattle.logic.specs.Tower.{state-width, states-of, actions-of, states-at, state-size, state-at, length-of, kind-of, mask-of};
-ghost use Rattle.logic.specs.Tower.{target-of};
-ghost use Rattle.tower_reader.specs.Stages.{Counted, Sized};
+ghost use Rattle.base.specs.Bytes.{byte-at};
+ghost use Rattle.logic.specs.Tower.{states-of, actions-of, marks-of, start-of, actions-offset, states-offset};
+ghost use Rattle.logic.specs.Tower.{states-at, state-size, state-at, length-of, kind-of, mask-of, target-of};
+ghost use Rattle.tower_reader.specs.Stages.{Headed, Counted, Sized};
 
-// The bytes of the header, and where its fields are.
-pub const HEADER_SIZE: usize = 8;
+// Where the header has A and P.
+const ACTIONS: usize = 1;
 
-pub const STATES: usize = 0;
+const MARKS: usize = 2;
 
-pub const ACTIONS: usize = 1;
-
-pub const MARKS: usize = 2;
-
-pub const START: usize = 3;
-
-pub const ACTIONS_OFFSET: usize = 4;
-
-pub const STATES_OFFSET: usize = 6;
-
-// The bytes of an action, of a mask and of a state's number.
+// The bytes of an action, of a mask and of an offset.
 const ACTION_SIZE: usize = 2;
 
 const MASK_SIZE: usize = 2;
 
-const STATE_WIDTH: usize = 1;
+const OFFSET_SIZE: usize = 2;
 
 // The byte at p.
-pub fn byte(bytes: &[u8], p: usize) -> usize
+fn byte(bytes: &[u8], p: usize) -> usize
     requires { ⌜ p < length (now bytes) ⌝ }
     ensures { λ r. ⌜ r ≡ byte-at (now (bytes .entry)) p ⌝ }
 {
     bytes[p] as usize
 }
 
-// The state's number at p.
-fn state_number(bytes: &[u8], p: usize) -> usize
-    requires { ⌜ p + state-width ≤ length (now bytes) ⌝ }
-    ensures { λ r. ⌜ r ≡ number-at state-width (now (bytes .entry)) p ⌝ }
+// The number of states.
+pub fn states_of(bytes: &[u8]) -> usize
+    requires { ⌜ Headed (now bytes) ⌝ }
+    ensures { λ r. ⌜ r ≡ states-of (now (bytes .entry)) ⌝ }
 {
-    byte(bytes, p)
+    let layout = file_layout::layout_of(bytes);
+    lent_bytes::number(bytes, layout.states, layout.width)
+}
+
+// The number of actions.
+pub fn actions_of(bytes: &[u8]) -> usize
+    requires { ⌜ Headed (now bytes) ⌝ }
+    ensures { λ r. ⌜ r ≡ actions-of (now (bytes .entry)) ⌝ }
+{
+    byte(bytes, ACTIONS)
+}
+
+// The number of marks.
+pub fn marks_of(bytes: &[u8]) -> usize
+    requires { ⌜ Headed (now bytes) ⌝ }
+    ensures { λ r. ⌜ r ≡ marks-of (now (bytes .entry)) ⌝ }
+{
+    byte(bytes, MARKS)
+}
+
+// The start state.
+pub fn start_of(bytes: &[u8]) -> usize
+    requires { ⌜ Headed (now bytes) ⌝ }
+    ensures { λ r. ⌜ r ≡ start-of (now (bytes .entry)) ⌝ }
+{
+    let layout = file_layout::layout_of(bytes);
+    lent_bytes::number(bytes, layout.start, layout.width)
+}
+
+// The offset of the actions, as it is written.
+pub fn actions_offset(bytes: &[u8]) -> usize
+    requires { ⌜ Headed (now bytes) ⌝ }
+    ensures { λ r. ⌜ r ≡ actions-offset (now (bytes .entry)) ⌝ }
+{
+    let layout = file_layout::layout_of(bytes);
+    lent_bytes::two_bytes(bytes, layout.offsets)
+}
+
+// The offset of the states, as it is written.
+pub fn states_offset(bytes: &[u8]) -> usize
+    requires { ⌜ Headed (now bytes) ⌝ }
+    ensures { λ r. ⌜ r ≡ states-offset (now (bytes .entry)) ⌝ }
+{
+    let layout = file_layout::layout_of(bytes);
+    lent_bytes::two_bytes(bytes, layout.offsets + OFFSET_SIZE)
 }
 
 // Where the states begin.
@@ -51,7 +86,8 @@ pub fn states_at(bytes: &[u8]) -> usize
     requires { ⌜ Counted (now bytes) ⌝ }
     ensures { λ r. ⌜ r ≡ states-at (now (bytes .entry)) ⌝ }
 {
-    HEADER_SIZE + ACTION_SIZE * byte(bytes, ACTIONS)
+    let layout = file_layout::layout_of(bytes);
+    layout.header + ACTION_SIZE * actions_of(bytes)
 }
 
 // The bytes of one state.
@@ -59,7 +95,8 @@ fn state_size(bytes: &[u8]) -> usize
     requires { ⌜ Counted (now bytes) ⌝ }
     ensures { λ r. ⌜ r ≡ state-size (now (bytes .entry)) ⌝ }
 {
-    MASK_SIZE + STATE_WIDTH * byte(bytes, ACTIONS)
+    let layout = file_layout::layout_of(bytes);
+    MASK_SIZE + layout.width * actions_of(bytes)
 }
 
 // Where state x is written. At the number of states this is where the file ends.
@@ -68,7 +105,7 @@ pub fn state_at(bytes: &[u8], x: usize) -> usize
     requires { ⌜ x ≤ states-of (now bytes) ⌝ }
     ensures { λ r. ⌜ r ≡ state-at (now (bytes .entry)) x ⌝ }
 {
-    states_at(bytes) + x * state_size(bytes)
+    states_at(bytes) + state_size(bytes) * x
 }
 
 // The length of action a.
@@ -77,7 +114,8 @@ pub fn length_of(bytes: &[u8], a: usize) -> usize
     requires { ⌜ a < actions-of (now bytes) ⌝ }
     ensures { λ r. ⌜ r ≡ length-of (now (bytes .entry)) a ⌝ }
 {
-    byte(bytes, HEADER_SIZE + ACTION_SIZE * a)
+    let layout = file_layout::layout_of(bytes);
+    byte(bytes, layout.header + ACTION_SIZE * a)
 }
 
 // The kind of action a.
@@ -86,7 +124,8 @@ pub fn kind_of(bytes: &[u8], a: usize) -> usize
     requires { ⌜ a < actions-of (now bytes) ⌝ }
     ensures { λ r. ⌜ r ≡ kind-of (now (bytes .entry)) a ⌝ }
 {
-    byte(bytes, HEADER_SIZE + ACTION_SIZE * a + 1)
+    let layout = file_layout::layout_of(bytes);
+    byte(bytes, layout.header + ACTION_SIZE * a + 1)
 }
 
 // The mask of state x.
@@ -105,5 +144,7 @@ pub fn target_of(bytes: &[u8], x: usize, a: usize) -> usize
     requires { ⌜ a < actions-of (now bytes) ⌝ }
     ensures { λ r. ⌜ r ≡ target-of (now (bytes .entry)) x a ⌝ }
 {
-    state_number(bytes, state_at(bytes, x) + MASK_SIZE + STATE_WIDTH * a)
+    let layout = file_layout::layout_of(bytes);
+    let targets = state_at(bytes, x) + MASK_SIZE;
+    lent_bytes::number(bytes, targets + layout.width * a, layout.width)
 }

@@ -2,33 +2,21 @@
 // the whole file, and takes for granted that those before it found nothing.
 ghost use Prim.Native.Nat.{_<_};
 ghost use mathlib.Core.Path.{_≡_};
-ghost use Rattle.logic.specs.Tower.{in-range, states-of, actions-of, no-header, bad-counts, bad-size, bad-actions, bad-targets, bad-masks};
+ghost use Rattle.logic.specs.Tower.{states-of, actions-of, no-header, bad-counts, bad-size, bad-actions, bad-targets, bad-masks};
 ghost use Rattle.tower_reader.specs.Stages.{Headed, Counted, Sized, bad-offsets, bad-action, bad-target, bad-targets-of, bad-mask};
 use crate::fields;
 
-// The most states, actions and marks, the largest kind, and the target that says 'not enabled'.
-const MOST_STATES: usize = 200;
-
-const MOST_ACTIONS: usize = 16;
-
+// The most marks, and the largest kind.
 const MOST_MARKS: usize = 16;
 
 const LAST_KIND: usize = 1;
-
-pub const NOT_ENABLED: usize = 255;
 
 // 1: the header is not whole.
 pub fn no_header(bytes: &[u8]) -> bool
     ensures { λ r. ⌜ r ≡ no-header (now (bytes .entry)) ⌝ }
 {
-    bytes.len() < fields::HEADER_SIZE
-}
-
-// A count is from 1 to the most there may be.
-fn in_range(most: usize, n: usize) -> bool
-    ensures { λ r. ⌜ r ≡ in-range most n ⌝ }
-{
-    1 <= n && n <= most
+    let layout = file_layout::layout_of(bytes);
+    bytes.len() < layout.header
 }
 
 // 2: a count or the start is out of range.
@@ -36,17 +24,18 @@ pub fn bad_counts(bytes: &[u8]) -> bool
     requires { ⌜ Headed (now bytes) ⌝ }
     ensures { λ r. ⌜ r ≡ bad-counts (now (bytes .entry)) ⌝ }
 {
-    let states = fields::byte(bytes, fields::STATES);
-    if !in_range(MOST_STATES, states) {
+    let layout = file_layout::layout_of(bytes);
+    let states = fields::states_of(bytes);
+    if !file_layout::in_range(layout.most, states) {
         return true;
     }
-    if !in_range(MOST_ACTIONS, fields::byte(bytes, fields::ACTIONS)) {
+    if !file_layout::in_range(file_layout::MOST_ACTIONS, fields::actions_of(bytes)) {
         return true;
     }
-    if MOST_MARKS < fields::byte(bytes, fields::MARKS) {
+    if MOST_MARKS < fields::marks_of(bytes) {
         return true;
     }
-    states <= fields::byte(bytes, fields::START)
+    states <= fields::start_of(bytes)
 }
 
 // A header offset is wrong.
@@ -54,10 +43,11 @@ fn bad_offsets(bytes: &[u8]) -> bool
     requires { ⌜ Counted (now bytes) ⌝ }
     ensures { λ r. ⌜ r ≡ bad-offsets (now (bytes .entry)) ⌝ }
 {
-    if lent_bytes::two_bytes(bytes, fields::ACTIONS_OFFSET) != fields::HEADER_SIZE {
+    let layout = file_layout::layout_of(bytes);
+    if fields::actions_offset(bytes) != layout.header {
         return true;
     }
-    lent_bytes::two_bytes(bytes, fields::STATES_OFFSET) != fields::states_at(bytes)
+    fields::states_offset(bytes) != fields::states_at(bytes)
 }
 
 // 1: a header offset or the length is wrong.
@@ -68,7 +58,7 @@ pub fn bad_size(bytes: &[u8]) -> bool
     if bad_offsets(bytes) {
         return true;
     }
-    let states = fields::byte(bytes, fields::STATES);
+    let states = fields::states_of(bytes);
     bytes.len() != fields::state_at(bytes, states)
 }
 
@@ -89,7 +79,7 @@ pub fn bad_actions(bytes: &[u8]) -> bool
     requires { ⌜ Sized (now bytes) ⌝ }
     ensures { λ r. ⌜ r ≡ bad-actions (now (bytes .entry)) ⌝ }
 {
-    let actions = fields::byte(bytes, fields::ACTIONS);
+    let actions = fields::actions_of(bytes);
     let mut a = 0;
     while a < actions {
         if bad_action(bytes, a) {
@@ -108,10 +98,11 @@ fn bad_target(bytes: &[u8], x: usize, a: usize) -> bool
     ensures { λ r. ⌜ r ≡ bad-target (now (bytes .entry)) x a ⌝ }
 {
     let target = fields::target_of(bytes, x, a);
-    if target < fields::byte(bytes, fields::STATES) {
+    if target < fields::states_of(bytes) {
         return false;
     }
-    target != NOT_ENABLED
+    let layout = file_layout::layout_of(bytes);
+    target != layout.disabled
 }
 
 // Some target in state x is neither a state nor 'not enabled'.
@@ -120,7 +111,7 @@ fn bad_targets_of(bytes: &[u8], x: usize) -> bool
     requires { ⌜ x < states-of (now bytes) ⌝ }
     ensures { λ r. ⌜ r ≡ bad-targets-of (now (bytes .entry)) x ⌝ }
 {
-    let actions = fields::byte(bytes, fields::ACTIONS);
+    let actions = fields::actions_of(bytes);
     let mut a = 0;
     while a < actions {
         if bad_target(bytes, x, a) {
@@ -136,7 +127,7 @@ pub fn bad_targets(bytes: &[u8]) -> bool
     requires { ⌜ Sized (now bytes) ⌝ }
     ensures { λ r. ⌜ r ≡ bad-targets (now (bytes .entry)) ⌝ }
 {
-    let states = fields::byte(bytes, fields::STATES);
+    let states = fields::states_of(bytes);
     let mut x = 0;
     while x < states {
         if bad_targets_of(bytes, x) {
@@ -153,7 +144,7 @@ fn bad_mask(bytes: &[u8], x: usize) -> bool
     requires { ⌜ x < states-of (now bytes) ⌝ }
     ensures { λ r. ⌜ r ≡ bad-mask (now (bytes .entry)) x ⌝ }
 {
-    let above = 1usize << fields::byte(bytes, fields::MARKS);
+    let above = 1usize << fields::marks_of(bytes);
     above <= fields::mask_of(bytes, x)
 }
 
@@ -162,7 +153,7 @@ pub fn bad_masks(bytes: &[u8]) -> bool
     requires { ⌜ Sized (now bytes) ⌝ }
     ensures { λ r. ⌜ r ≡ bad-masks (now (bytes .entry)) ⌝ }
 {
-    let states = fields::byte(bytes, fields::STATES);
+    let states = fields::states_of(bytes);
     let mut x = 0;
     while x < states {
         if bad_mask(bytes, x) {

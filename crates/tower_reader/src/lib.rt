@@ -2,6 +2,7 @@
 // that is. Its answers are those of `read-tower` and `tower-of`, the definitions.
 mod fields;
 mod fit;
+pub mod kinds;
 
 ghost use Prim.Native.Nat.{_<_};
 ghost use mathlib.Core.Path.{_≡_};
@@ -24,7 +25,7 @@ pub enum Reached {
 }
 
 // Whether the file is fit. Refused with the first that holds, each looked for in the whole file: 1
-// if under 8 bytes, 2, 1, 3, 4, 5.
+// if the header is not whole, 2, 1, 3, 4, 5.
 pub fn read_tower(bytes: &[u8]) -> TowerRead
     ensures { λ r. ⌜ r ≡ tower-read (read-tower (now (bytes .entry))) ⌝ }
 {
@@ -54,7 +55,7 @@ pub fn states(bytes: &[u8]) -> usize
     requires { ⌜ FitTower (now bytes) ⌝ }
     ensures { λ r. ⌜ r ≡ tower-of (now (bytes .entry)) .states ⌝ }
 {
-    fields::byte(bytes, fields::STATES)
+    fields::states_of(bytes)
 }
 
 // How many actions.
@@ -62,7 +63,7 @@ pub fn actions(bytes: &[u8]) -> usize
     requires { ⌜ FitTower (now bytes) ⌝ }
     ensures { λ r. ⌜ r ≡ tower-of (now (bytes .entry)) .actions ⌝ }
 {
-    fields::byte(bytes, fields::ACTIONS)
+    fields::actions_of(bytes)
 }
 
 // How many marks.
@@ -70,7 +71,7 @@ pub fn marks(bytes: &[u8]) -> usize
     requires { ⌜ FitTower (now bytes) ⌝ }
     ensures { λ r. ⌜ r ≡ tower-of (now (bytes .entry)) .marks ⌝ }
 {
-    fields::byte(bytes, fields::MARKS)
+    fields::marks_of(bytes)
 }
 
 // The start state.
@@ -78,7 +79,7 @@ pub fn start(bytes: &[u8]) -> usize
     requires { ⌜ FitTower (now bytes) ⌝ }
     ensures { λ r. ⌜ r ≡ tower-of (now (bytes .entry)) .start ⌝ }
 {
-    fields::byte(bytes, fields::START)
+    fields::start_of(bytes)
 }
 
 // The kind of action a: 0 the player's, 1 ours.
@@ -108,7 +109,8 @@ pub fn target(bytes: &[u8], x: usize, a: usize) -> Reached
     ensures { λ r. ⌜ r ≡ target-read (tower-of (now (bytes .entry)) .target x a) ⌝ }
 {
     let y = fields::target_of(bytes, x, a);
-    if y == fit::NOT_ENABLED {
+    let layout = file_layout::layout_of(bytes);
+    if y == layout.disabled {
         return Reached::NotEnabled;
     }
     Reached::State(y)

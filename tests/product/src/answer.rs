@@ -46,28 +46,16 @@ impl fmt::Display for Answer {
     }
 }
 
-/// An answer as the proved code hands it over: `Answer` of the crate `succoryvise`.
-#[repr(C)]
-pub struct Handed {
-    number: u32,
-    letter: u8,
-    place: usize,
-    first: usize,
-    second: usize,
-}
-
-impl Handed {
-    /// The answer of an entry that has so many values, at most 2.
-    pub fn with_values(self, count: usize) -> Answer {
-        let number = u8::try_from(self.number).expect("a number of the paper");
-        let count = if number == 0 { count } else { 0 };
-        let values = [self.first, self.second];
-        assert!(values[count..].iter().all(|value| *value == 0));
-        Answer {
-            number,
-            place: self.place,
-            letter: self.letter,
-            values: values[..count].to_vec(),
-        }
+/// The answer of an entry that has so many values, at most 3, out of what the proved code hands over.
+pub fn with_values(count: usize, handed: succoryvise_sys::Answer) -> Answer {
+    let number = u8::try_from(handed.number).expect("a number of the paper");
+    let count = if number == 0 { count } else { 0 };
+    let values = [handed.first, handed.second, handed.third];
+    assert!(values[count..].iter().all(|value| *value == 0));
+    Answer {
+        number,
+        place: handed.place,
+        letter: handed.letter,
+        values: values[..count].to_vec(),
     }
 }

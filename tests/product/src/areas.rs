@@ -3,9 +3,8 @@
 use crate::common::Random;
 use std::sync::OnceLock;
 
-/// The least lengths of the areas, in the order of docs/WORK-AREAS.md. An entry borrows the first
-/// ones: the book reader 1, the checker 3, the maker 6.
-pub const LEAST: [usize; 6] = [512, 62_062, 8_192, 32_000, 1_000, 8_192];
+/// The least lengths of the areas; an entry borrows the first ones, so many.
+pub use succoryvise_sys::{AREAS as LEAST, CHECKER_AREAS, MAKER_AREAS, READER_AREAS};
 
 /// The most that an area of a case is longer than it has to be.
 const MOST_MORE: usize = 300;
@@ -52,7 +51,7 @@ impl<const N: usize> Areas<N> {
         each.any(|(length, least)| *length < least)
     }
 
-    /// The areas themselves, full of noise.
+    /// The areas themselves, each full of noise.
     pub fn lend(&self) -> [Vec<u8>; N] {
         std::array::from_fn(|i| {
             let from = (self.noise + 1_000 * i) % (NOISE / 2);
@@ -69,6 +68,11 @@ impl<const N: usize> Areas<N> {
         let mut each = lent.iter().zip(self.lengths);
         each.all(|(area, length)| area.len() == length && is_zero(area))
     }
+}
+
+/// Areas, as an entry takes them.
+pub fn slices<const N: usize>(areas: &mut [Vec<u8>; N]) -> [&mut [u8]; N] {
+    areas.each_mut().map(|area| &mut area[..])
 }
 
 fn is_zero(area: &[u8]) -> bool {

@@ -1,7 +1,7 @@
 //! The book reader.
 
-use crate::answer::{Answer, Handed};
-use crate::areas::{self, Areas};
+use crate::answer::{with_values, Answer};
+use crate::areas::{self, Areas, READER_AREAS};
 use crate::common::{random_book, Random};
 use crate::entry::{bytes, hexadecimal, Entry};
 use reference::{book, Refusal};
@@ -10,27 +10,8 @@ use std::fmt;
 /// The length of the area that the book reader borrows.
 pub const AREA: usize = areas::LEAST[0];
 
-extern "C" {
-    fn succoryvise_read_book(
-        marks: usize,
-        text: *const u8,
-        length: usize,
-        area: *mut u8,
-        area_length: usize,
-    ) -> Handed;
-}
-
 pub fn read(marks: usize, text: &[u8], area: &mut [u8]) -> Answer {
-    let answer = unsafe {
-        succoryvise_read_book(
-            marks,
-            text.as_ptr(),
-            text.len(),
-            area.as_mut_ptr(),
-            area.len(),
-        )
-    };
-    answer.with_values(2)
+    with_values(2, succoryvise_sys::read_book(marks, text, [area]))
 }
 
 pub struct Book;
@@ -38,7 +19,7 @@ pub struct Book;
 pub struct Call {
     marks: usize,
     text: Vec<u8>,
-    areas: Areas<1>,
+    areas: Areas<READER_AREAS>,
 }
 
 impl fmt::Display for Call {

@@ -1,50 +1,19 @@
 //! The checker.
 
-use crate::answer::{Answer, Handed};
-use crate::areas::Areas;
+use crate::answer::{with_values, Answer};
+use crate::areas::{slices, Areas, CHECKER_AREAS};
 use crate::common::Random;
 use crate::entry::{bytes, hexadecimal, Entry};
 use crate::{book, tables, towers};
 use reference::{check, Refusal};
 use std::fmt;
 
-extern "C" {
-    fn succoryvise_check(
-        tower: *const u8,
-        tower_length: usize,
-        text: *const u8,
-        text_length: usize,
-        table: *const u8,
-        table_length: usize,
-        nodes: *mut u8,
-        nodes_length: usize,
-        pairs: *mut u8,
-        pairs_length: usize,
-        index: *mut u8,
-        index_length: usize,
-    ) -> Handed;
-}
+/// Work areas of the checker.
+type Lent = [Vec<u8>; CHECKER_AREAS];
 
 /// The checker, with these areas.
-pub fn check_with(tower: &[u8], text: &[u8], table: &[u8], areas: &mut [Vec<u8>; 3]) -> Answer {
-    let [nodes, pairs, index] = areas;
-    let answer = unsafe {
-        succoryvise_check(
-            tower.as_ptr(),
-            tower.len(),
-            text.as_ptr(),
-            text.len(),
-            table.as_ptr(),
-            table.len(),
-            nodes.as_mut_ptr(),
-            nodes.len(),
-            pairs.as_mut_ptr(),
-            pairs.len(),
-            index.as_mut_ptr(),
-            index.len(),
-        )
-    };
-    answer.with_values(0)
+pub fn check_with(tower: &[u8], text: &[u8], table: &[u8], areas: &mut Lent) -> Answer {
+    with_values(0, succoryvise_sys::check(tower, text, table, slices(areas)))
 }
 
 /// The checker, with areas that are just long enough.
@@ -80,7 +49,7 @@ pub struct Call {
     tower: Vec<u8>,
     text: Vec<u8>,
     table: Vec<u8>,
-    areas: Areas<3>,
+    areas: Areas<CHECKER_AREAS>,
 }
 
 impl fmt::Display for Call {

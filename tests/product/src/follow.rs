@@ -1,19 +1,14 @@
 //! The follower.
 
-use crate::answer::{Answer, Handed};
+use crate::answer::{with_values, Answer};
 use crate::common::Random;
 use crate::entry::{bytes, hexadecimal, Entry};
 use crate::tables;
 use reference::{follow, table};
 use std::fmt;
 
-extern "C" {
-    fn succoryvise_follow(table: *const u8, length: usize, row: usize, action: usize) -> Handed;
-}
-
 pub fn follow(table: &[u8], row: usize, action: usize) -> Answer {
-    let answer = unsafe { succoryvise_follow(table.as_ptr(), table.len(), row, action) };
-    answer.with_values(1)
+    with_values(1, succoryvise_sys::follow(table, row, action))
 }
 
 pub struct Follow;

@@ -1,7 +1,7 @@
 //! The maker.
 
-use crate::answer::{Answer, Handed};
-use crate::areas::{self, Areas};
+use crate::answer::{with_values, Answer};
+use crate::areas::{self, slices, Areas, MAKER_AREAS};
 use crate::common::Random;
 use crate::entry::{bytes, hexadecimal, Entry};
 use crate::ruled::{self, Ruled};
@@ -9,55 +9,12 @@ use crate::{book, check, tables, towers};
 use reference::{make, table, tower, Refusal};
 use std::fmt;
 
-extern "C" {
-    fn succoryvise_make(
-        tower: *const u8,
-        tower_length: usize,
-        text: *const u8,
-        text_length: usize,
-        out: *mut u8,
-        out_length: usize,
-        nodes: *mut u8,
-        nodes_length: usize,
-        pairs: *mut u8,
-        pairs_length: usize,
-        index: *mut u8,
-        index_length: usize,
-        steps: *mut u8,
-        steps_length: usize,
-        flags: *mut u8,
-        flags_length: usize,
-        classes: *mut u8,
-        classes_length: usize,
-    ) -> Handed;
-}
+/// Work areas of the maker.
+type Lent = [Vec<u8>; MAKER_AREAS];
 
 /// The maker, with this output and these areas. The value is the length of the table.
-pub fn make_with(tower: &[u8], text: &[u8], out: &mut [u8], areas: &mut [Vec<u8>; 6]) -> Answer {
-    let [nodes, pairs, index, steps, flags, classes] = areas;
-    let answer = unsafe {
-        succoryvise_make(
-            tower.as_ptr(),
-            tower.len(),
-            text.as_ptr(),
-            text.len(),
-            out.as_mut_ptr(),
-            out.len(),
-            nodes.as_mut_ptr(),
-            nodes.len(),
-            pairs.as_mut_ptr(),
-            pairs.len(),
-            index.as_mut_ptr(),
-            index.len(),
-            steps.as_mut_ptr(),
-            steps.len(),
-            flags.as_mut_ptr(),
-            flags.len(),
-            classes.as_mut_ptr(),
-            classes.len(),
-        )
-    };
-    answer.with_values(1)
+pub fn make_with(tower: &[u8], text: &[u8], out: &mut [u8], areas: &mut Lent) -> Answer {
+    with_values(1, succoryvise_sys::make(tower, text, out, slices(areas)))
 }
 
 /// The table that the maker makes in an output of this length, or its refusal. Areas and output are
@@ -82,13 +39,10 @@ pub fn make(tower: &[u8], text: &[u8]) -> Result<Vec<u8>, Answer> {
     made(&Call {
         tower: tower.to_vec(),
         text: text.to_vec(),
-        room: ENOUGH,
+        room: table::most_bytes(),
         areas: Areas::least(),
     })
 }
-
-/// The length of the longest table: 1,000 rows of 16 steps.
-const ENOUGH: usize = 12 + 1_000 * (4 + 16 * 3);
 
 pub struct Make;
 
@@ -97,7 +51,7 @@ pub struct Call {
     text: Vec<u8>,
     /// The length of the output.
     room: usize,
-    areas: Areas<6>,
+    areas: Areas<MAKER_AREAS>,
 }
 
 impl fmt::Display for Call {

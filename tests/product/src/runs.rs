@@ -178,7 +178,7 @@ impl Case {
         let mut steps = Vec::new();
         for &action in &self.run {
             let left = &self.tower.states[state];
-            steps.push((left.marks, self.tower.actions[action].length));
+            steps.push((left.marks, self.tower.step_length(state, action)));
             state = left.targets[action].expect("an enabled action");
         }
         steps
@@ -353,7 +353,7 @@ fn any_run(random: &mut Random, tower: &Tower, book: &Book) -> (Vec<usize>, Opti
     while run.len() < most {
         let left = &tower.states[state];
         let after = |action: usize| {
-            let length = tower.actions[action].length;
+            let length = tower.step_length(state, action);
             pending::after(book, waiting.as_ref()?, left.marks, length)
         };
         let actions = 0..tower.actions.len();
@@ -387,9 +387,7 @@ fn stretch(random: &mut Random, tower: &mut Tower, book: &mut Book) {
     let factor = 2 + random.below(50) as u16;
     let up = random.below(17 - tower.marks);
     tower.marks += up;
-    for action in &mut tower.actions {
-        action.length = action.length * factor + random.below(3) as u16 - 1;
-    }
+    tower.change_lengths(|length| length * factor + random.below(3) as u16 - 1);
     for state in &mut tower.states {
         state.marks <<= up;
     }

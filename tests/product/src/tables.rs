@@ -4,10 +4,8 @@ use crate::common::{self, Random};
 use crate::edits;
 use crate::ruled::{self, Ruled};
 use reference::make;
-use reference::table::{Row, Step, Table};
+use reference::table::{Row, Step, Table, HEADER};
 use reference::tower::Tower;
-
-const HEADER: usize = 12;
 
 /// A table file: laid out in about half of the cases, else nearly so or noise.
 pub fn any(random: &mut Random) -> Vec<u8> {

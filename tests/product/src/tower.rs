@@ -1,10 +1,11 @@
 //! The tower reader: its answer, and every field of a fit tower.
 
-use crate::answer::{Answer, Handed};
+use crate::answer::{with_values, Answer};
 use crate::common::Random;
 use crate::entry::{bytes, stated_number, Entry, File, NOTHING};
 use crate::towers;
-use reference::tower;
+use reference::tower::{self, Kind};
+use succoryvise_sys::Answer as Handed;
 
 extern "C" {
     fn test_read_tower(tower: *const u8, length: usize) -> Handed;
@@ -29,8 +30,7 @@ pub enum Field {
 const MASK_BITS: usize = 16;
 
 pub fn read(tower: &[u8]) -> Answer {
-    let answer = unsafe { test_read_tower(tower.as_ptr(), tower.len()) };
-    answer.with_values(0)
+    with_values(0, unsafe { test_read_tower(tower.as_ptr(), tower.len()) })
 }
 
 /// A field; NOTHING where the tower is not fit, the place outside it, or the action not enabled.
@@ -100,19 +100,20 @@ fn fields(file: &[u8]) -> Vec<usize> {
 fn expected_fields(tower: &tower::Tower) -> Vec<usize> {
     let (states, actions) = (tower.states.len(), tower.actions.len());
     let mut values = vec![states, actions, tower.marks, tower.start];
+    let number = |kind: Kind| Kind::ALL.iter().position(|other| *other == kind);
     values.extend(
         tower
             .actions
             .iter()
-            .map(|action| usize::from(!action.player)),
+            .filter_map(|action| number(action.kind)),
     );
     values.push(NOTHING);
-    for state in &tower.states {
+    for (x, state) in tower.states.iter().enumerate() {
         values.push(usize::from(state.marks));
         values.extend((0..MASK_BITS).map(|k| usize::from(state.marks >> k & 1)));
         values.push(NOTHING);
-        for (action, target) in tower.actions.iter().zip(&state.targets) {
-            values.push(usize::from(action.length));
+        for (a, target) in state.targets.iter().enumerate() {
+            values.push(usize::from(tower.step_length(x, a)));
             values.push(target.unwrap_or(NOTHING));
         }
         values.extend([NOTHING; 2]);

@@ -2,8 +2,7 @@
 
 use crate::common::{self, Random};
 use crate::edits;
-
-const HEADER: usize = 8;
+use reference::tower::{HEADER, NOT_ENABLED};
 
 /// A tower file: fit in about half of the cases, else nearly fit or noise.
 pub fn any(random: &mut Random) -> Vec<u8> {
@@ -74,7 +73,7 @@ fn sized(random: &mut Random, states: usize, actions: usize, marks: usize) -> Ve
             let mask = random.below(masks) as u16;
             let target = |_| {
                 if random.once_in(4) {
-                    255
+                    NOT_ENABLED as u8
                 } else {
                     random.below(states) as u8
                 }

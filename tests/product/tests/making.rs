@@ -1,7 +1,7 @@
 //! The paper's outcomes of the maker: the small tower's, and the ring's.
 
 use product::answer::Answer;
-use product::common::{lines, ring, SMALL_TOWER};
+use product::common::{lines, ring, small_table, SMALL_TOWER};
 use product::{areas, check, make, table};
 use reference::Refusal;
 
@@ -22,16 +22,9 @@ fn sizes(book: &[&str]) -> [usize; 3] {
 
 const BOOK_1: [&str; 2] = ["always !p0 | E 3 p1", "always !p0 | E 3 p2"];
 
-/// The paper's listing, in the layout of a table file.
-const TABLE_1: [u8; 50] = [
-    5, 0, 6, 0, 12, 0, 32, 0, 3, 0, 4, 0, // header
-    0, 2, 0, 0, 1, 1, 2, 0, 2, 1, 3, 0, 0, 1, 4, 0, 0, 1, 5, 0, // rows
-    0, 1, 0, 2, 2, 0, 1, 3, 0, 3, 4, 0, 2, 2, 0, 0, 1, 0, // steps
-];
-
 #[test]
 fn the_eleven_outcomes_of_the_small_tower() {
-    assert_eq!(made(&BOOK_1), Ok(TABLE_1.to_vec()));
+    assert_eq!(made(&BOOK_1), Ok(small_table().encode()));
     let later = ["always !p0 | E 4 p1", "always !p0 | E 4 p2"];
     assert_eq!(made(&later), made(&BOOK_1));
     let one_line = ["always !p0 | (E 3 p1 & E 3 p2)"];
@@ -66,7 +59,7 @@ fn forty_nine_bytes_for_50_are_16() {
             assert_eq!(out, vec![0xaa; length]);
         } else {
             assert_eq!(answer, Answer::of_values([50]));
-            assert_eq!(out[..50], TABLE_1);
+            assert_eq!(out[..50], small_table().encode());
             assert!(out[50..].iter().all(|byte| *byte == 0xaa));
         }
         assert!(areas.concat().iter().all(|byte| *byte == 0));
@@ -76,7 +69,7 @@ fn forty_nine_bytes_for_50_are_16() {
 /// Whichever area it is; and nothing changes.
 #[test]
 fn an_area_of_length_0_is_15() {
-    for short in 0..6 {
+    for short in 0..areas::MAKER_AREAS {
         let mut areas = areas::LEAST.map(|length| vec![0xa5; length]);
         areas[short].clear();
         let lent = areas.clone();

@@ -1,10 +1,12 @@
 //! The paper's own examples of refusals, its small table, and runs of the small tower.
 
 use product::answer::Answer;
-use product::common::{lines, SMALL_TOWER};
+use product::areas;
+use product::common::{self, lines, stopped_table, SMALL_TOWER};
 use product::entry::{Entry, NOTHING};
 use product::runs::{Case, Runs};
 use product::{book, check, follow, table, tower};
+use reference::table::target_at;
 use reference::{make, Refusal};
 
 /// The small tower with one byte changed.
@@ -21,7 +23,7 @@ fn small_book() -> Vec<u8> {
 
 /// Outcome 1 of the paper's table, 50 bytes.
 fn small_table() -> Vec<u8> {
-    make::make(&SMALL_TOWER, &small_book(), 50).expect("the paper's table")
+    common::small_table().encode()
 }
 
 fn refused(number: u8) -> Answer {
@@ -74,7 +76,7 @@ fn mark_3_of_3_is_5() {
 fn target_row_5_of_5_is_13() {
     let mut file = small_table();
     assert!(table::laid_out(&file));
-    file[33] = 5;
+    file[target_at(5, 0)] = 5;
     assert!(!table::laid_out(&file));
     assert_eq!(follow::follow(&file, 0, 0), refused(13));
 }
@@ -125,13 +127,13 @@ fn the_small_table_is_good() {
 #[test]
 fn target_row_5_of_5_is_13_for_the_checker_too() {
     let mut file = small_table();
-    file[33] = 5;
+    file[target_at(5, 0)] = 5;
     assert_eq!(checked(&small_book(), &file), "refused 13 0");
 }
 
 #[test]
 fn a_row_of_state_0_with_no_step_is_14_d() {
-    let file = [1, 0, 0, 0, 12, 0, 16, 0, 3, 0, 4, 0, 0, 0, 0, 0];
+    let file = stopped_table().encode();
     assert_eq!(checked(b"", &file), "refused 14 0 d");
 }
 
@@ -146,9 +148,8 @@ fn the_table_for_no_lines_is_14_e_under_book_1() {
 /// Whichever area it is; and nothing changes.
 #[test]
 fn an_area_of_length_0_is_15() {
-    for short in 0..3 {
-        let lengths = [512, 62_062, 8_192];
-        let mut areas = lengths.map(|length| vec![0xa5; length]);
+    for short in 0..areas::CHECKER_AREAS {
+        let mut areas = std::array::from_fn(|i| vec![0xa5; areas::LEAST[i]]);
         areas[short].clear();
         let lent = areas.clone();
         let answer = check::check_with(&SMALL_TOWER, b"", &small_table(), &mut areas);

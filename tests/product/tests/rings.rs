@@ -3,7 +3,7 @@
 use product::answer::Answer;
 use product::common::{lines, ring, tower_file};
 use product::{check, tables};
-use reference::{make, Refusal};
+use reference::{make, table, Refusal};
 
 /// The answer for a table of rows that go round the ring and then on from the row `back`; the
 /// reference's is the same.
@@ -55,7 +55,7 @@ fn too_many_comes_before_a_broken_run() {
     let mut states: Vec<(u16, Vec<u8>)> = (0..199).map(|s| (0, vec![199, (s + 1) % 199])).collect();
     states.push((1, vec![199, 255]));
     let tower = tower_file(1, 0, &[[1, 1], [1, 1]], &states);
-    let table = make::make(&tower, b"", 60_000).expect("a table that allows all");
+    let table = make::make(&tower, b"", table::most_bytes()).expect("a table that allows all");
     let answer = |rule: &str| {
         let book = lines(&[rule, "always !p0"]);
         let answer = check::check(&tower, &book, &table);

@@ -17,7 +17,7 @@ pub enum Reason {
     Withheld,
     /// c: an allowed action is not enabled, or its target row has another state than the one reached.
     Misled,
-    /// d: no action is allowed.
+    /// d: no action is allowed that goes on.
     Stopped,
     /// e: an allowed run is broken.
     Broken,
@@ -89,7 +89,9 @@ fn fault_of_row(tower: &Tower, table: &Table, row: usize) -> Option<Reason> {
     let row = &table.rows[row];
     let targets = &tower.states[row.state].targets;
     let withheld = |action: usize| {
-        tower.actions[action].player && targets[action].is_some() && row.target(action).is_none()
+        !tower.kind(action).controllable()
+            && targets[action].is_some()
+            && row.target(action).is_none()
     };
     if (0..tower.actions.len()).any(withheld) {
         return Some(Reason::Withheld);
@@ -98,7 +100,8 @@ fn fault_of_row(tower: &Tower, table: &Table, row: usize) -> Option<Reason> {
     if !row.steps.iter().all(led_well) {
         return Some(Reason::Misled);
     }
-    row.steps.is_empty().then_some(Reason::Stopped)
+    let goes_on = |step: &table::Step| tower.kind(step.action).goes_on();
+    (!row.steps.iter().any(goes_on)).then_some(Reason::Stopped)
 }
 
 /// Whether some allowed run is broken; nothing where rows with what is pending are over 1,000. The
@@ -112,7 +115,7 @@ fn allows_a_broken_run(tower: &Tower, book: &Book, table: &Table) -> Option<bool
         let row = &table.rows[row];
         let marks = tower.states[row.state].marks;
         for step in &row.steps {
-            let length = tower.actions[step.action].length;
+            let length = tower.step_length(row.state, step.action);
             let Some(after) = pending::after(book, &waiting, marks, length) else {
                 broken = true;
                 continue;

@@ -43,7 +43,18 @@ impl fmt::Display for Refusal {
     }
 }
 
-/// The two-byte number at `at`, low byte first.
+/// The number of `width` bytes at `at`, low byte first.
+fn number_at(width: usize, bytes: &[u8], at: usize) -> usize {
+    let bytes = bytes[at..at + width].iter().rev();
+    bytes.fold(0, |number, byte| 256 * number + usize::from(*byte))
+}
+
+/// The two-byte number at `at`.
 fn two_bytes(bytes: &[u8], at: usize) -> usize {
-    usize::from(bytes[at]) + 256 * usize::from(bytes[at + 1])
+    number_at(2, bytes, at)
+}
+
+/// Writes a number in `width` bytes, low byte first. What does not fit is cut off.
+fn put_number(width: usize, bytes: &mut Vec<u8>, number: usize) {
+    bytes.extend(&number.to_le_bytes()[..width]);
 }

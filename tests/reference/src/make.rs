@@ -56,7 +56,7 @@ impl Pairs {
                 let Some(target) = *target else {
                     continue;
                 };
-                let length = tower.actions[action].length;
+                let length = tower.step_length(state, action);
                 let marks = tower.states[state].marks;
                 let Some(waiting) = pending::after(book, &waiting, marks, length) else {
                     continue;
@@ -78,33 +78,33 @@ impl Pairs {
     }
 
     /// The pairs from which play can go on for ever whatever the player does. The others are removed
-    /// one by one: a pair goes once a player's action is lost there, or every action.
+    /// one by one: a pair goes once an action is lost there that is not controllable, or every action
+    /// that goes on.
     fn safe(&self, tower: &Tower) -> Vec<bool> {
         let count = self.states.len();
         let mut leading_here = vec![Vec::new(); count];
-        let mut actions_left = vec![0; count];
+        let mut going_on = vec![0; count];
         let mut safe = vec![true; count];
         let mut to_remove = Vec::new();
         for pair in 0..count {
             for (action, target) in self.next[pair].iter().enumerate() {
+                let kind = tower.kind(action);
                 if let Some(target) = *target {
-                    leading_here[target].push((pair, action));
-                    actions_left[pair] += 1;
-                } else if tower.actions[action].player
-                    && tower.states[self.states[pair]].targets[action].is_some()
-                {
-                    safe[pair] = false;
+                    leading_here[target].push((pair, kind));
+                    going_on[pair] += usize::from(kind.goes_on());
+                } else if tower.target(self.states[pair], action).is_some() {
+                    safe[pair] &= kind.controllable();
                 }
             }
-            safe[pair] &= actions_left[pair] > 0;
+            safe[pair] &= going_on[pair] > 0;
             if !safe[pair] {
                 to_remove.push(pair);
             }
         }
         while let Some(removed) = to_remove.pop() {
-            for &(pair, action) in &leading_here[removed] {
-                actions_left[pair] -= 1;
-                let lost = tower.actions[action].player || actions_left[pair] == 0;
+            for &(pair, kind) in &leading_here[removed] {
+                going_on[pair] -= usize::from(kind.goes_on());
+                let lost = !kind.controllable() || going_on[pair] == 0;
                 if safe[pair] && lost {
                     safe[pair] = false;
                     to_remove.push(pair);

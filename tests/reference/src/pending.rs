@@ -14,7 +14,7 @@ pub fn at_first(book: &Book) -> Pending {
     pending
 }
 
-/// What is pending after leaving a state with these marks by an action of this length, or nothing
+/// What is pending after leaving a state with these marks by a step of this length, or nothing
 /// where the step breaks a rule.
 pub fn after(book: &Book, pending: &Pending, marks: u16, length: u16) -> Option<Pending> {
     let mut step = Step {

@@ -5,11 +5,11 @@ use crate::tower::Tower;
 
 /// A run: its actions, and what holds at its positions 0 to n.
 pub struct Run {
-    /// The length of each action.
+    /// The length of each step.
     lengths: Vec<u16>,
     /// The marks of the state at each position.
     marks: Vec<u16>,
-    /// T(i): the sum of the lengths of the first i actions.
+    /// T(i): the sum of the lengths of the first i steps.
     times: Vec<u64>,
 }
 
@@ -24,8 +24,8 @@ impl Run {
         };
         let mut time = 0;
         for &action in actions {
-            state = tower.states[state].targets[action]?;
-            let length = tower.actions[action].length;
+            let length = tower.step_length(state, action);
+            state = tower.target(state, action)?;
             time += u64::from(length);
             run.lengths.push(length);
             run.marks.push(tower.states[state].marks);

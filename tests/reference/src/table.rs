@@ -1,10 +1,51 @@
 //! The table file of section 'Good tables'.
 
-use crate::{tower, two_bytes, Refusal, MOST_PAIRS};
+use crate::tower::{self, STATE_WIDTH};
+use crate::{number_at, put_number, two_bytes, Refusal, MOST_PAIRS};
 
-const HEADER: usize = 12;
-const ROW: usize = 4;
-const STEP: usize = 3;
+/// Bytes of the header.
+pub const HEADER: usize = 12;
+
+/// Bytes of a row: its state, the number of its steps, and the first of them.
+const ROW: usize = STATE_WIDTH + 1 + 2;
+
+/// Bytes of a step: its action and its target row.
+const STEP: usize = 1 + 2;
+
+/// Where the state of a row is written.
+pub fn state_at(row: usize) -> usize {
+    HEADER + ROW * row
+}
+
+/// Where the number of steps of a row is written.
+pub fn count_at(row: usize) -> usize {
+    state_at(row) + STATE_WIDTH
+}
+
+/// Where the first step of a row is written.
+pub fn first_at(row: usize) -> usize {
+    count_at(row) + 1
+}
+
+/// Where the action of a step is written, in a table of so many rows.
+pub fn action_at(rows: usize, step: usize) -> usize {
+    state_at(rows) + STEP * step
+}
+
+/// Where the target row of a step is written.
+pub fn target_at(rows: usize, step: usize) -> usize {
+    action_at(rows, step) + 1
+}
+
+/// The bytes of a table of so many rows and steps.
+pub fn file_length(rows: usize, steps: usize) -> usize {
+    action_at(rows, steps)
+}
+
+/// The most bytes of a table: all rows, with all actions in each.
+pub fn most_bytes() -> usize {
+    file_length(MOST_PAIRS, MOST_PAIRS * tower::ACTIONS.end())
+}
 
 #[derive(Clone, Copy, Debug, PartialEq, Eq)]
 pub struct Step {
@@ -36,6 +77,20 @@ pub struct Table {
 }
 
 impl Table {
+    /// A table of these rows, each as its state, and each action with its target row.
+    pub fn of_rows(states: usize, actions: usize, rows: &[(usize, &[(usize, usize)])]) -> Self {
+        let step = |&(action, target): &(usize, usize)| Step { action, target };
+        let row = |&(state, steps): &(usize, &[(usize, usize)])| Row {
+            state,
+            steps: steps.iter().map(step).collect(),
+        };
+        Table {
+            states,
+            actions,
+            rows: rows.iter().map(row).collect(),
+        }
+    }
+
     pub fn step_count(&self) -> usize {
         self.rows.iter().map(|row| row.steps.len()).sum()
     }
@@ -56,18 +111,19 @@ impl Table {
         put(self.rows.len());
         put(self.step_count());
         put(HEADER);
-        put(HEADER + ROW * self.rows.len());
+        put(state_at(self.rows.len()));
         put(self.states);
         put(self.actions);
-        let mut first = 0u16;
+        let mut first = 0;
         for row in &self.rows {
-            file.extend([row.state as u8, row.steps.len() as u8]);
-            file.extend(first.to_le_bytes());
-            first += row.steps.len() as u16;
+            put_number(STATE_WIDTH, &mut file, row.state);
+            put_number(1, &mut file, row.steps.len());
+            put_number(2, &mut file, first);
+            first += row.steps.len();
         }
         for step in self.rows.iter().flat_map(|row| &row.steps) {
-            file.push(step.action as u8);
-            file.extend((step.target as u16).to_le_bytes());
+            put_number(1, &mut file, step.action);
+            put_number(2, &mut file, step.target);
         }
         file
     }
@@ -86,10 +142,10 @@ fn decode_laid_out(file: &[u8]) -> Option<Table> {
         [0, 2, 4, 6, 8, 10].map(|at| two_bytes(file, at));
     let laid_out = (1..=MOST_PAIRS).contains(&rows)
         && rows_at == HEADER
-        && steps_at == HEADER + ROW * rows
+        && steps_at == state_at(rows)
         && tower::STATES.contains(&states)
         && tower::ACTIONS.contains(&actions)
-        && file.len() == steps_at + STEP * steps;
+        && file.len() == file_length(rows, steps);
     if !laid_out {
         return None;
     }
@@ -101,9 +157,10 @@ fn decode_laid_out(file: &[u8]) -> Option<Table> {
     let mut step_records = file[steps_at..].chunks(STEP);
     let mut met = 0;
     for row in file[rows_at..steps_at].chunks(ROW) {
-        let state = usize::from(row[0]);
-        let count = usize::from(row[1]);
-        if state >= states || two_bytes(row, 2) != met || met + count > steps {
+        let state = number_at(STATE_WIDTH, row, 0);
+        let [count, first] = [(1, count_at(0)), (2, first_at(0))]
+            .map(|(width, at)| number_at(width, row, at - state_at(0)));
+        if state >= states || first != met || met + count > steps {
             return None;
         }
         met += count;

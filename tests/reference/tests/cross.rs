@@ -12,8 +12,6 @@ use reference::table::{self, Table};
 use reference::tower::{self, Tower};
 use std::collections::{HashSet, VecDeque};
 
-const ENOUGH: usize = 60_000;
-
 fn is_broken(tower: &Tower, book: &Book, run: &[usize]) -> bool {
     let run = Run::new(tower, run).expect("each action is enabled");
     run.is_broken(book)
@@ -81,7 +79,7 @@ fn compare_along_a_walk(random: &mut Random, tower: &Tower, book: &Book) -> [usi
             break;
         }
         let action = choices[random.below(choices.len())];
-        let length = tower.actions[action].length;
+        let length = tower.step_length(state, action);
         let marks = tower.states[state].marks;
         waiting = waiting.and_then(|waiting| pending::after(book, &waiting, marks, length));
         run.push(action);
@@ -147,7 +145,7 @@ fn made_tables_are_good_and_allow_no_broken_run() {
     for _ in 0..4_000 {
         let (tower_file, tower) = random_tower(&mut random, 3);
         let (text, book) = random_book(&mut random, tower.marks);
-        let Ok(file) = make(&tower_file, &text, ENOUGH) else {
+        let Ok(file) = make(&tower_file, &text, table::most_bytes()) else {
             continue;
         };
         tables += 1;
@@ -175,10 +173,9 @@ fn can_go_on(tower: &Tower, book: &Book, run: &[usize], rounds: usize) -> bool {
         can_go_on(tower, book, &further, rounds - 1)
     };
     let choices = enabled(tower, state);
-    let (players, ours): (Vec<usize>, Vec<usize>) = choices
-        .iter()
-        .partition(|action| tower.actions[**action].player);
-    players.iter().all(goes_on) && (!players.is_empty() || ours.iter().any(goes_on))
+    let forced = |action: &&usize| !tower.kind(**action).controllable();
+    let onward = |action: &&usize| tower.kind(**action).goes_on();
+    choices.iter().filter(forced).all(goes_on) && choices.iter().filter(onward).any(goes_on)
 }
 
 /// Good tables allow a run if each part of it from the start can be continued for ever. With k pairs,
@@ -278,10 +275,11 @@ fn shortest_broken_run(tower: &Tower, book: &Book, table: &Table) -> Vec<usize> 
         if !met.insert((row, waiting.clone())) {
             continue;
         }
-        let marks = tower.states[table.rows[row].state].marks;
+        let state = table.rows[row].state;
+        let marks = tower.states[state].marks;
         for step in &table.rows[row].steps {
             let further = [&run[..], &[step.action]].concat();
-            let length = tower.actions[step.action].length;
+            let length = tower.step_length(state, step.action);
             match pending::after(book, &waiting, marks, length) {
                 Some(after) => to_visit.push_back((step.target, after, further)),
                 None => return further,

@@ -2,20 +2,19 @@
 
 mod common;
 
-use common::{lines, ring, tower_file, SMALL_TOWER};
+use common::{lines, ring, small_table, stopped_table, tower_file, SMALL_TOWER};
 use reference::book::{self, Comparison, Line, Node};
 use reference::check::{check, Answer, Reason};
 use reference::follow::follow;
 use reference::listing::listing;
 use reference::make::{make, pair_count};
+use reference::tower::Kind;
 use reference::{table, tower, Refusal};
-
-const ENOUGH: usize = 60_000;
 
 const BOOK_1: [&str; 2] = ["always !p0 | E 3 p1", "always !p0 | E 3 p2"];
 
 fn made(book: &[&str]) -> Result<Vec<u8>, Refusal> {
-    make(&SMALL_TOWER, &lines(book), ENOUGH)
+    make(&SMALL_TOWER, &lines(book), table::most_bytes())
 }
 
 /// Rows and steps of a made table.
@@ -73,6 +72,16 @@ fn order_of_tower_refusals() {
     }
 }
 
+/// The player's actions are never withheld, ours may be, and both go on.
+#[test]
+fn kinds_of_actions() {
+    let small = tower::parse(&SMALL_TOWER).unwrap();
+    let kinds = [Kind::Ours, Kind::Player, Kind::Ours, Kind::Player];
+    assert_eq!([0, 1, 2, 3].map(|action| small.kind(action)), kinds);
+    let means = Kind::ALL.map(|kind| (kind.controllable(), kind.goes_on()));
+    assert_eq!(means, [(false, true), (true, true)]);
+}
+
 #[test]
 fn examples_of_book_refusals() {
     assert_eq!(refusal_of_book(b"always &\n"), Refusal::at(6, 0));
@@ -98,12 +107,11 @@ fn examples_of_other_refusals() {
     assert_eq!(make(&SMALL_TOWER, &book, 50).as_ref(), Ok(&table));
 
     let mut to_no_row = table.clone();
-    to_no_row[33] = 5;
+    to_no_row[table::target_at(5, 0)] = 5;
     let answer = check(&SMALL_TOWER, &book, &to_no_row);
     assert_eq!(answer, Answer::Refused(Refusal::new(13)));
 
-    let stopped = [1, 0, 0, 0, 12, 0, 16, 0, 3, 0, 4, 0, 0, 0, 0, 0];
-    let answer = check(&SMALL_TOWER, &book, &stopped);
+    let answer = check(&SMALL_TOWER, &book, &stopped_table().encode());
     assert_eq!(answer, Answer::NotGood(Reason::Stopped, 0));
     assert_eq!(answer.to_string(), "refused 14 0 d");
 
@@ -122,10 +130,12 @@ fn reasons_of_a_table_that_is_not_good() {
         table[at] = byte;
         check(&SMALL_TOWER, b"", &table)
     };
-    // Rows stand at 12, 16 and 20; steps at 24, 27, 30 and 33.
-    assert_eq!(answer(12, 1), Answer::NotGood(Reason::Start, 0));
-    assert_eq!(answer(30, 0), Answer::NotGood(Reason::Withheld, 1));
-    assert_eq!(answer(34, 1), Answer::NotGood(Reason::Misled, 2));
+    let start = answer(table::state_at(0), 1);
+    assert_eq!(start, Answer::NotGood(Reason::Start, 0));
+    let withheld = answer(table::action_at(3, 2), 0);
+    assert_eq!(withheld, Answer::NotGood(Reason::Withheld, 1));
+    let misled = answer(table::target_at(3, 3), 1);
+    assert_eq!(misled, Answer::NotGood(Reason::Misled, 2));
     assert_eq!(answer(8, 4), Answer::Refused(Refusal::new(13)));
     assert_eq!(check(&SMALL_TOWER, b"", &table), Answer::Good);
 }
@@ -134,6 +144,7 @@ fn reasons_of_a_table_that_is_not_good() {
 fn outcomes_of_the_small_tower_table() {
     let first = made(&BOOK_1).unwrap();
     let fifth = made(&[]).unwrap();
+    assert_eq!(first, small_table().encode());
     assert_eq!(first.len(), 50);
     let with_4 = made(&["always !p0 | E 4 p1", "always !p0 | E 4 p2"]);
     assert_eq!(with_4.as_ref(), Ok(&first));
@@ -177,10 +188,10 @@ fn pairs_of_the_ring() {
     assert_eq!(count(over), None);
     assert_eq!(count("start T"), Some(201));
 
-    let table = make(&ring(), &lines(&[most]), ENOUGH).unwrap();
+    let table = make(&ring(), &lines(&[most]), table::most_bytes()).unwrap();
     assert_eq!(check(&ring(), &lines(&[most]), &table), Answer::Good);
     assert_eq!(
-        make(&ring(), &lines(&[over]), ENOUGH),
+        make(&ring(), &lines(&[over]), table::most_bytes()),
         Err(Refusal::new(11))
     );
     let answer = check(&ring(), &lines(&[over]), &table);
@@ -194,7 +205,7 @@ fn over_1_000_pairs_wins_over_a_broken_run() {
     states.push((1, vec![199, 255]));
     let tower = tower_file(1, 0, &[[1, 1], [1, 1]], &states);
     let answer = |rule: &str| {
-        let all = make(&tower, b"", ENOUGH).unwrap();
+        let all = make(&tower, b"", table::most_bytes()).unwrap();
         check(&tower, &lines(&[rule, "always !p0"]), &all)
     };
     let broken = Answer::NotGood(Reason::Broken, 0);
@@ -348,6 +359,19 @@ fn refusals_of_a_book_by_line() {
     assert_eq!(refusal_of_book(&[b'&'; 4_096]), Refusal::at(6, 0));
 }
 
+/// The paper's layout, byte by byte: the one table here that is not built by a function.
+#[test]
+fn bytes_of_a_table_file() {
+    let bytes = [
+        5, 0, 6, 0, 12, 0, 32, 0, 3, 0, 4, 0, // header
+        0, 2, 0, 0, 1, 1, 2, 0, 2, 1, 3, 0, 0, 1, 4, 0, 0, 1, 5, 0, // rows
+        0, 1, 0, 2, 2, 0, 1, 3, 0, 3, 4, 0, 2, 2, 0, 0, 1, 0, // steps
+    ];
+    assert_eq!(small_table().encode(), bytes);
+    assert_eq!(table::decode(&bytes), Ok(small_table()));
+    assert_eq!(table::most_bytes(), 52_012);
+}
+
 #[test]
 fn layout_of_a_table_file() {
     let table = made(&BOOK_1).unwrap();
@@ -364,14 +388,14 @@ fn layout_of_a_table_file() {
         (9, 1),   // S
         (10, 0),  // A
         (10, 17), // A
-        (12, 3),  // state
-        (13, 1),  // step count
-        (13, 3),  // step count
-        (14, 1),  // first step
-        (32, 4),  // action
-        (32, 2),  // actions not ascending
-        (33, 5),  // target
-        (34, 1),  // target
+        (table::state_at(0), 3),
+        (table::count_at(0), 1),
+        (table::count_at(0), 3),
+        (table::first_at(0), 1),
+        (table::action_at(5, 0), 4),
+        (table::action_at(5, 0), 2), // not ascending
+        (table::target_at(5, 0), 5),
+        (table::target_at(5, 0) + 1, 1),
     ];
     for (at, byte) in damaged {
         let mut file = table.clone();
@@ -382,7 +406,7 @@ fn layout_of_a_table_file() {
             "byte {at} is {byte}"
         );
     }
-    for length in 0..50 {
+    for length in 0..table.len() {
         assert_eq!(table::decode(&table[..length]), Err(Refusal::new(13)));
     }
     let longer = [&table[..], &[0]].concat();

@@ -19,5 +19,5 @@ find-spec =
     (tie.spec Inv-loop μ-loop (λ c κs. search all) (λ c. search all) (λ c. search all) (λ c κs. search all) (λ c κs. search all)
     (λ c. search all) (λ c.
     let turn = c .before .before .before .before in
-    find-hit _ _ _ _ _ _ _ (turn .before .before .before .before .pre .0) (turn .loop .inv) (c .before .before .before .loop-test .taken)
-    (c .before .before .link .ensures) (c .before .same .ensures) (c .if1 .taken)) (λ c. search all) (λ c. search all) (λ c. search all))
+    find-hit _ _ _ (turn .before .before .before .before .pre .0) _ _ _ (turn .loop .inv) (c .before .before .before .loop-test .taken)
+    (c .before .before .link .ensures) _ (c .before .same .ensures) (c .if1 .taken)) (λ c. search all) (λ c. search all) (λ c. search all))

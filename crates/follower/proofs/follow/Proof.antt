@@ -2,11 +2,11 @@
 use borrow.Author.Needs.{needs}
 use borrow.Author.Tests.{not-true, not-false}
 use Rattle.table_reader.proofs.Laws.{holds-by, header-of}
-use Rattle.follower.proofs.Ways.{not-laid-out, row-outside, action-outside, followed, not-allowed}
+use Rattle.follower.proofs.Ways.{promised, not-laid-out, row-outside, action-outside, followed, not-allowed}
 use Rattle.follower.proofs.follow.Statement.{statement}
 use Rattle.follower.proofs.follow.Tie as tie
 
-ruleset all = (needs, not-true, not-false, holds-by, header-of, not-laid-out, row-outside, action-outside, followed, not-allowed)
+ruleset all = (needs, not-true, not-false, holds-by, header-of, promised, not-laid-out, row-outside, action-outside, followed, not-allowed)
 
 pub follow-spec : {M : Type 1} → statement M
 follow-spec =

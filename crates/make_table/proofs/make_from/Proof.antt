@@ -8,5 +8,5 @@ ruleset all = (needs, made-within, made-taken, made-laid)
 
 pub make-from-spec : {M : Type 1} → statement M
 make-from-spec = tie.close (tie.spec
-    (λ c κs. search all) (λ c. search all) (λ c. search all) (λ c. search all) (λ c κs. search all) (λ c. search all) (λ c. search all)
-    (λ c κs. search all) (λ c. search all) (λ c κs. search all) (λ c. search all) (λ c. search all) (λ c. search all))
+    (λ c κs. search all) (λ c. search all) (λ c. search all) (λ c. search all) (λ c κs. search all) (λ c. search all)
+    (λ c κs. search all) (λ c κs. search all) (λ c. search all) (λ c. search all))

@@ -10,7 +10,7 @@ ruleset all = (needs, not-true, not-false, too-short, room, made-all)
 pub make-spec : {M : Type 1} → statement M
 make-spec =
     tie.close
-    (tie.spec (λ c κs. search all) (λ c. search all) (λ c κs. search (room, not-false, c .before .before .before .before .before .before .before .if1 .left, c .before .before .before .before .before .before .before .before .lengths-right .ensures)) (λ c κs. search all) (λ c. search all) (λ c. search all) (λ c. search all) (λ c. search all) (λ c. search all) (λ c. search all) (λ c. search all) (λ c.
+    (tie.spec (λ c κs. search all) (λ c. search all) (λ c. search all) (λ c. search all) (λ c. search all) (λ c. search all) (λ c. search all) (λ c. search all) (λ c κs. room _ _ _ _ _ _ _ (c .before .before .before .before .before .before .before .before .long-enough .ensures) (search (not-false, c .before .before .before .before .before .before .before .if1 .left))) (λ c κs. search all) (λ c. search all) (λ c. search all) (λ c. search all) (λ c. search all) (λ c. search all) (λ c. search all) (λ c. search all) (λ c.
     let cleared = c .before .before .before .before .before .before .before .before .before .before .before .before in
     let made = cleared .before .before .before .before .before .before .before .before .before .before .before .before .before .before .before .before .before .before .before .before .before in
     let tested = made .before .before .before .before .before .before .before .before in
@@ -21,5 +21,5 @@ make-spec =
       made .make-files .ensures,
       made .make-files .kept,
       tested .if1 .left,
-      tested .before .lengths-right .ensures,
+      tested .before .long-enough .ensures,
     )))

@@ -1,20 +1,14 @@
--- The loop keeps what `Growing` says: the actions that are left decide what is new. They become fewer.
+-- `pair_search::expand` meets its contract.
 use borrow.Author.Needs.{needs}
-use Prim.Native.Nat.{_-_}
-use mathlib.Core.Path.{_≡_}
-use lib.ListN.{length}
-use Rattle.pair_search.proofs.Growing.{Growing, grow-start, grow-low, grow-listed, grow-end, grow-more, grow-many}
+use Rattle.pair_search.proofs.Entering.{entry-inside}
+use Rattle.pair_search.proofs.Following.{pair-room-below}
+use Rattle.pair_search.proofs.Exploring.{state-written}
 use Rattle.pair_search.proofs.expand.Statement.{statement}
 use Rattle.pair_search.proofs.expand.Tie as tie
 
-ruleset all = (needs, grow-start, grow-low, grow-listed, grow-end, grow-more, grow-many)
-
-abbrev Inv-loop : tie.InvT-loop
-Inv-loop tower nodes lines count pairs₀ index₀ steps₀ i met actions a₀ n₀ pairs index steps a n = Growing tower nodes lines count pairs₀ i met actions a pairs index steps n × (length pairs ≡ length pairs₀) × (length index ≡ length index₀) × (length steps ≡ length steps₀)
-
-abbrev μ-loop : tie.MeasureT-loop
-μ-loop tower nodes lines count pairs₀ index₀ steps₀ i met actions a₀ n₀ pairs index steps a n = actions - a
+ruleset all = (needs, entry-inside, pair-room-below, state-written)
 
 pub expand-spec : {M : Type 1} → statement M
 expand-spec =
-    tie.close (tie.spec Inv-loop μ-loop (λ c κs. search all) (λ c. search all) (λ c. search all) (λ c κs. (c .before .before .before .before .before .before .before .before .before .before .before .pre .0, (c .before .before .before .before .loop .inv .0 .filled, (c .before .before .before .before .loop .inv .0 .indexed, (c .before .before .before .before .loop .inv .0 .cells, (c .before .before .before .before .loop .inv .0 .room, (c .before .before .before .before .loop .inv .0 .steps-room, (grow-low _ _ _ _ _ _ _ _ _ _ _ _ _ (c .before .before .before .before .loop .inv .0), (c .before .before .before .before .loop .inv .0 .most, grow-listed _ _ _ _ _ _ _ _ _ _ _ _ _ (c .before .before .before .before .loop .inv .0) (c .before .before .before .loop-test .taken)))))))))) (λ c. search all) (λ c. search all) (λ c. search all) (λ c. grow-many _ _ _ _ _ _ _ _ _ _ _ _ _ (c .before .before .before .before .before .before .before .before .before .before .before .before .loop .inv .0) _ _ _ _ (c .before .before .before .before .before .before .before .before .before .before .before .loop-test .taken) (c .before .before .before .before .before .before .before .step .ensures) (c .if1 .taken)) (λ c. search all) (λ c. (grow-more _ _ _ _ _ _ _ _ _ _ _ _ _ (c .before .before .before .before .before .before .before .before .before .before .before .before .loop .inv .0) _ _ _ _ (c .before .before .before .before .before .before .before .before .before .before .before .loop-test .taken) (c .before .before .before .before .before .before .before .step .ensures) (c .if1 .left) (search all) (search all), search all, search all, search all)) (λ c. search all) (λ c. search all) (λ c. search all) (λ c. grow-end _ _ _ _ _ _ _ _ _ _ _ _ _ (c .before .loop .inv .0) (c .before .before .before .before .before .before .before .before .pre .0) (c .loop-test .left)))
+    tie.close
+    (tie.spec (λ c κs. search all) (λ c κs. (search all, search all)) (λ c κs. let known = c .before .before .before .before .before .before .before .before .before .before .before .before .before .before .before .pre in let numbered = c .before .before .before .before .before .before .number .ensures in let put = c .before .before .before .before .before .put-state .ensures in (search all, (search all, (search all, (state-written _ _ _ _ _ _ _ _ _ _ numbered put (known .1 .0) (known .0 .files .search) (known .1 .1 .1 .1 .1 .1 .0) (known .1 .1 .1 .1 .1 .1 .1) (known .1 .1 .1 .1 .1 .0) (known .1 .1 .1 .0), (search all, (search all, (search all, search all)))))))) (λ c. search all) (λ c. search all) (λ c. search all) (λ c. search all))

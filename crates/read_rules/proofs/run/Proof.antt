@@ -8,6 +8,6 @@ ruleset all = (needs, contents-within, contents-taken)
 
 pub run-spec : {M : Type 1} → statement M
 run-spec = tie.close (tie.spec
-    (λ c. search all) (λ c κs. search all) (λ c. search all) (λ c. search all) (λ c. search all) (λ c. search all) (λ c κs. search all)
-    (λ c. search all) (λ c. search all) (λ c. search all) (λ c. search all) (λ c. search all) (λ c. search all) (λ c. search all)
-    (λ c κs. search all) (λ c κs. search all) (λ c. search all))
+    (λ c. search all) (λ c κs. search all) (λ c. search all) (λ c. search all) (λ c. search all) (λ c. search all)
+    (λ c κs. search all) (λ c. search all) (λ c. search all) (λ c. search all) (λ c. search all) (λ c. search all) (λ c. search all)
+    (λ c. search all) (λ c κs. search all) (λ c. search all))

@@ -2,22 +2,22 @@
 -- The invariant: the classes so far part no two pairs that are never told apart. The measure: how far they can still rise.
 use mathlib.Core.Path.{_≡_}
 use lib.ListN.{length}
-use Rattle.row_classes.proofs.Rounds.{given-all, Refining, slack, refining-start, refining-more, slack-falls, classified}
+use Rattle.row_classes.proofs.Rounds.{Refining, slack, refining-start, refining-more, slack-falls, classified}
 use borrow.Author.Needs.{needs}
 use Rattle.row_classes.proofs.classify.Statement.{statement}
 use Rattle.row_classes.proofs.classify.Tie as tie
 
-ruleset all = (needs, given-all, refining-start, refining-more, slack-falls, classified)
+ruleset all = (needs, refining-start, refining-more, slack-falls, classified)
 
 abbrev Inv-loop : tie.InvT-loop
-Inv-loop steps flags entries actions n classes₀ classes = (Refining steps flags entries actions n classes) × (length classes ≡ length classes₀)
+Inv-loop graph flags actions n classes₀ classes = (Refining graph flags actions n classes) × (length classes ≡ length classes₀)
 
 abbrev μ-loop : tie.MeasureT-loop
-μ-loop steps flags entries actions n classes₀ classes = slack flags n classes
+μ-loop graph flags actions n classes₀ classes = slack flags n classes
 
 pub classify-spec : {M : Type 1} → statement M
 classify-spec =
     tie.close
     (tie.spec Inv-loop μ-loop (λ c κs. search all) (λ c. (search refining-start, search needs))
-    (λ c κs. (search given-all, search needs)) (λ c κs. search all) (λ c. search all) (λ c. search classified)
+    (λ c κs. (search needs, search needs)) (λ c κs. search all) (λ c. search all) (λ c. search classified)
     (λ c. search slack-falls) (λ c. (search refining-more, search needs)))

@@ -9,10 +9,10 @@ use Rattle.row_order.proofs.expand.Tie as tie
 ruleset all = (needs, expand-start, expand-more, expand-end)
 
 abbrev Inv-loop : tie.InvT-loop
-Inv-loop steps flags area₀ pairs actions rows i met₀ a₀ area met a = Expanding steps flags pairs actions i area₀ met₀ area met a
+Inv-loop graph flags area₀ pairs actions rows i met₀ a₀ area met a = Expanding graph flags pairs actions i area₀ met₀ area met a
 
 abbrev μ-loop : tie.MeasureT-loop
-μ-loop steps flags area₀ pairs actions rows i met₀ a₀ area met a = actions - a
+μ-loop graph flags area₀ pairs actions rows i met₀ a₀ area met a = actions - a
 
 pub expand-spec : {M : Type 1} → statement M
 expand-spec =

@@ -9,10 +9,10 @@ use Rattle.row_order.proofs.expand_all.Tie as tie
 ruleset all = (needs, searching-start, searching-more, searching-end, listed-there, listed-fits, listed-twice-fits, next-row-fits, listed-below, fewer-left)
 
 abbrev Inv-loop : tie.InvT-loop
-Inv-loop steps flags area₀ pairs actions first rows₀ r₀ area rows r = Searching steps flags pairs actions area₀ area rows r
+Inv-loop graph flags area₀ pairs actions first rows₀ r₀ area rows r = Searching graph flags pairs actions area₀ area rows r
 
 abbrev μ-loop : tie.MeasureT-loop
-μ-loop steps flags area₀ pairs actions first rows₀ r₀ area rows r = pairs - r
+μ-loop graph flags area₀ pairs actions first rows₀ r₀ area rows r = pairs - r
 
 pub expand-all-spec : {M : Type 1} → statement M
 expand-all-spec =

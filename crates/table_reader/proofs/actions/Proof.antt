@@ -1,14 +1,13 @@
 -- A right header is whole, so that its numbers lie in the file.
 use borrow.Author.Needs.{needs}
-use Rattle.logic.specs.Tower.{state-width}
-use Rattle.logic.specs.TableFile.{rows-at, row-size, step-size, steps-at}
+use Rattle.logic.specs.TableFile.{rows-at, step-size, steps-at}
 use Rattle.reading.specs.TableReading.{step-place}
 use Rattle.table_reader.proofs.Laws.{inside}
 use Rattle.table_reader.proofs.actions.Statement.{statement}
 use Rattle.table_reader.proofs.actions.Tie as tie
 
 pub actions-spec : {M : Type 1} → statement M
-unfolding step-place rows-at row-size state-width step-size steps-at
+unfolding step-place rows-at step-size steps-at
 actions-spec = tie.close (tie.spec
     (λ c κs. omega inside)
     (λ c. search needs))

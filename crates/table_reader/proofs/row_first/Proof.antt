@@ -1,18 +1,12 @@
--- The header gives the size of the file, so that the row lies in it.
+-- `table_reader::row_first` meets its contract.
 use borrow.Author.Needs.{needs}
-use Rattle.logic.specs.Tower.{state-width}
-use Rattle.logic.specs.TableFile.{rows-at, row-size, step-size, steps-at}
-use Rattle.reading.specs.TableReading.{row-place, row-first, step-place}
-use Rattle.table_reader.proofs.Laws.{inside}
+use Rattle.table_reader.proofs.Places.{count-fits, first-there, first-fits, first-read}
 use Rattle.table_reader.proofs.row_first.Statement.{statement}
 use Rattle.table_reader.proofs.row_first.Tie as tie
 
+ruleset all = (needs, count-fits, first-there, first-fits, first-read)
+
 pub row-first-spec : {M : Type 1} → statement M
-unfolding row-first row-place step-place rows-at row-size state-width step-size steps-at
-row-first-spec = tie.close (tie.spec
-    (λ c. omega inside)
-    (λ c. omega inside)
-    (λ c. omega inside)
-    (λ c. omega inside)
-    (λ c κs. omega inside)
-    (λ c. search needs))
+row-first-spec =
+    tie.close
+    (tie.spec (λ c κs. search all) (λ c κs. search all) (λ c. search all) (λ c. search all) (λ c κs. search all) (λ c. search all))

@@ -1,16 +1,12 @@
--- The header gives the size of the file, so that the row lies in it.
+-- `table_reader::row_state` meets its contract.
 use borrow.Author.Needs.{needs}
-use Rattle.logic.specs.Tower.{state-width}
-use Rattle.logic.specs.TableFile.{rows-at, row-size, step-size, steps-at}
-use Rattle.reading.specs.TableReading.{row-place, row-state, step-place}
-use Rattle.table_reader.proofs.Laws.{inside}
+use Rattle.table_reader.proofs.Places.{width-least, width-most, state-there, state-read}
 use Rattle.table_reader.proofs.row_state.Statement.{statement}
 use Rattle.table_reader.proofs.row_state.Tie as tie
 
+ruleset all = (needs, width-least, width-most, state-there, state-read)
+
 pub row-state-spec : {M : Type 1} → statement M
-unfolding row-state row-place step-place rows-at row-size state-width step-size steps-at
-row-state-spec = tie.close (tie.spec
-    (λ c. omega inside)
-    (λ c. omega inside)
-    (λ c κs. omega inside)
-    (λ c. search needs))
+row-state-spec =
+    tie.close
+    (tie.spec (λ c κs. search all) (λ c κs. search all) (λ c κs. search all) (λ c. search all))

@@ -1,18 +1,12 @@
--- The header gives the size of the file, so that the step lies in it.
+-- `table_reader::step_place` meets its contract.
 use borrow.Author.Needs.{needs}
-use Rattle.logic.specs.Tower.{state-width}
-use Rattle.logic.specs.TableFile.{rows-at, row-size, step-size, steps-at}
-use Rattle.reading.specs.TableReading.{step-place}
-use Rattle.table_reader.proofs.Laws.{inside}
+use Rattle.table_reader.proofs.Places.{step-number-fits, step-place-fits, step-place-read}
 use Rattle.table_reader.proofs.step_place.Statement.{statement}
 use Rattle.table_reader.proofs.step_place.Tie as tie
 
+ruleset all = (needs, step-number-fits, step-place-fits, step-place-read)
+
 pub step-place-spec : {M : Type 1} → statement M
-unfolding step-place rows-at row-size state-width step-size steps-at
-step-place-spec = tie.close (tie.spec
-    (λ c κs. search needs)
-    (λ c. omega inside)
-    (λ c. omega inside)
-    (λ c. omega inside)
-    (λ c. omega inside)
-    (λ c. omega inside))
+step-place-spec =
+    tie.close
+    (tie.spec (λ c κs. search all) (λ c κs. search all) (λ c. search all) (λ c. search all) (λ c. search all))

@@ -1,8 +1,7 @@
 -- The loop keeps `StepsLeft`, and the steps that are left become fewer.
 use borrow.Author.Tests.{not-true, not-false}
 use borrow.Author.Needs.{needs}
-use Rattle.logic.specs.Tower.{state-width}
-use Rattle.logic.specs.TableFile.{rows-at, row-size, step-size, steps-at}
+use Rattle.logic.specs.TableFile.{step-size}
 use Rattle.reading.specs.TableReading.{step-place}
 use Prim.Native.Nat.{_-_}
 use Rattle.table_reader.proofs.Laws.{inside}
@@ -19,7 +18,7 @@ abbrev μ-loop : tie.MeasureT-loop
 μ-loop bytes first count end low₀ i₀ low i = end - i
 
 pub steps-right-spec : {M : Type 1} → statement M
-unfolding step-place rows-at row-size state-width step-size steps-at
+unfolding step-place step-size
 steps-right-spec = tie.close (tie.spec
     Inv-loop
     μ-loop

@@ -9,10 +9,10 @@ use Rattle.table_writer.proofs.step_count.Tie as tie
 ruleset all = (needs, counting-start, counting-more, counting-fits, counting-end)
 
 abbrev Inv-loop : tie.InvT-loop
-Inv-loop steps flags pairs actions i count₀ a₀ count a = Counting steps flags actions i count a
+Inv-loop graph flags pairs actions i count₀ a₀ count a = Counting graph flags actions i count a
 
 abbrev μ-loop : tie.MeasureT-loop
-μ-loop steps flags pairs actions i count₀ a₀ count a = actions - a
+μ-loop graph flags pairs actions i count₀ a₀ count a = actions - a
 
 pub step-count-spec : {M : Type 1} → statement M
 step-count-spec =

@@ -9,10 +9,10 @@ use Rattle.table_writer.proofs.total_steps.Tie as tie
 ruleset all = (needs, pair-there, pair-below, totalling-start, totalling-more, totalling-fits, totalling-end)
 
 abbrev Inv-loop : tie.InvT-loop
-Inv-loop steps flags area pairs actions rows total₀ r₀ total r = Totalling steps flags area actions rows total r
+Inv-loop graph flags area pairs actions rows total₀ r₀ total r = Totalling graph flags area actions rows total r
 
 abbrev μ-loop : tie.MeasureT-loop
-μ-loop steps flags area pairs actions rows total₀ r₀ total r = rows - r
+μ-loop graph flags area pairs actions rows total₀ r₀ total r = rows - r
 
 pub total-steps-spec : {M : Type 1} → statement M
 total-steps-spec =

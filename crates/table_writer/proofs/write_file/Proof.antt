@@ -1,13 +1,13 @@
 -- `table_writer::write_file` meets its contract.
 use borrow.Author.Needs.{needs}
-use Rattle.table_writer.proofs.Filling.{rows-fit, rows-size-fits, file-written}
-use Rattle.table_writer.proofs.Going.{laid-few}
+use Rattle.table_writer.proofs.Filling.{header-room, file-written}
+use Rattle.table_writer.proofs.Going.{laid-few, rows-number}
 use Rattle.table_writer.proofs.write_file.Statement.{statement}
 use Rattle.table_writer.proofs.write_file.Tie as tie
 
-ruleset all = (needs, laid-few, rows-fit, rows-size-fits, file-written)
+ruleset all = (needs, header-room, file-written, laid-few, rows-number)
 
 pub write-file-spec : {M : Type 1} → statement M
 write-file-spec =
     tie.close
-    (tie.spec (λ c κs. search all) (λ c κs. search all) (λ c. search all) (λ c. search all) (λ c κs. search all) (λ c. search all) (λ c. search all))
+    (tie.spec (λ c κs. search all) (λ c κs. search all) (λ c κs. search all) (λ c κs. search all) (λ c. search all) (λ c. search all))

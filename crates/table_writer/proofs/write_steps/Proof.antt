@@ -10,10 +10,10 @@ use Rattle.table_writer.proofs.write_steps.Tie as tie
 ruleset all = (needs, pair-there, pair-is-row, packing-start, packing-room, packing-more, packing-end)
 
 abbrev Inv-loop : tie.InvT-loop
-Inv-loop steps flags area out₀ pairs actions rows p next₀ r₀ out next r = Packing steps flags area actions rows out₀ p out next r
+Inv-loop graph flags area out₀ pairs actions rows p next₀ r₀ out next r = Packing graph flags area actions rows out₀ p out next r
 
 abbrev μ-loop : tie.MeasureT-loop
-μ-loop steps flags area out₀ pairs actions rows p next₀ r₀ out next r = rows - r
+μ-loop graph flags area out₀ pairs actions rows p next₀ r₀ out next r = rows - r
 
 loop-again : tie.Need-loop-again Inv-loop μ-loop
 loop-again c =

@@ -12,10 +12,10 @@ use Rattle.table_writer.proofs.write_steps_of.Tie as tie
 ruleset all = (needs, pair-start, pair-room, pair-more, pair-end)
 
 abbrev Inv-loop : tie.InvT-loop
-Inv-loop steps flags area out₀ pairs actions rows i p next₀ a₀ out next a = Filling (rest (step-from steps flags (classes-part area) (order-of area rows) i) actions a) (steps-in steps flags (classes-part area) (order-of area rows) actions i) out₀ p out next
+Inv-loop graph flags area out₀ pairs actions rows i p next₀ a₀ out next a = Filling (rest (step-from graph flags (classes-part area) (order-of area rows) i) actions a) (steps-in graph flags (classes-part area) (order-of area rows) actions i) out₀ p out next
 
 abbrev μ-loop : tie.MeasureT-loop
-μ-loop steps flags area out₀ pairs actions rows i p next₀ a₀ out next a = actions - a
+μ-loop graph flags area out₀ pairs actions rows i p next₀ a₀ out next a = actions - a
 
 pub write-steps-of-spec : {M : Type 1} → statement M
 write-steps-of-spec =

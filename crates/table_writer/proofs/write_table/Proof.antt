@@ -1,12 +1,12 @@
 -- `table_writer::write_table` meets its contract.
 use borrow.Author.Needs.{needs}
-use Rattle.table_writer.proofs.Filling.{moves-given, classes-given, laid-out, size-fits, steps-size-fits, ordered-fit, ordered-size-fits, writes-nothing, writes-file}
+use Rattle.table_writer.proofs.Filling.{classes-given, laid-out, size-fits, steps-size-fits, ordered-few, file-room, writes-nothing, writes-file}
 use Rattle.table_writer.proofs.write_table.Statement.{statement}
 use Rattle.table_writer.proofs.write_table.Tie as tie
 
-ruleset all = (needs, moves-given, classes-given, laid-out, size-fits, steps-size-fits, ordered-fit, ordered-size-fits, writes-nothing, writes-file)
+ruleset all = (needs, classes-given, laid-out, size-fits, steps-size-fits, ordered-few, file-room, writes-nothing, writes-file)
 
 pub write-table-spec : {M : Type 1} → statement M
 write-table-spec =
     tie.close
-    (tie.spec (λ c κs. search all) (λ c κs. search all) (λ c. search all) (λ c. search all) (λ c. search all) (λ c. search all) (λ c. search all) (λ c. search all) (λ c κs. (search all, (search all, (search all, search all)))) (λ c. search all) (λ c. search all) (λ c. search all))
+    (tie.spec (λ c κs. search all) (λ c κs. search all) (λ c κs. search all) (λ c. search all) (λ c. search all) (λ c. search all) (λ c. search all) (λ c κs. (search all, (search all, (search all, search all)))) (λ c. search all) (λ c. search all) (λ c. search all))

@@ -1,10 +1,10 @@
 -- `tower_reader::marks` meets its contract.
 use borrow.Author.Needs.{needs}
-use Rattle.tower_reader.proofs.Laws.{fit-header, tower-marks}
+use Rattle.tower_reader.proofs.Laws.{fit-headed, tower-marks}
 use Rattle.tower_reader.proofs.marks.Statement.{statement}
 use Rattle.tower_reader.proofs.marks.Tie as tie
 
-ruleset all = (needs, fit-header, tower-marks)
+ruleset all = (needs, fit-headed, tower-marks)
 
 pub marks-spec : {M : Type 1} → statement M
 marks-spec = tie.close (tie.spec (λ c κs. search all) (λ c. search all))

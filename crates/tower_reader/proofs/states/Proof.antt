@@ -1,10 +1,10 @@
 -- `tower_reader::states` meets its contract.
 use borrow.Author.Needs.{needs}
-use Rattle.tower_reader.proofs.Laws.{fit-header, tower-states}
+use Rattle.tower_reader.proofs.Laws.{fit-headed, tower-states}
 use Rattle.tower_reader.proofs.states.Statement.{statement}
 use Rattle.tower_reader.proofs.states.Tie as tie
 
-ruleset all = (needs, fit-header, tower-states)
+ruleset all = (needs, fit-headed, tower-states)
 
 pub states-spec : {M : Type 1} → statement M
 states-spec = tie.close (tie.spec (λ c κs. search all) (λ c. search all))

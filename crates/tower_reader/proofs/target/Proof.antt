@@ -8,4 +8,6 @@ use Rattle.tower_reader.proofs.target.Tie as tie
 ruleset all = (needs, fit-sized, state-within, action-within, target-none, target-some)
 
 pub target-spec : {M : Type 1} → statement M
-target-spec = tie.close (tie.spec (λ c κs. search all) (λ c. search all) (λ c. search all))
+target-spec =
+    tie.close
+    (tie.spec (λ c κs. search all) (λ c κs. search all) (λ c. search all) (λ c. search all))

@@ -3,7 +3,7 @@
 
 use reference::book::{self, Book};
 use reference::table::{Row, Step, Table};
-use reference::tower::{self, Tower};
+use reference::tower::{self, Tower, NOT_ENABLED};
 
 pub const SMALL_TOWER: [u8; 34] = [
     0x03, 0x04, 0x03, 0x00, 0x08, 0x00, 0x10, 0x00, // header
@@ -21,15 +21,33 @@ pub fn lines(lines: &[&str]) -> Vec<u8> {
 
 /// A tower file with marks below `marks`: actions as length and kind, states as mask and targets.
 pub fn tower_file(marks: u8, start: u8, actions: &[[u8; 2]], states: &[(u16, Vec<u8>)]) -> Vec<u8> {
-    let states_at = 8 + 2 * actions.len() as u8;
     let mut file = vec![states.len() as u8, actions.len() as u8, marks, start];
-    file.extend([8, 0, states_at, 0]);
+    for offset in [tower::HEADER, tower::states_at(actions.len())] {
+        file.extend((offset as u16).to_le_bytes());
+    }
     file.extend(actions.concat());
     for (mask, targets) in states {
         file.extend(mask.to_le_bytes());
         file.extend(targets);
     }
     file
+}
+
+/// The table of the small tower under book 1, as the paper lists it.
+pub fn small_table() -> Table {
+    let rows: [(usize, &[(usize, usize)]); 5] = [
+        (0, &[(0, 1), (2, 2)]),
+        (1, &[(1, 3)]),
+        (2, &[(3, 4)]),
+        (0, &[(2, 2)]),
+        (0, &[(0, 1)]),
+    ];
+    Table::of_rows(3, 4, &rows)
+}
+
+/// A table for the small tower of one row, which has no step.
+pub fn stopped_table() -> Table {
+    Table::of_rows(3, 4, &[(0, &[])])
 }
 
 /// A ring of 200 states with one action of length 1.
@@ -76,7 +94,7 @@ pub fn random_tower(random: &mut Random, most_actions: usize) -> (Vec<u8>, Tower
             let mask = random.below(1 << marks) as u16;
             let target = |_| {
                 if random.once_in(4) {
-                    255
+                    NOT_ENABLED as u8
                 } else {
                     random.below(states) as u8
                 }
@@ -201,7 +219,12 @@ pub fn random_table(random: &mut Random, tower: &Tower) -> Table {
         for (action, reached) in tower.states[state].targets.iter().enumerate() {
             let fits = |row: &usize| Some(states[*row]) == *reached || random.once_in(60);
             let targets: Vec<usize> = (0..states.len()).filter(fits).collect();
-            let withheld = random.once_in(if tower.actions[action].player { 30 } else { 3 });
+            let times = if tower.kind(action).controllable() {
+                3
+            } else {
+                30
+            };
+            let withheld = random.once_in(times);
             if !targets.is_empty() && !withheld {
                 let target = targets[random.below(targets.len())];
                 steps.push(Step { action, target });

@@ -9,4 +9,4 @@ ruleset all = (needs, argument-read, holds-nothing)
 pub argument-spec : {M : Type 1} → statement M
 argument-spec = tie.close (tie.spec
     (λ c κs. search all) (λ c κs. search all) (λ c κs. search all) (λ c. search all) (λ c. search all) (λ c. search all)
-    (λ c. search all))
+    (λ c κs. search all) (λ c. search all) (λ c. search all) (λ c. search all) (λ c. search all))

@@ -9,7 +9,6 @@ ruleset all = (needs, writes-on, writes-failed)
 
 pub write-more-spec : {M : Type 1} → statement M
 write-more-spec = tie.close (tie.spec
-    (λ c. search all) (λ c. search all) (λ c. search all) (λ c κs. search all) (λ c κs. search all) (λ c. search all) (λ c κs. search all)
-    (λ c. search all) (λ c. search all) (λ c. search all) (λ c. search all) (λ c κs. search all) (λ c κs. search all) (λ c. search all)
-    (λ c κs. search all) (λ c. search all) (λ c. search all)
-    (λ c. writes-on _ _ (omega arith)))
+    (λ c. search all) (λ c. search all) (λ c. search all) (λ c κs. search all) (λ c κs. search all) (λ c. search all)
+    (λ c κs. search all) (λ c. search all) (λ c. search all) (λ c. search all) (λ c. search all) (λ c κs. search all)
+    (λ c. search all) (λ c κs. search all) (λ c. search all) (λ c. search all) (λ c. writes-on _ _ (omega arith)))

@@ -1,13 +1,13 @@
 -- `removal::fine::not_forced` meets its contract.
+use borrow.Author.Tests.{not-true, not-false}
+use Rattle.removal.proofs.Moves.{judged-fit, may-withhold, not-there, has-to-lead}
 use borrow.Author.Needs.{needs}
-use Rattle.removal.proofs.Moves.{judged-fit, judged-cell, judged-target, may-withhold, not-there, has-to-lead}
 use Rattle.removal.proofs.fine.not_forced.Statement.{statement}
 use Rattle.removal.proofs.fine.not_forced.Tie as tie
 
-ruleset all = (needs, judged-fit, judged-cell, judged-target, may-withhold, not-there, has-to-lead)
+ruleset all = (needs, not-true, not-false, judged-fit, may-withhold, not-there, has-to-lead)
 
 pub not-forced-spec : {M : Type 1} → statement M
 not-forced-spec =
     tie.close
-    (tie.spec (λ c κs. search all) (λ c κs. search all) (λ c. search all) (λ c κs. search all) (λ c. search all)
-    (λ c κs. search all) (λ c. search all))
+    (tie.spec (λ c κs. search all) (λ c κs. search all) (λ c. search all) (λ c κs. search all) (λ c. search all) (λ c κs. search all) (λ c. search all))

@@ -7,7 +7,4 @@ use Rattle.row_classes.proofs.numbers.put.Tie as tie
 ruleset all = (needs, two-put)
 
 pub put-spec : {M : Type 1} → statement M
-put-spec =
-    tie.close
-    (tie.spec (λ c. search all) (λ c. search all) (λ c. search all) (λ c. search all) (λ c. search all) (λ c. search all)
-    (λ c. search all))
+put-spec = tie.close (tie.spec (λ c κs. search all) (λ c. search all) (λ c. search all))

@@ -2,19 +2,19 @@
 -- The invariant: the sum is that of the first `a` actions. The measure: how many are left.
 use Prim.Native.Nat.{_-_, _≤_}
 use Rattle.row_classes.specs.View.{view-of, old-part}
-use Rattle.row_classes.proofs.Looks.{Summing, shows-there, sum-start, sum-more, sum-end}
+use Rattle.row_classes.proofs.Looks.{Summing, sum-start, sum-more, sum-end}
 use borrow.Author.Needs.{needs}
 use Rattle.row_classes.proofs.view.bucket.Statement.{statement}
 use Rattle.row_classes.proofs.view.bucket.Tie as tie
 
-ruleset all = (needs, shows-there, sum-start, sum-more, sum-end)
+ruleset all = (needs, sum-start, sum-more, sum-end)
 
 abbrev Inv-loop : tie.InvT-loop
-Inv-loop steps flags entries actions area i sum₀ a₀ sum a =
-    (Summing (view-of steps flags entries actions (old-part area)) i a sum) × (a ≤ actions)
+Inv-loop graph flags pairs actions area i sum₀ a₀ sum a =
+    (Summing (view-of graph flags actions (old-part area)) i a sum) × (a ≤ actions)
 
 abbrev μ-loop : tie.MeasureT-loop
-μ-loop steps flags entries actions area i sum₀ a₀ sum a = actions - a
+μ-loop graph flags pairs actions area i sum₀ a₀ sum a = actions - a
 
 pub bucket-spec : {M : Type 1} → statement M
 bucket-spec =

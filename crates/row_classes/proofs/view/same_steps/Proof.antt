@@ -2,18 +2,18 @@
 -- The invariant: the first `a` actions show the same. The measure: how many are left.
 use Prim.Native.Nat.{_-_}
 use Rattle.row_classes.specs.View.{old-part}
-use Rattle.row_classes.proofs.Looks.{Matching, shows-there, match-start, match-more, same-shows, match-fails, match-end}
+use Rattle.row_classes.proofs.Looks.{Matching, match-start, match-more, same-shows, match-fails, match-end}
 use borrow.Author.Needs.{needs}
 use Rattle.row_classes.proofs.view.same_steps.Statement.{statement}
 use Rattle.row_classes.proofs.view.same_steps.Tie as tie
 
-ruleset all = (needs, shows-there, match-start, match-more, same-shows, match-fails, match-end)
+ruleset all = (needs, match-start, match-more, same-shows, match-fails, match-end)
 
 abbrev Inv-loop : tie.InvT-loop
-Inv-loop steps flags actions area i j a₀ a = Matching steps flags (old-part area) i j a
+Inv-loop graph flags pairs actions area i j a₀ a = Matching graph flags (old-part area) i j a
 
 abbrev μ-loop : tie.MeasureT-loop
-μ-loop steps flags actions area i j a₀ a = actions - a
+μ-loop graph flags pairs actions area i j a₀ a = actions - a
 
 pub same-steps-spec : {M : Type 1} → statement M
 same-steps-spec =

@@ -1,14 +1,12 @@
--- `row_classes::view::seen` meets its contract.
-use borrow.Author.Tests.{not-true, not-false}
-use Rattle.row_classes.proofs.Looks.{target-small, target-flag, shows-none, shows-removed, shows-class}
+-- `row_classes::view.seen` meets its contract.
 use borrow.Author.Needs.{needs}
+use Rattle.row_classes.proofs.Looks.{target-small, shows-none, shows-class}
 use Rattle.row_classes.proofs.view.seen.Statement.{statement}
 use Rattle.row_classes.proofs.view.seen.Tie as tie
 
-ruleset all = (needs, not-true, not-false, target-small, target-flag, shows-none, shows-removed, shows-class)
+ruleset all = (needs, target-small, shows-none, shows-class)
 
 pub seen-spec : {M : Type 1} → statement M
 seen-spec =
     tie.close
-    (tie.spec (λ c. search all) (λ c. search all) (λ c. search all) (λ c κs. search all) (λ c. search all) (λ c κs. search all)
-    (λ c. search all) (λ c κs. search all) (λ c. search all) (λ c. search all))
+    (tie.spec (λ c κs. search all) (λ c. search all) (λ c. search all) (λ c. search all) (λ c κs. search all) (λ c. search all) (λ c. search all))

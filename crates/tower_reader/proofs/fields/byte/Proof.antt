@@ -1,6 +1,6 @@
 -- `tower_reader::fields::byte` meets its contract.
 use borrow.Author.Needs.{needs}
-use Rattle.tower_reader.proofs.Places.{cast-byte}
+use Rattle.lent_bytes.proofs.Numbers.{cast-byte}
 use Rattle.tower_reader.proofs.fields.byte.Statement.{statement}
 use Rattle.tower_reader.proofs.fields.byte.Tie as tie
 

@@ -1,12 +1,12 @@
 -- `tower_reader::fields::target_of` meets its contract.
 use borrow.Author.Needs.{needs}
-use Rattle.tower_reader.proofs.Places.{targets-fit, target-fits, target-there, target-read-at}
+use Rattle.tower_reader.proofs.Places.{width-least, width-most, targets-fit, target-place-fits, target-fits, target-there, target-read-at}
 use Rattle.tower_reader.proofs.fields.target_of.Statement.{statement}
 use Rattle.tower_reader.proofs.fields.target_of.Tie as tie
 
-ruleset all = (needs, targets-fit, target-fits, target-there, target-read-at)
+ruleset all = (needs, width-least, width-most, targets-fit, target-place-fits, target-fits, target-there, target-read-at)
 
 pub target-of-spec : {M : Type 1} → statement M
 target-of-spec =
     tie.close
-    (tie.spec (λ c κs. search all) (λ c. search all) (λ c. search all) (λ c. search all) (λ c κs. search all) (λ c. search all))
+    (tie.spec (λ c κs. search all) (λ c κs. search all) (λ c. search all) (λ c. search all) (λ c. search all) (λ c κs. search all) (λ c. search all))

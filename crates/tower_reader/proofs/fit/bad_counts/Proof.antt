@@ -10,5 +10,4 @@ ruleset all = (needs, not-true, not-false, counts-states, counts-actions, counts
 pub bad-counts-spec : {M : Type 1} → statement M
 bad-counts-spec =
     tie.close
-    (tie.spec (λ c κs. search all) (λ c κs. search all) (λ c. search all) (λ c κs. search all) (λ c κs. search all)
-    (λ c. search all) (λ c κs. search all) (λ c. search all) (λ c κs. search all) (λ c. search all))
+    (tie.spec (λ c κs. search all) (λ c κs. search all) (λ c κs. search all) (λ c. search all) (λ c κs. search all) (λ c κs. search all) (λ c. search all) (λ c κs. search all) (λ c. search all) (λ c κs. search all) (λ c. search all))

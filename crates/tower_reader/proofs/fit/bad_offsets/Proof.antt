@@ -7,4 +7,6 @@ use Rattle.tower_reader.proofs.fit.bad_offsets.Tie as tie
 ruleset all = (needs, offset-actions, offset-states)
 
 pub bad-offsets-spec : {M : Type 1} → statement M
-bad-offsets-spec = tie.close (tie.spec (λ c κs. search all) (λ c. search all) (λ c κs. search all) (λ c κs. search all) (λ c. search all))
+bad-offsets-spec =
+    tie.close
+    (tie.spec (λ c κs. search all) (λ c κs. search all) (λ c. search all) (λ c κs. search all) (λ c κs. search all) (λ c. search all))

@@ -7,4 +7,6 @@ use Rattle.tower_reader.proofs.fit.bad_target.Tie as tie
 ruleset all = (needs, target-state, target-other)
 
 pub bad-target-spec : {M : Type 1} → statement M
-bad-target-spec = tie.close (tie.spec (λ c κs. search all) (λ c κs. search all) (λ c. search all) (λ c. search all))
+bad-target-spec =
+    tie.close
+    (tie.spec (λ c κs. search all) (λ c κs. search all) (λ c. search all) (λ c κs. search all) (λ c. search all))

@@ -7,4 +7,6 @@ use Rattle.tower_reader.proofs.fit.no_header.Tie as tie
 ruleset all = (needs, header-test)
 
 pub no-header-spec : {M : Type 1} → statement M
-no-header-spec = tie.close (tie.spec (λ c. search all))
+no-header-spec =
+    tie.close
+    (tie.spec (λ c κs. search all) (λ c. search all))

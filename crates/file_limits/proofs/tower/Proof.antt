@@ -1,0 +1,12 @@
+-- `file_limits::tower` meets its contract.
+use borrow.Author.Needs.{needs}
+use Rattle.logic.specs.Tower.{narrow, most-actions}
+use Rattle.file_limits.specs.Longest.{longest-tower}
+use Rattle.file_limits.proofs.tower.Statement.{statement}
+use Rattle.file_limits.proofs.tower.Tie as tie
+
+pub tower-spec : {M : Type 1} → statement M
+unfolding longest-tower narrow most-actions
+tower-spec =
+    tie.close
+    (tie.spec (λ c. search needs))

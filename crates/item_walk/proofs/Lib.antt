@@ -1,5 +1,0 @@
-mod Entries
-mod Following
-mod Growing
-mod Walking
-pub mod Laws

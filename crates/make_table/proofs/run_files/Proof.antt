@@ -1,0 +1,13 @@
+-- `make_table::run_files` is safe and ends.
+use borrow.Author.Needs.{needs}
+use Rattle.files.proofs.Ways.{contents-within, contents-taken}
+use Rattle.make_table.proofs.run_files.Statement.{statement}
+use Rattle.make_table.proofs.run_files.Tie as tie
+
+ruleset all = (needs, contents-within, contents-taken)
+
+pub run-files-spec : {M : Type 1} → statement M
+run-files-spec = tie.close (tie.spec
+    (λ c. search all) (λ c κs. search all) (λ c. search all) (λ c. search all) (λ c. search all) (λ c. search all)
+    (λ c κs. search all) (λ c. search all) (λ c. search all) (λ c. search all) (λ c. search all) (λ c. search all) (λ c. search all)
+    (λ c. search all) (λ c κs. search all) (λ c. search all))

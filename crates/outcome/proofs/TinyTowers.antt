@@ -1,0 +1,79 @@
+-- Outcomes on tiny towers, by computing the definitions.
+use Prim.Native.Nat.{ℕ, _≤_}
+use Prim.Native.String.{String}
+use mathlib.Core.Path.{_≡_, refl, ap}
+use mathlib.Core.List.{List, [], _∷_}
+use native.Mathlib.Omega.{arith}
+use lib.ListN.{length}
+use Rattle.base.specs.Text.{ascii}
+use Rattle.base.specs.Answers.{answered, make-said, refusal-said, give, refuse}
+use Rattle.base.specs.declared.Refusal.{Refusal}
+use Rattle.base.specs.declared.Refusal.the-variants.{Mask, NoTable}
+use Rattle.outcome.specs.Make.{made-file}
+use Rattle.outcome.specs.TinyTowers.{one-state, two-states, leaves-p0, enters-p0, Says, TinyTowerTable}
+use Rattle.outcome.proofs.ElevenOutcomes.{opened}
+use Rattle.outcome.proofs.FitCalls.{file-answered}
+use Rattle.outcome.proofs.Answering.{made-refused}
+
+-- a refusal of the files is said
+says-refused : (tower : List ℕ) (book : String) (r : Refusal) → made-file tower (ascii book) ≡ refuse r → Says tower book (refusal-said r)
+unfolding Says make-said
+says-refused tower book r e output areas room enough = ap make-said (made-refused tower (ascii book) output areas enough r e)
+
+-- a file that is made is said by its length
+says-made : (tower : List ℕ) (book : String) (file : List ℕ) → length file ≤ 26 → made-file tower (ascii book) ≡ give file
+    → Says tower book (answered (length file ∷ []))
+unfolding Says make-said
+says-made tower book file few e output areas room enough =
+    ap make-said (file-answered tower (ascii book) output areas file enough e (omega arith))
+
+-- the tables of one row with one step, and of two rows with one step each
+one : List ℕ
+one =
+    1 ∷ 0 ∷ 1 ∷ 0 ∷ 12 ∷ 0 ∷ 16 ∷ 0 ∷ 1 ∷ 0 ∷ 1 ∷ 0
+    ∷ 0 ∷ 1 ∷ 0 ∷ 0
+    ∷ 0 ∷ 0 ∷ 0
+    ∷ []
+
+two : List ℕ
+two =
+    2 ∷ 0 ∷ 2 ∷ 0 ∷ 12 ∷ 0 ∷ 20 ∷ 0 ∷ 2 ∷ 0 ∷ 1 ∷ 0
+    ∷ 0 ∷ 1 ∷ 0 ∷ 0
+    ∷ 1 ∷ 1 ∷ 1 ∷ 0
+    ∷ 0 ∷ 1 ∷ 0
+    ∷ 0 ∷ 1 ∷ 0
+    ∷ []
+
+-- the definitions computed, with the towers opened
+pub tiny-towers : TinyTowerTable
+unfolding opened one-state two-states one two refusal-said
+tiny-towers =
+    record {
+      less-at = says-refused (one-state 0) "always N < 5 T\n" NoTable refl;
+      less-below = says-made (one-state 0) "always N < 6 T\n" one (omega arith) refl;
+      no-more-at = says-made (one-state 0) "always N <= 5 T\n" one (omega arith) refl;
+      no-more-above = says-refused (one-state 0) "always N <= 4 T\n" NoTable refl;
+      no-less-at = says-made (one-state 0) "always N >= 5 T\n" one (omega arith) refl;
+      no-less-below = says-refused (one-state 0) "always N >= 6 T\n" NoTable refl;
+      more-at = says-refused (one-state 0) "always N > 5 T\n" NoTable refl;
+      more-above = says-made (one-state 0) "always N > 4 T\n" one (omega arith) refl;
+      always-20 = says-refused (leaves-p0 20) "start A p0\n" NoTable refl;
+      always-20-by-19 = says-made (leaves-p0 20) "start A 19 p0\n" two (omega arith) refl;
+      always-21 = says-made (leaves-p0 21) "start A p0\n" two (omega arith) refl;
+      always-21-by-21 = says-refused (leaves-p0 21) "start A 21 p0\n" NoTable refl;
+      within-20 = says-made (enters-p0 20) "start E p0\n" two (omega arith) refl;
+      within-20-by-19 = says-refused (enters-p0 20) "start E 19 p0\n" NoTable refl;
+      within-21 = says-refused (enters-p0 21) "start E p0\n" NoTable refl;
+      within-21-by-21 = says-made (enters-p0 21) "start E 21 p0\n" two (omega arith) refl;
+      until-20 = says-made (enters-p0 20) "start U (T, p0)\n" two (omega arith) refl;
+      until-20-by-19 = says-refused (enters-p0 20) "start U 19 (T, p0)\n" NoTable refl;
+      until-21 = says-refused (enters-p0 21) "start U (T, p0)\n" NoTable refl;
+      until-21-by-21 = says-made (enters-p0 21) "start U 21 (T, p0)\n" two (omega arith) refl;
+      bit-3 = says-refused (one-state 8) "" Mask refl;
+      bit-2 = says-made (one-state 4) "always p2\n" one (omega arith) refl;
+      bit-2-not-1 = says-refused (one-state 4) "always p1\n" NoTable refl;
+      or-and = says-made (one-state 1) "always p0 | p1 & p2\n" one (omega arith) refl;
+      or-and-in-brackets = says-refused (one-state 1) "always (p0 | p1) & p2\n" NoTable refl;
+      and-or = says-made (one-state 4) "always p0 & p1 | p2\n" one (omega arith) refl;
+      and-or-in-brackets = says-refused (one-state 4) "always p0 & (p1 | p2)\n" NoTable refl;
+    }

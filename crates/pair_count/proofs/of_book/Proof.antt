@@ -1,0 +1,13 @@
+-- The book that was read lies in its area.
+use borrow.Author.Needs.{needs}
+use Rattle.tower_reader.proofs.Laws.{marks-few}
+use Rattle.pair_count.proofs.Ways.{book-known}
+use Rattle.pair_count.proofs.of_book.Statement.{statement}
+use Rattle.pair_count.proofs.of_book.Tie as tie
+
+ruleset all = (needs, marks-few, book-known)
+
+pub of-book-spec : {M : Type 1} → statement M
+of-book-spec = tie.close (tie.spec
+    (λ c κs. search all) (λ c κs. (search needs, search all)) (λ c. search all) (λ c. search all) (λ c κs. search all) (λ c. search all)
+    (λ c. search all) (λ c. search all) (λ c. search all))

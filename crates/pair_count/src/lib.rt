@@ -1,0 +1,87 @@
+// How many pairs a tower and a book have, told beside a table that was made: the maker's own search, run
+// again. It is proved to be safe; the number itself is that of the search.
+ghost use Prim.Native.Nat.{_≤_};
+ghost use lib.ListN.{length};
+ghost use Rattle.logic.specs.Tower.{FitTower};
+ghost use Rattle.pending_entries.specs.PendingEntries.{TowerWithBook};
+use base::BookAnswer;
+use pair_search::Found;
+use tower_reader::TowerRead;
+
+// The pairs are those of the tower, not of a table's rows.
+const BY_ROWS: bool = false;
+
+// The pairs of a book that was read, or 0 if there are too many.
+fn search(
+    tower: &[u8],
+    nodes: &[u8],
+    lines: usize,
+    count: usize,
+    pairs: &mut [u8],
+    index: &mut [u8],
+    graph: &mut [u8],
+) -> usize
+    requires { ⌜ TowerWithBook (now tower) (now nodes) lines count ⌝ }
+    requires { ⌜ 62062 ≤ length (now pairs) ⌝ }
+    requires { ⌜ 8192 ≤ length (now index) ⌝ }
+    requires { ⌜ 34000 ≤ length (now graph) ⌝ }
+{
+    let found = pair_search::explore(
+        tower,
+        tower,
+        BY_ROWS,
+        nodes,
+        lines,
+        count,
+        pairs,
+        index,
+        graph,
+    );
+    match found {
+        Found::TooMany => 0,
+        Found::Met(n) => n,
+    }
+}
+
+// The same with areas of its own.
+fn search_here(tower: &[u8], nodes: &[u8], lines: usize, count: usize) -> usize
+    requires { ⌜ TowerWithBook (now tower) (now nodes) lines count ⌝ }
+{
+    let mut pairs = [0u8; 62062];
+    let mut index = [0u8; 8192];
+    let mut graph = [0u8; 34000];
+    search(
+        tower,
+        nodes,
+        lines,
+        count,
+        &mut pairs,
+        &mut index,
+        &mut graph,
+    )
+}
+
+// The pairs of a fit tower and a book, or 0 if the book is refused.
+fn of_book(tower: &[u8], text: &[u8], nodes: &mut [u8]) -> usize
+    requires { ⌜ FitTower (now tower) ⌝ }
+    requires { ⌜ 512 ≤ length (now nodes) ⌝ }
+{
+    let book = book_reader::read_lines(tower_reader::marks(tower), text, nodes);
+    match book {
+        BookAnswer::Refused(why) => 0,
+        BookAnswer::Read {
+            lines,
+            nodes: count,
+        } => search_here(tower, nodes, lines, count),
+    }
+}
+
+// How many pairs a tower and a book have; 0 if one of them is refused or there are too many.
+pub fn pairs(tower: &[u8], text: &[u8]) -> usize {
+    let read = tower_reader::read_tower(tower);
+    if let TowerRead::Refused(why) = read {
+        return 0;
+    }
+    let mut nodes = [0u8; 512];
+    of_book(tower, text, &mut nodes)
+}

@@ -1,0 +1,12 @@
+-- `tower_reader::fields::states_offset` meets its contract.
+use borrow.Author.Needs.{needs}
+use Rattle.tower_reader.proofs.Places.{second-offset-there, second-offset-fits, second-offset-read}
+use Rattle.tower_reader.proofs.fields.states_offset.Statement.{statement}
+use Rattle.tower_reader.proofs.fields.states_offset.Tie as tie
+
+ruleset all = (needs, second-offset-there, second-offset-fits, second-offset-read)
+
+pub states-offset-spec : {M : Type 1} → statement M
+states-offset-spec =
+    tie.close
+    (tie.spec (λ c κs. search all) (λ c. search all) (λ c κs. search all) (λ c. search all))
