@@ -33,7 +33,7 @@ const FLAGS_AREA: usize = 37000;
 const CLASSES_AREA: usize = 8192;
 
 // The pairs are those of the tower, not of a table's rows.
-const BY_ROWS: bool = false;
+const ROWS: bool = false;
 
 // The first pair is safe.
 fn first_safe(flags: &[u8]) -> bool
@@ -102,17 +102,7 @@ fn make_table(
     requires { ⌜ Room (now nodes) (now pairs) (now index) (now graph) (now flags) (now classes) ⌝ }
     ensures { λ r. ⌜ TableMade r (now (tower .entry)) (now (nodes .entry)) lines count (now (out .entry)) (now (out .exit)) ⌝ }
 {
-    let found = pair_search::explore(
-        tower,
-        tower,
-        BY_ROWS,
-        nodes,
-        lines,
-        count,
-        pairs,
-        index,
-        graph,
-    );
+    let found = pair_search::explore(tower, tower, ROWS, nodes, lines, count, pairs, index, graph);
     match found {
         Found::TooMany => MakeAnswer::Refused(Refusal::Pairs),
         Found::Met(n) => make_rows(tower, out, graph, flags, classes, n),
