@@ -31,7 +31,7 @@ use Rattle.base.specs.declared.BookAnswer.the-variants as Reads
 use Rattle.logic.specs.Book.{Book}
 use Rattle.reading.specs.TowerReading.{read-tower}
 use Rattle.reading.specs.BookReading.{read-book}
-use Rattle.outcome.specs.Areas.{check-areas, book-area, pairs-area, index-area, graph-area}
+use Rattle.outcome.specs.Areas.{check-areas}
 use Rattle.outcome.specs.ReadBook.{book-answer}
 use Rattle.outcome.specs.Check.{checked-file, check-outcome}
 use Rattle.tower_reader.specs.TowerRead.{tower-read}

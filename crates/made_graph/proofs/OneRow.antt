@@ -1,4 +1,4 @@
--- The classes of kept pairs are the rows: two kept pairs are of one class exactly if they make one row.
+-- The classes of safe pairs are the rows: two safe pairs are of one class exactly if they make one row.
 use Prim.Native.Nat.{ℕ, zero, suc, _<_}
 use mathlib.Core.Path.{_≡_, refl, sym, _∙_, ap₂, subst}
 use mathlib.Core.Bool.{Bool, true, false}
@@ -21,7 +21,7 @@ use Rattle.pair_graph.specs.Graph.{Move, not-enabled, broken, to, Graph, allowe
 use Rattle.pair_graph.specs.GraphOf.{numbered, SaysStep, says-not-enabled, says-broken, says-to, GraphOf}
 use Rattle.made_graph.proofs.Safe.{not-enabled-none}
 
--- What is known of the graph when its classes are looked at: it is that of the pairs, and the kept are the safe.
+-- What is known of the graph when its classes are looked at: it is that of the pairs, and the flagged ones are the safe.
 pub record SafeGraph (tower : Tower) (book : Book) (graph : Graph) (staying : ℕ → Bool) : Type 0 where
   pub known : Known tower book
   pub of : GraphOf tower book graph
@@ -106,7 +106,7 @@ module _ (tower : Tower) (book : Book) (graph : Graph) (staying : ℕ → Bool) 
                 unfold same-option in
                 (ih k l (allowed-safe i a k (ki .there) la eo) (allowed-safe j a l (kj .there) la ep) (eqb-true (class k) (class l) (unfold same-option in f)))
 
-    -- Two kept pairs are of one class exactly if they make one row.
+    -- Two safe pairs are of one class exactly if they make one row.
     pub class-row : (i j : ℕ) → SafePair graph staying i → SafePair graph staying j → eqb (class i) (class j) ≡ one-row tower book (numbered tower book i) (numbered tower book j)
     class-row i j ki kj =
         same-truth (eqb (class i) (class j)) (one-row tower book (numbered tower book i) (numbered tower book j))

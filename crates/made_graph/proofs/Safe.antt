@@ -19,7 +19,7 @@ use Rattle.outcome.proofs.Game.{safe-fine}
 use Rattle.pair_graph.specs.Graph.{Move, not-enabled, broken, to, Graph, LeadsTo, led, Fine, Largest}
 use Rattle.pair_graph.specs.GraphOf.{numbered, SaysStep, says-not-enabled, says-broken, says-to, GraphOf}
 
--- a move that leads to a kept pair is one to it
+-- a move that leads to a safe pair is one to it
 pub led-out : (staying : ℕ → Bool) (m : Move) → LeadsTo staying m → (j : ℕ) × (m ≡ to j) × (staying j ≡ true)
 led-out staying m (led j k) = (j, refl, k)
 
@@ -34,7 +34,7 @@ broken-led {ℓ} : {C : Type ℓ} (staying : ℕ → Bool) → LeadsTo staying b
 broken-led staying l = let (j, e, k) = led-out staying broken l in let z : _≡_ {A = ℕ} 0 1 = cc in absurd (omega arith)
 
 module _ (tower : Tower) (book : Book) (graph : Graph) (of : GraphOf tower book graph) where
-  -- a move that leads to a kept pair is a step to it
+  -- a move that leads to a safe pair is a step to it
   led-step : (staying : ℕ → Bool) (test : Pair → Bool) (i a : ℕ) (m : Move) → ((j : ℕ) → j < length (pairs tower book) → staying j ≡ true → test (numbered tower book j) ≡ true)
       → SaysStep tower book i a m → LeadsTo staying m → there-with test (pair-step tower book (numbered tower book i) a) ≡ true
   led-step staying test i a (to j) all (says-to _ lt e) (led _ k) = there-with-in test e (all j lt k)
@@ -76,7 +76,7 @@ module _ (tower : Tower) (book : Book) (graph : Graph) (of : GraphOf tower book 
     unfolding fine
     fine-in is = and-both (below-every (forced-right tower book test (numbered tower book i)) (tower .actions) (forced-in is)) (goes-in is)
 
-  -- what is kept and fine among the kept is kept through every round
+  -- what stays and is fine among what stays is left after every round
   safe-rounds : (staying : ℕ → Bool) → ((i : ℕ) → i < graph .pairs → staying i ≡ true → Fine graph staying i)
       → (n i : ℕ) → i < graph .pairs → staying i ≡ true → safe-through tower book n (numbered tower book i) ≡ true
   unfolding safe-through

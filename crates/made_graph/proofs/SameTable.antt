@@ -181,7 +181,7 @@ module _ (tower : Tower) (book : Book) (graph : Graph) (staying : ℕ → Bool) 
   abbrev num : ℕ → Pair
   num i = numbered tower book i
 
-  -- number 0 is the first pair, and it is kept
+  -- number 0 is the first pair, and it is safe
   first-number : num 0 ≡ first-pair tower book
   unfolding numbered pairs
   first-number =

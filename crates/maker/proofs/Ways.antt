@@ -33,7 +33,7 @@ use Rattle.outcome.specs.Make.{table-for, made-file, fitting, written, make-out
 use Rattle.tower_reader.specs.TowerRead.{tower-read}
 use Rattle.tower_reader.specs.declared.TowerRead.{TowerRead}
 use Rattle.tower_reader.specs.declared.TowerRead.the-variants as Fits
-use Rattle.tower_reader.proofs.Laws.{fit-bounds, marks-few, fit-of, fit-gives, refused-of}
+use Rattle.tower_reader.proofs.Laws.{marks-few, fit-of, fit-gives, refused-of}
 use Rattle.book_reader.specs.Lines.{Answers}
 use Rattle.book_reader.proofs.BookHeld.{BookHeld, book-held}
 use Rattle.pair_graph.specs.Graph.{Classes}

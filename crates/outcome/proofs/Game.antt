@@ -86,7 +86,7 @@ module _ (tower : Tower) (book : Book) (listed : Listed tower) (exact : Exact to
       below-some (can-go tower book staying v) (tower .actions) a (listed (row-at table r .state) a _ enabled)
       (and-both on (there-with-in staying (next .1) (all (w ++ (a ∷ [])) (allowed .0) (next .0) (next .2))))
 
-  -- Whatever a good table reaches is kept through every round.
+  -- Whatever a good table reaches is left after every round.
   pub good-stays : (n : ℕ) (w : List ℕ) (r : ℕ) (v : Pair) → Together w r v → safe-through tower book n v ≡ true
   unfolding safe-through fine
   good-stays zero w r v at = refl
@@ -97,7 +97,7 @@ module _ (tower : Tower) (book : Book) (listed : Listed tower) (exact : Exact to
       (λ a lt. forced (safe-through tower book n) w r v at (good-stays n) a))
       (goes (safe-through tower book n) w r v at (good-stays n)))
 
--- ---- what is kept to the end is fine
+-- ---- what is left at the end is fine
 
 module _ (tower : Tower) (book : Book) (listed : Listed tower) (few : over-pairs tower book ≡ false) where
   -- the steps of a pair that is met are met
@@ -110,7 +110,7 @@ module _ (tower : Tower) (book : Book) (listed : Listed tower) (few : over-pairs
       (search-reached same-pair (pair-followers tower book) most-pairs (first-pair tower book) m)
       (present-map-in (pair-step tower book v) (below (tower .actions)) (below-mem (tower .actions) a (pair-step-listed tower book listed v w a e)) e))
 
-  -- a pair is fine among the kept, whichever of two tests that agree on its steps says what is kept
+  -- a pair is fine among the staying, whichever of two tests that agree on its steps says what stays
   fine-along : (staying other : Pair → Bool) (v : Pair) → ((a : ℕ) (w : Pair) → pair-step tower book v a ≡ some w → staying w ≡ other w)
       → fine tower book staying v ≡ fine tower book other v
   unfolding fine

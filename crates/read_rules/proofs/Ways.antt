@@ -13,7 +13,7 @@ use Rattle.base.specs.declared.BookAnswer.the-variants as Book
 use Rattle.base.specs.declared.Refusal.{Refusal}
 use Rattle.logic.specs.Tower.{tower-of, most-marks}
 use Rattle.reading.specs.TowerReading.{read-tower}
-use Rattle.outcome.specs.Areas.{book-area, book-areas}
+use Rattle.outcome.specs.Areas.{book-areas}
 use Rattle.outcome.specs.ReadBook.{book-answer, book-under, read-outcome}
 use Rattle.tower_reader.specs.TowerRead.{tower-read}
 use Rattle.tower_reader.specs.declared.TowerRead.{TowerRead}

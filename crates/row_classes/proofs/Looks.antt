@@ -1,13 +1,10 @@
 -- What the code sees of a pair is what the view has of it.
-use Prim.Native.Nat.{ℕ, zero, suc, _+_, _-_, _*_, _%_, _≤_, _<_}
+use Prim.Native.Nat.{ℕ, _+_, _*_, _%_, _≤_, _<_}
 use native.Mathlib.Omega.{arith}
 use native.Mathlib.Numerals.{add-one}
 use mathlib.Core.Path.{_≡_, refl, sym, ap, _∙_}
 use mathlib.Core.Bool.{Bool, true, false}
 use mathlib.Core.List.{List}
-use lib.ListN.{length, getD}
-use lib.Dec.{eqb}
-use Rattle.base.specs.Bytes.{number-at}
 use Rattle.base.proofs.Lists.{never-both}
 use Rattle.pair_graph.specs.Steps.{class-in, state-in, led-to, led-of, FlaggedGraph}
 use Rattle.pair_graph.specs.declared.Led.{Led}

@@ -101,7 +101,7 @@ module _ (v : View) where
       → ((k : ℕ) → k < i → after k ≡ new k) → after i ≡ r → Numbered v after (i + 1)
   numbered-more new after i r h p f else here = suits-more new after i r h p (suits new i h p r f) else here
 
-  -- A pair that is not kept needs none.
+  -- A pair that is not safe needs none.
   pub numbered-skip : (new : ℕ → ℕ) (i : ℕ) → Numbered v new i → v .safe i ≡ false → Numbered v new (i + 1)
   numbered-skip new i h p =
       record {
@@ -135,7 +135,7 @@ module _ (v : View) where
   later : {i k h : ℕ} → Member v i k h → Member v (i + 1) k h
   later m = record { there = omega arith; is-safe = m .is-safe; in-bucket = m .in-bucket }
 
-  -- A pair that is not kept stands in none.
+  -- A pair that is not safe stands in none.
   pub chained-skip : (link head : ℕ → ℕ) (i : ℕ) → Chained v link head i → v .safe i ≡ false → Chained v link head (i + 1)
   chained-skip link head i c p =
       record {

@@ -118,7 +118,7 @@ module _ (graph flags : List ℕ) (actions : ℕ) (classes : List ℕ) (i : ℕ)
   found-short c pairs e held l f =
       omega (arith, held .graph .pairs-most, found-most (view-of graph flags actions classes) (new-in area) i c (passed .numbered) e f)
 
-  -- A pair that is not kept is passed over.
+  -- A pair that is not safe is passed over.
   pub passed-skip : (r : Bool) → r ≡ safe-in flags i → r ≡ false → Passed graph flags actions classes (i + 1) area
   unfolding view-of
   passed-skip r e f =
@@ -129,7 +129,7 @@ module _ (graph flags : List ℕ) (actions : ℕ) (classes : List ℕ) (i : ℕ)
         chained = chained-skip v (link-in area) (head-in area) i (passed .chained) (sym e ∙ f);
       }
 
-  -- A kept pair is entered.
+  -- A safe pair is entered.
   pub passed-more : (r : Bool) (h c : ℕ) (after : List ℕ) → r ≡ safe-in flags i → r ≡ true
       → h ≡ bucket-of (view-of graph flags actions classes) i
       → Found (view-of graph flags actions classes) (new-in area) i c → Entered area i h c after
@@ -195,7 +195,7 @@ pass-end graph flags actions area after last n i c p le ge =
 -- ---- the new classes become the classes
 
 module _ (flags : List ℕ) (i : ℕ) (area : List ℕ) (r : Bool) (is : r ≡ safe-in flags i) where
-  -- A pair that is not kept stays as it is.
+  -- A pair that is not safe stays as it is.
   pub adopt-skip : r ≡ false → AdoptedOne flags i area 0 area
   adopt-skip f =
       record {

@@ -55,20 +55,20 @@ pub record Tells (v : View) (i j : ℕ) (r : Bool) : Type 0 where
 
 -- ---- a pass
 
--- Pair k is one of the kept pairs below i, and belongs to bucket h.
+-- Pair k is one of the safe pairs below i, and belongs to bucket h.
 pub record Member (v : View) (i k h : ℕ) : Type 0 where
   pub there : k < i
   pub is-safe : v .safe k ≡ true
   pub in-bucket : bucket-of v k ≡ h
 
--- The buckets hold every kept pair below i: from a head along the links, each number smaller than the one before, to 0.
+-- The buckets hold every safe pair below i: from a head along the links, each number smaller than the one before, to 0.
 pub record Chained (v : View) (link head : ℕ → ℕ) (i : ℕ) : Type 0 where
   pub heads : (h k : ℕ) → h < buckets → head h ≡ suc k → Member v i k h
   pub links : (l k : ℕ) → l < i → v .safe l ≡ true → link l ≡ suc k → Member v l k (bucket-of v l)
   pub all-heads : (l : ℕ) → l < i → v .safe l ≡ true → l < head (bucket-of v l)
   pub all-links : (l k : ℕ) → l < i → v .safe l ≡ true → k < l → v .safe k ≡ true → bucket-of v k ≡ bucket-of v l → k < link l
 
--- Every kept pair below i has its new class: a kept pair, not a later one, that looks the same; and one for all that look the same.
+-- Every safe pair below i has its new class: a safe pair, not a later one, that looks the same; and one for all that look the same.
 pub record Numbered (v : View) (new : ℕ → ℕ) (i : ℕ) : Type 0 where
   pub most : (k : ℕ) → k < i → v .safe k ≡ true → new k ≤ k
   pub is-safe : (k : ℕ) → k < i → v .safe k ≡ true → v .safe (new k) ≡ true
@@ -98,7 +98,7 @@ pub record Entered (area : List ℕ) (i h c : ℕ) (after : List ℕ) : Type 0 w
 
 -- ---- the new classes become the classes
 
--- The class of pair i is its new class, if it is kept; r is 1 if that is another than before, and else 0.
+-- The class of pair i is its new class, if it is safe; r is 1 if that is another than before, and else 0.
 pub record AdoptedOne (flags : List ℕ) (i : ℕ) (area : List ℕ) (r : ℕ) (after : List ℕ) : Type 0 where
   pub here : safe-in flags i ≡ true → class-in after i ≡ new-in area i
   pub gone : safe-in flags i ≡ false → class-in after i ≡ class-in area i

@@ -18,7 +18,7 @@ use Rattle.base.specs.declared.Refusal.the-variants.{Pairs, NoTable, Layout, No
 use Rattle.refusal_numbers.specs.Parts.{said-number, said-place, said-letter}
 use Rattle.succoryvise.specs.Shown.{said-values, shown}
 use Rattle.succoryvise.specs.declared.answer.Answer.{Answer}
-use Rattle.succoryvise.specs.Entries.{ReadsBook, MakesTable, ChecksTable}
+use Rattle.succoryvise.specs.Entries.{BookShown, MakeShown, CheckShown}
 
 -- a refusal has no values
 no-values : (r : Refusal) → said-values (refusal-said r) ≡ []
@@ -64,7 +64,7 @@ follow-by = shown-by follow-said
 
 -- The promises of the others have the areas beside the answer, and the maker's the output too.
 pub book-by : (o x : BookAnswer) (marks : ℕ) (text nodes nodes-after : List ℕ) (z : Answer) → Outcome o marks text nodes nodes-after
-    → o ≡ x → z ≡ shown (book-said x) → ReadsBook z marks text nodes nodes-after
+    → o ≡ x → z ≡ shown (book-said x) → BookShown z marks text nodes nodes-after
 book-by o x marks text nodes nodes-after z e f g =
     record { answer = shown-by book-said o x (read-outcome marks text (nodes ∷ []) .answer) z (e .answer) f g; areas = e .areas }
 
@@ -73,7 +73,7 @@ pub make-by : (o x : MakeAnswer)
     (z : Answer)
     → Makes o tower text out nodes pairs index graph flags classes out-after nodes-after pairs-after index-after graph-after flags-after classes-after
     → o ≡ x → z ≡ shown (make-said x)
-    → MakesTable z tower text out nodes pairs index graph flags classes out-after nodes-after pairs-after index-after graph-after flags-after classes-after
+    → MakeShown z tower text out nodes pairs index graph flags classes out-after nodes-after pairs-after index-after graph-after flags-after classes-after
 make-by o x tower text out nodes pairs index graph flags classes out-after nodes-after pairs-after index-after graph-after flags-after classes-after z e f g =
     record {
       answer = shown-by make-said o x
@@ -84,7 +84,7 @@ make-by o x tower text out nodes pairs index graph flags classes out-after nodes
 
 pub check-by : (o x : Verdict) (tower text table nodes pairs index graph nodes-after pairs-after index-after graph-after : List ℕ) (z : Answer)
     → Checks o tower text table nodes pairs index graph nodes-after pairs-after index-after graph-after → o ≡ x → z ≡ shown (verdict-said x)
-    → ChecksTable z tower text table nodes pairs index graph nodes-after pairs-after index-after graph-after
+    → CheckShown z tower text table nodes pairs index graph nodes-after pairs-after index-after graph-after
 check-by o x tower text table nodes pairs index graph nodes-after pairs-after index-after graph-after z e f g =
     record {
       answer = shown-by verdict-said o x (check-outcome tower text table (nodes ∷ pairs ∷ index ∷ graph ∷ []) .answer) z (e .answer) f g;

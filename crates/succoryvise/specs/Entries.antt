@@ -11,18 +11,18 @@ use Rattle.succoryvise.specs.Shown.{shown}
 use Rattle.succoryvise.specs.declared.answer.Answer.{Answer}
 
 -- The book reader.
-pub record ReadsBook (a : Answer) (marks : ℕ) (text nodes nodes-after : List ℕ) : Type 0 where
+pub record BookShown (a : Answer) (marks : ℕ) (text nodes nodes-after : List ℕ) : Type 0 where
   pub answer : a ≡ shown (book-said (read-outcome marks text (nodes ∷ []) .answer))
   pub areas : nodes-after ∷ [] ≡ read-outcome marks text (nodes ∷ []) .areas
 
 -- The maker.
-pub record MakesTable (a : Answer) (tower text out nodes pairs index graph flags classes out-after nodes-after pairs-after index-after graph-after flags-after classes-after : List ℕ) : Type 0 where
+pub record MakeShown (a : Answer) (tower text out nodes pairs index graph flags classes out-after nodes-after pairs-after index-after graph-after flags-after classes-after : List ℕ) : Type 0 where
   pub answer : a ≡ shown (make-said (make-outcome tower text out (nodes ∷ pairs ∷ index ∷ graph ∷ flags ∷ classes ∷ []) .answer))
   pub output : out-after ≡ make-outcome tower text out (nodes ∷ pairs ∷ index ∷ graph ∷ flags ∷ classes ∷ []) .output
   pub areas : nodes-after ∷ pairs-after ∷ index-after ∷ graph-after ∷ flags-after ∷ classes-after ∷ []
       ≡ make-outcome tower text out (nodes ∷ pairs ∷ index ∷ graph ∷ flags ∷ classes ∷ []) .areas
 
 -- The checker.
-pub record ChecksTable (a : Answer) (tower text table nodes pairs index graph nodes-after pairs-after index-after graph-after : List ℕ) : Type 0 where
+pub record CheckShown (a : Answer) (tower text table nodes pairs index graph nodes-after pairs-after index-after graph-after : List ℕ) : Type 0 where
   pub answer : a ≡ shown (verdict-said (check-outcome tower text table (nodes ∷ pairs ∷ index ∷ graph ∷ []) .answer))
   pub areas : nodes-after ∷ pairs-after ∷ index-after ∷ graph-after ∷ [] ≡ check-outcome tower text table (nodes ∷ pairs ∷ index ∷ graph ∷ []) .areas

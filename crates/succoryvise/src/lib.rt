@@ -8,7 +8,7 @@ ghost use mathlib.Core.Path.{_≡_};
 ghost use Rattle.base.specs.Answers.{follow-said};
 ghost use Rattle.outcome.specs.Follow.{follow-outcome};
 ghost use Rattle.succoryvise.specs.Shown.{shown};
-ghost use Rattle.succoryvise.specs.Entries.{ReadsBook, MakesTable, ChecksTable};
+ghost use Rattle.succoryvise.specs.Entries.{BookShown, MakeShown, CheckShown};
 ghost use Rattle.succoryvise.specs.Version.{interface-version};
 use answer::Answer;
 use base::BookAnswer;
@@ -32,7 +32,7 @@ pub extern "C" fn succoryvise_version() -> u32
 // Refused with 15 it changes nothing; else the lent area is all zero afterwards.
 #[no_mangle]
 pub extern "C" fn succoryvise_read_book_v1(marks: usize, text: &[u8], nodes: &mut [u8]) -> Answer
-    ensures { λ a. ⌜ ReadsBook a marks (now (text .entry)) (now (nodes .entry)) (now (nodes .exit)) ⌝ }
+    ensures { λ a. ⌜ BookShown a marks (now (text .entry)) (now (nodes .entry)) (now (nodes .exit)) ⌝ }
 {
     match book_reader::read_book(marks, text, nodes) {
         BookAnswer::Read {
@@ -58,7 +58,7 @@ pub extern "C" fn succoryvise_make_v1(
     flags: &mut [u8],
     classes: &mut [u8],
 ) -> Answer
-    ensures { λ a. ⌜ MakesTable a (now (tower .entry)) (now (text .entry)) (now (out .entry)) (now (nodes .entry)) (now (pairs .entry)) (now (index .entry)) (now (graph .entry)) (now (flags .entry)) (now (classes .entry)) (now (out .exit)) (now (nodes .exit)) (now (pairs .exit)) (now (index .exit)) (now (graph .exit)) (now (flags .exit)) (now (classes .exit)) ⌝ }
+    ensures { λ a. ⌜ MakeShown a (now (tower .entry)) (now (text .entry)) (now (out .entry)) (now (nodes .entry)) (now (pairs .entry)) (now (index .entry)) (now (graph .entry)) (now (flags .entry)) (now (classes .entry)) (now (out .exit)) (now (nodes .exit)) (now (pairs .exit)) (now (index .exit)) (now (graph .exit)) (now (flags .exit)) (now (classes .exit)) ⌝ }
 {
     match maker::make(tower, text, out, nodes, pairs, index, graph, flags, classes) {
         MakeAnswer::Made(length) => answer::value(length),
@@ -78,7 +78,7 @@ pub extern "C" fn succoryvise_check_v1(
     index: &mut [u8],
     graph: &mut [u8],
 ) -> Answer
-    ensures { λ a. ⌜ ChecksTable a (now (tower .entry)) (now (text .entry)) (now (table .entry)) (now (nodes .entry)) (now (pairs .entry)) (now (index .entry)) (now (graph .entry)) (now (nodes .exit)) (now (pairs .exit)) (now (index .exit)) (now (graph .exit)) ⌝ }
+    ensures { λ a. ⌜ CheckShown a (now (tower .entry)) (now (text .entry)) (now (table .entry)) (now (nodes .entry)) (now (pairs .entry)) (now (index .entry)) (now (graph .entry)) (now (nodes .exit)) (now (pairs .exit)) (now (index .exit)) (now (graph .exit)) ⌝ }
 {
     match checker::check(tower, text, table, nodes, pairs, index, graph) {
         Verdict::Good => answer::yes(),

@@ -26,7 +26,7 @@ use Rattle.table_writer.specs.declared.Written.the-variants.{Made, NoRoo
 unfoldable pub graph-in : (area : List ℕ) → ℕ → ℕ → Graph
 graph-in area n actions = graph-with n actions (λ a. 0) area
 
--- the table of that graph with its kept pairs and their classes
+-- the table of that graph with its safe pairs and their classes
 unfoldable pub table-in : (graph flags classes : List ℕ) → ℕ → ℕ → Table
 table-in graph flags classes n actions = graph-table (graph-in graph n actions) (safe-in flags) (class-in classes)
 

@@ -287,7 +287,7 @@ fn write_file(
     )
 }
 
-// Writes the table of the kept pairs and their classes in this layout, if there is room for it.
+// Writes the table of the safe pairs and their classes in this layout, if there is room for it.
 // Behind the classes the area is used for the order of the rows.
 pub fn write_table(
     graph: &[u8],
