@@ -13,8 +13,8 @@ use Rattle.logic.specs.Tower.{most-marks}
 use Rattle.reading.specs.BookReading.{read-book}
 use Rattle.reading.proofs.BookLines.{book-few}
 use Rattle.outcome.specs.ReadBook.{book-answer}
-use Rattle.progression.specs.NodeBytes.{IsHeld}
-use Rattle.progression.proofs.Callers.{held-read}
+use Rattle.book_progression.specs.NodeBytes.{IsHeld}
+use Rattle.book_progression.proofs.Callers.{held-read}
 use Rattle.book_reader.specs.Lines.{Answers}
 
 -- The area holds the book of the text, and it has at most 60 nodes.

@@ -204,7 +204,7 @@ pub fn read_book(marks: usize, text: &[u8], area: &mut [u8]) -> BookAnswer
         return BookAnswer::Refused(Refusal::Area);
     }
     let answer = read_under(marks, text, area);
-    lent_bytes::clear(area);
+    area_bytes::clear(area);
     answer
 }
 

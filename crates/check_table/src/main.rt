@@ -4,7 +4,7 @@ ghost use mathlib.Core.Path.{_≡_};
 ghost use Rattle.outcome.specs.Check.{verdict, checked-file};
 use base::Refusal;
 use base::Verdict;
-use files::Contents;
+use program_files::Contents;
 
 // Prints the answer.
 fn tell(
@@ -18,10 +18,10 @@ fn tell(
 ) {
     match answer {
         Verdict::Good => {
-            files::print(b"good\n");
+            program_files::print(b"good\n");
         }
         Verdict::NotGood(reason) => {
-            explaining::refuse(
+            words_refusal::refuse(
                 Refusal::NotGood(reason),
                 tower,
                 book,
@@ -32,7 +32,7 @@ fn tell(
             );
         }
         Verdict::Refused(why) => {
-            explaining::refuse(why, tower, book, table, tower_bytes, text, table_bytes);
+            words_refusal::refuse(why, tower, book, table, tower_bytes, text, table_bytes);
         }
     }
 }
@@ -59,8 +59,8 @@ fn check(tower: &[u8], text: &[u8], table: &[u8]) -> Verdict
 // Reads the table and checks it. In each area there is room for one byte more than the longest file
 // that is fit, so that a longer one is refused for its length.
 fn check_from(tower_bytes: &[u8], text: &[u8], tower: &[u8], book: &[u8], table: &[u8]) {
-    let mut table_bytes = [0u8; file_limits::TABLE];
-    let Contents::Bytes(n) = files::read_file(table, &mut table_bytes) else {
+    let mut table_bytes = [0u8; program_limits::TABLE];
+    let Contents::Bytes(n) = program_files::read_file(table, &mut table_bytes) else {
         return;
     };
     let bytes = &table_bytes[..n];
@@ -70,12 +70,12 @@ fn check_from(tower_bytes: &[u8], text: &[u8], tower: &[u8], book: &[u8], table:
 
 // Reads the tower and the book first.
 fn run(tower: &[u8], book: &[u8], table: &[u8]) {
-    let mut tower_bytes = [0u8; file_limits::TOWER];
-    let Contents::Bytes(t) = files::read_file(tower, &mut tower_bytes) else {
+    let mut tower_bytes = [0u8; program_limits::TOWER];
+    let Contents::Bytes(t) = program_files::read_file(tower, &mut tower_bytes) else {
         return;
     };
-    let mut text = [0u8; file_limits::BOOK];
-    let Contents::Bytes(b) = files::read_file(book, &mut text) else {
+    let mut text = [0u8; program_limits::BOOK];
+    let Contents::Bytes(b) = program_files::read_file(book, &mut text) else {
         return;
     };
     check_from(&tower_bytes[..t], &text[..b], tower, book, table);
@@ -84,15 +84,15 @@ fn run(tower: &[u8], book: &[u8], table: &[u8]) {
 // The names are the arguments.
 fn run_named() {
     let mut tower = [0u8; 4096];
-    let Contents::Bytes(t) = files::argument(1, b"TOWER", &mut tower) else {
+    let Contents::Bytes(t) = program_files::argument(1, b"TOWER", &mut tower) else {
         return;
     };
     let mut book = [0u8; 4096];
-    let Contents::Bytes(b) = files::argument(2, b"BOOK", &mut book) else {
+    let Contents::Bytes(b) = program_files::argument(2, b"BOOK", &mut book) else {
         return;
     };
     let mut table = [0u8; 4096];
-    let Contents::Bytes(n) = files::argument(3, b"TABLE", &mut table) else {
+    let Contents::Bytes(n) = program_files::argument(3, b"TABLE", &mut table) else {
         return;
     };
     run(&tower[..t], &book[..b], &table[..n]);

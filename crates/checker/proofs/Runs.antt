@@ -22,12 +22,12 @@ use Rattle.reading.specs.TableReading.{table-of}
 use Rattle.pending.specs.Pairs.{first-pair, pairs, over-pairs}
 use Rattle.pending.proofs.Steps.{pair-step-out}
 use Rattle.outcome.specs.Check.{over-items, broken-step, breaks, some-broken, turned-down, verdict}
-use Rattle.progression.specs.NodeBytes.{IsHeld}
-use Rattle.pending_entries.specs.PendingEntries.{TowerWithBook}
+use Rattle.book_progression.specs.NodeBytes.{IsHeld}
+use Rattle.pair_entries.specs.PendingEntries.{TowerWithBook}
 use Rattle.pair_graph.specs.Graph.{Move}
 use Rattle.pair_graph.specs.Steps.{cell, move-of, move-at, graph-of}
 use Rattle.pair_graph.specs.GraphOf.{numbered, SaysStep, says-not-enabled, says-broken, says-to, GraphOf}
-use Rattle.row_judge.specs.RowVerdict.{Judgeable}
+use Rattle.checker_rows.specs.RowVerdict.{Judgeable}
 use Rattle.pair_search.specs.Walked.{walked, Walkable}
 use Rattle.pair_search.specs.Explored.{found, Explored}
 use Rattle.pair_search.specs.declared.Found.{Found}

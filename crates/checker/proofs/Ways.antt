@@ -20,11 +20,11 @@ use Rattle.logic.specs.Tower.{Tower, FitTower, tower-of}
 use Rattle.reading.specs.TableReading.{table-of, read-table}
 use Rattle.reading.proofs.FitInput.{laid-out-read}
 use Rattle.outcome.specs.Check.{turned-down, verdict}
-use Rattle.progression.specs.NodeBytes.{IsHeld}
-use Rattle.row_judge.specs.RowVerdict.{Judgeable, rows-verdict, answer-after}
-use Rattle.row_judge.specs.declared.RowVerdict.{RowVerdict}
-use Rattle.row_judge.specs.declared.RowVerdict.the-variants.{Right, Wrong}
-use Rattle.row_judge.proofs.Laws.{judge-after-rows}
+use Rattle.book_progression.specs.NodeBytes.{IsHeld}
+use Rattle.checker_rows.specs.RowVerdict.{Judgeable, rows-verdict, answer-after}
+use Rattle.checker_rows.specs.declared.RowVerdict.{RowVerdict}
+use Rattle.checker_rows.specs.declared.RowVerdict.the-variants.{Right, Wrong}
+use Rattle.checker_rows.proofs.Laws.{judge-after-rows}
 use Rattle.base.specs.Bytes.{long-enough, cleared}
 use Rattle.base.specs.declared.BookAnswer.{BookAnswer}
 use Rattle.base.specs.declared.BookAnswer.the-variants as Reads
@@ -34,15 +34,15 @@ use Rattle.reading.specs.BookReading.{read-book}
 use Rattle.outcome.specs.Areas.{check-areas}
 use Rattle.outcome.specs.ReadBook.{book-answer}
 use Rattle.outcome.specs.Check.{checked-file, check-outcome}
-use Rattle.tower_reader.specs.TowerRead.{tower-read}
-use Rattle.tower_reader.specs.declared.TowerRead.{TowerRead}
-use Rattle.tower_reader.specs.declared.TowerRead.the-variants as Fits
-use Rattle.tower_reader.proofs.Laws.{marks-few, fit-of, fit-gives, refused-of}
+use Rattle.file_tower.specs.TowerRead.{tower-read}
+use Rattle.file_tower.specs.declared.TowerRead.{TowerRead}
+use Rattle.file_tower.specs.declared.TowerRead.the-variants as Fits
+use Rattle.file_tower.proofs.Laws.{marks-few, fit-of, fit-gives, refused-of}
 use Rattle.book_reader.specs.Lines.{Answers}
 use Rattle.book_reader.proofs.BookHeld.{BookHeld, book-held}
-use Rattle.table_reader.specs.Layout.{laid-out-for}
-use Rattle.table_reader.proofs.Laws.{laid-for-parts, not-laid-for-read}
-use Rattle.pending_entries.specs.PendingEntries.{TowerWithBook}
+use Rattle.file_table.specs.Layout.{laid-out-for}
+use Rattle.file_table.proofs.Laws.{laid-for-parts, not-laid-for-read}
+use Rattle.pair_entries.specs.PendingEntries.{TowerWithBook}
 use Rattle.checker.specs.Checking.{checked-table, checked-book, TableChecked, runs-answer, RunsChecked, lengths-right, Room, AllCleared, Checks}
 
 -- ---- for_tower

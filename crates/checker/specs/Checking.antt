@@ -16,7 +16,7 @@ use Rattle.logic.specs.Tables.{Table, rows-tower}
 use Rattle.reading.specs.BookReading.{read-book}
 use Rattle.reading.specs.TableReading.{read-table, table-of}
 use Rattle.outcome.specs.Check.{over-items, some-broken, judge, verdict, check-outcome}
-use Rattle.progression.specs.NodeBytes.{IsHeld}
+use Rattle.book_progression.specs.NodeBytes.{IsHeld}
 use Rattle.pair_graph.specs.Graph.{Move, not-enabled, broken, to}
 use Rattle.pair_graph.specs.Steps.{move-at}
 

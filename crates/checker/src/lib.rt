@@ -5,19 +5,19 @@ ghost use Prim.Native.Nat.{_≤_, _<_};
 ghost use mathlib.Core.Path.{_≡_};
 ghost use lib.ListN.{length};
 ghost use Rattle.logic.specs.Tower.{FitTower, tower-of};
-ghost use Rattle.table_reader.specs.Layout.{laid-out-for};
+ghost use Rattle.file_table.specs.Layout.{laid-out-for};
 ghost use Rattle.outcome.specs.Check.{turned-down, verdict, checked-file};
-ghost use Rattle.pending_entries.specs.PendingEntries.{TowerWithBook};
+ghost use Rattle.pair_entries.specs.PendingEntries.{TowerWithBook};
 ghost use Rattle.pair_graph.specs.Steps.{graph-size, pair-room, action-room};
-ghost use Rattle.row_judge.specs.RowVerdict.{Judgeable};
+ghost use Rattle.checker_rows.specs.RowVerdict.{Judgeable};
 ghost use Rattle.checker.specs.Checking.{checked-book, TableChecked, RunsChecked, broken-at, breaks-at, some-break, lengths-right, Room, AllCleared, Checks};
 use base::BookAnswer;
 use base::Reason;
 use base::Refusal;
 use base::Verdict;
 use pair_search::Found;
-use row_judge::RowVerdict;
-use tower_reader::TowerRead;
+use checker_rows::RowVerdict;
+use file_tower::TowerRead;
 
 // The lengths of the four work areas: the book's nodes and lines, the rows with what is pending as
 // pairs, their index, and their graph.
@@ -107,7 +107,7 @@ fn check_runs(
     let Found::Met(n) = found else {
         return Verdict::Refused(Refusal::Pairs);
     };
-    if some_break(graph, n, tower_reader::actions(tower)) {
+    if some_break(graph, n, file_tower::actions(tower)) {
         return Verdict::NotGood(Reason::Broken);
     }
     Verdict::Good
@@ -118,9 +118,9 @@ fn for_tower(tower: &[u8], table: &[u8]) -> bool
     requires { ⌜ FitTower (now tower) ⌝ }
     ensures { λ b. ⌜ b ≡ laid-out-for (now (table .entry)) (tower-of (now (tower .entry)) .states) (tower-of (now (tower .entry)) .actions) ⌝ }
 {
-    let s = tower_reader::states(tower);
-    let a = tower_reader::actions(tower);
-    table_reader::laid_out_for(table, s, a)
+    let s = file_tower::states(tower);
+    let a = file_tower::actions(tower);
+    file_table::laid_out_for(table, s, a)
 }
 
 // The table, where tower and book are read: 13, 14 a to d, 11, 14 e.
@@ -143,7 +143,7 @@ fn check_table(
     if !for_tower(tower, table) {
         return Verdict::Refused(Refusal::Layout);
     }
-    let rows = row_judge::judge_rows(tower, table);
+    let rows = checker_rows::judge_rows(tower, table);
     if let RowVerdict::Wrong(reason) = rows {
         return Verdict::NotGood(reason);
     }
@@ -180,7 +180,7 @@ fn check_book(
     requires { ⌜ Room (now nodes) (now pairs) (now index) (now graph) ⌝ }
     ensures { λ r. ⌜ r ≡ verdict (checked-book (tower-of (now (tower .entry))) (now (text .entry)) (now (table .entry))) ⌝ }
 {
-    let book = book_reader::read_lines(tower_reader::marks(tower), text, nodes);
+    let book = book_reader::read_lines(file_tower::marks(tower), text, nodes);
     match book {
         BookAnswer::Refused(why) => turned_down(why),
         BookAnswer::Read {
@@ -203,7 +203,7 @@ fn check_files(
     requires { ⌜ Room (now nodes) (now pairs) (now index) (now graph) ⌝ }
     ensures { λ r. ⌜ r ≡ verdict (checked-file (now (tower .entry)) (now (text .entry)) (now (table .entry))) ⌝ }
 {
-    let read = tower_reader::read_tower(tower);
+    let read = file_tower::read_tower(tower);
     if let TowerRead::Refused(why) = read {
         return turned_down(why);
     }
@@ -214,10 +214,10 @@ fn check_files(
 fn clear_all(nodes: &mut [u8], pairs: &mut [u8], index: &mut [u8], graph: &mut [u8])
     ensures { λ _. ⌜ AllCleared (now (nodes .entry)) (now (pairs .entry)) (now (index .entry)) (now (graph .entry)) (now (nodes .exit)) (now (pairs .exit)) (now (index .exit)) (now (graph .exit)) ⌝ }
 {
-    lent_bytes::clear(nodes);
-    lent_bytes::clear(pairs);
-    lent_bytes::clear(index);
-    lent_bytes::clear(graph);
+    area_bytes::clear(nodes);
+    area_bytes::clear(pairs);
+    area_bytes::clear(index);
+    area_bytes::clear(graph);
 }
 
 // Whether the table is good for the tower and the book, or the first reason why not. The four areas

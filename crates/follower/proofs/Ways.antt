@@ -15,10 +15,10 @@ use Rattle.base.specs.Answers.{follow-said}
 use Rattle.base.specs.declared.FollowAnswer.{FollowAnswer}
 use Rattle.follower.specs.Following.{Follows}
 use Rattle.outcome.specs.Follow.{stepped, row-after, follow-answer, follow-outcome}
-use Rattle.table_reader.specs.Moves.{target-read}
-use Rattle.table_reader.specs.declared.Target.{Target}
-use Rattle.table_reader.specs.declared.Target.the-variants as Read
-use Rattle.table_reader.proofs.Laws.{target-row, target-nothing}
+use Rattle.file_table.specs.Moves.{target-read}
+use Rattle.file_table.specs.declared.Target.{Target}
+use Rattle.file_table.specs.declared.Target.the-variants as Read
+use Rattle.file_table.proofs.Laws.{target-row, target-nothing}
 
 -- An answer that is the outcome's is promised.
 pub promised : (r : FollowAnswer) (table : List ℕ) (row action : ℕ) → r ≡ follow-outcome table row action → Follows r table row action

@@ -8,19 +8,19 @@ ghost use Rattle.reading.specs.TableReading.{rows-of, laid-out};
 ghost use Rattle.make_table.specs.Files.{MadeFile};
 use base::MakeAnswer;
 use base::Refusal;
-use files::Contents;
+use program_files::Contents;
 
 // Prints the listing's first line.
 fn print_head(table: &[u8]) -> bool
     requires { ⌜ laid-out (now table) ≡ true ⌝ }
 {
     let mut line = [0u8; 4096];
-    let n = listing::head(
-        table_reader::rows(table),
-        table_reader::steps(table),
+    let n = program_listing::head(
+        file_table::rows(table),
+        file_table::steps(table),
         &mut line,
     );
-    files::print(&line[..n])
+    program_files::print(&line[..n])
 }
 
 // Prints a row.
@@ -29,15 +29,15 @@ fn print_row(table: &[u8], row: usize) -> bool
     requires { ⌜ row < rows-of (now table) ⌝ }
 {
     let mut line = [0u8; 4096];
-    let n = listing::row(table, row, &mut line);
-    files::print(&line[..n])
+    let n = program_listing::row(table, row, &mut line);
+    program_files::print(&line[..n])
 }
 
 // Prints the rows one after the other.
 fn print_rows(table: &[u8]) -> bool
     requires { ⌜ laid-out (now table) ≡ true ⌝ }
 {
-    let rows = table_reader::rows(table);
+    let rows = file_table::rows(table);
     let mut row = 0;
     while row < rows {
         if !print_row(table, row) {
@@ -92,7 +92,7 @@ fn no_file(table: &[u8]) -> bool {
 // Says that no table was written, where one was to be.
 fn unchanged(table: &[u8]) {
     if !no_file(table) {
-        files::unchanged(table);
+        program_files::unchanged(table);
     }
 }
 
@@ -101,7 +101,7 @@ fn may_write(tower: &[u8], book: &[u8], table: &[u8]) -> bool {
     if no_file(table) {
         return true;
     }
-    table_target::allowed(table, tower, book)
+    program_target::allowed(table, tower, book)
 }
 
 // Writes the table to its file, if it has one.
@@ -109,13 +109,13 @@ fn save(table: &[u8], bytes: &[u8]) -> bool {
     if no_file(table) {
         return true;
     }
-    files::save(table, bytes)
+    program_files::save(table, bytes)
 }
 
 // Says what is worth knowing of a table that was made: the pairs, and the actions that no row allows.
 fn say_notes(name: &[u8], bytes: &[u8], tower_bytes: &[u8], text: &[u8]) {
-    notes::pairs(name, pair_count::pairs(tower_bytes, text));
-    notes::unused(name, bytes);
+    words_notes::pairs(name, pair_count::pairs(tower_bytes, text));
+    words_notes::unused(name, bytes);
 }
 
 // The same by the name of the table, if it has one.
@@ -130,7 +130,7 @@ fn say_of(table: &[u8], bytes: &[u8], tower_bytes: &[u8], text: &[u8]) {
 // The listing could not be printed.
 fn not_printed(table: &[u8]) {
     if !no_file(table) {
-        saying::in_file(
+        program_saying::in_file(
             table,
             b"the new table is in place; its listing is not printed whole",
         );
@@ -170,11 +170,11 @@ fn is_no_table(why: Refusal) -> bool {
 fn refuse(why: Refusal, tower: &[u8], book: &[u8], table: &[u8], tower_bytes: &[u8], text: &[u8]) {
     if is_no_table(why) {
         if dead_end(tower_bytes) {
-            explaining::refuse_tower(why, tower, tower_bytes);
+            words_refusal::refuse_tower(why, tower, tower_bytes);
             return;
         }
     }
-    explaining::refuse(why, tower, book, table, tower_bytes, text, b"");
+    words_refusal::refuse(why, tower, book, table, tower_bytes, text, b"");
 }
 
 // Makes the table; where it is made, writes it to its file and then prints its listing.
@@ -194,12 +194,12 @@ fn make_from(tower_bytes: &[u8], text: &[u8], tower: &[u8], book: &[u8], table: 
 // Reads the files and makes the table; false if a file cannot be read. Each area has room for one byte
 // more than the longest file that is fit, so that a longer one is refused for its length.
 fn run_files(tower: &[u8], book: &[u8], table: &[u8]) -> bool {
-    let mut tower_bytes = [0u8; file_limits::TOWER];
-    let Contents::Bytes(t) = files::read_file(tower, &mut tower_bytes) else {
+    let mut tower_bytes = [0u8; program_limits::TOWER];
+    let Contents::Bytes(t) = program_files::read_file(tower, &mut tower_bytes) else {
         return false;
     };
-    let mut text = [0u8; file_limits::BOOK];
-    let Contents::Bytes(b) = files::read_file(book, &mut text) else {
+    let mut text = [0u8; program_limits::BOOK];
+    let Contents::Bytes(b) = program_files::read_file(book, &mut text) else {
         return false;
     };
     make_from(&tower_bytes[..t], &text[..b], tower, book, table);
@@ -220,15 +220,15 @@ fn run(tower: &[u8], book: &[u8], table: &[u8]) {
 // The names are the arguments.
 fn run_named() {
     let mut tower = [0u8; 4096];
-    let Contents::Bytes(t) = files::argument(1, b"TOWER", &mut tower) else {
+    let Contents::Bytes(t) = program_files::argument(1, b"TOWER", &mut tower) else {
         return;
     };
     let mut book = [0u8; 4096];
-    let Contents::Bytes(b) = files::argument(2, b"BOOK", &mut book) else {
+    let Contents::Bytes(b) = program_files::argument(2, b"BOOK", &mut book) else {
         return;
     };
     let mut table = [0u8; 4096];
-    let Contents::Bytes(n) = files::argument(3, b"TABLE", &mut table) else {
+    let Contents::Bytes(n) = program_files::argument(3, b"TABLE", &mut table) else {
         return;
     };
     run(&tower[..t], &book[..b], &table[..n]);

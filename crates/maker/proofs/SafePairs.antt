@@ -16,15 +16,15 @@ use Rattle.pending.specs.Pairs.{same-pair, first-pair, pair-followers, pairs, o
 use Rattle.outcome.specs.Game.{safe}
 use Rattle.outcome.specs.Make.{table-for}
 use Rattle.outcome.proofs.Game.{met-step, safe-fine}
-use Rattle.tower_reader.proofs.Laws.{tower-listed}
+use Rattle.file_tower.proofs.Laws.{tower-listed}
 use Rattle.pair_graph.specs.Graph.{Classes}
 use Rattle.pair_graph.specs.Steps.{graph-of, safe-in}
 use Rattle.pair_graph.specs.GraphTable.{graph-table}
 use Rattle.pair_graph.specs.GraphOf.{numbered, GraphOf}
-use Rattle.made_graph.proofs.Safe.{largest-safe}
-use Rattle.made_graph.proofs.OneRow.{SafeGraph}
-use Rattle.made_graph.proofs.SameTable.{same-table}
-use Rattle.removal.specs.Removal.{Removed}
+use Rattle.maker_graph.proofs.Safe.{largest-safe}
+use Rattle.maker_graph.proofs.OneRow.{SafeGraph}
+use Rattle.maker_graph.proofs.SameTable.{same-table}
+use Rattle.maker_removal.specs.Removal.{Removed}
 use Rattle.maker.specs.Making.{made-table-file, graph-in}
 
 -- Number 0 is the first pair.

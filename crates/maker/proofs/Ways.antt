@@ -30,27 +30,27 @@ use Rattle.pending.specs.Pairs.{pairs, over-pairs}
 use Rattle.outcome.specs.Areas.{make-areas, book-area, pairs-area, index-area, graph-area, flags-area, classes-area}
 use Rattle.outcome.specs.ReadBook.{book-answer}
 use Rattle.outcome.specs.Make.{table-for, made-file, fitting, written, make-outcome}
-use Rattle.tower_reader.specs.TowerRead.{tower-read}
-use Rattle.tower_reader.specs.declared.TowerRead.{TowerRead}
-use Rattle.tower_reader.specs.declared.TowerRead.the-variants as Fits
-use Rattle.tower_reader.proofs.Laws.{marks-few, fit-of, fit-gives, refused-of}
+use Rattle.file_tower.specs.TowerRead.{tower-read}
+use Rattle.file_tower.specs.declared.TowerRead.{TowerRead}
+use Rattle.file_tower.specs.declared.TowerRead.the-variants as Fits
+use Rattle.file_tower.proofs.Laws.{marks-few, fit-of, fit-gives, refused-of}
 use Rattle.book_reader.specs.Lines.{Answers}
 use Rattle.book_reader.proofs.BookHeld.{BookHeld, book-held}
 use Rattle.pair_graph.specs.Graph.{Classes}
 use Rattle.pair_graph.specs.Steps.{graph-of, graph-with, safe-in, class-in, HoldsGraph, FlaggedGraph}
 use Rattle.pair_graph.specs.GraphTable.{graph-table}
-use Rattle.pending_entries.specs.PendingEntries.{TowerWithBook}
-use Rattle.progression.specs.NodeBytes.{IsHeld}
+use Rattle.pair_entries.specs.PendingEntries.{TowerWithBook}
+use Rattle.book_progression.specs.NodeBytes.{IsHeld}
 use Rattle.pair_search.specs.Explored.{found, HoldsPairs, Explored}
 use Rattle.pair_search.specs.Walked.{walked}
 use Rattle.pair_search.specs.declared.Found.{Found}
 use Rattle.pair_search.specs.declared.Found.the-variants.{TooMany, Met}
-use Rattle.removal.specs.Removal.{removal-size, Removed}
-use Rattle.row_classes.specs.Passes.{Ready, Classified}
-use Rattle.table_writer.specs.Writing.{ShortNumbers, table-in, Writable, Writes}
-use Rattle.table_writer.specs.declared.Written.{Written}
-use Rattle.table_writer.specs.declared.Written.the-variants.{Made, NoRoom}
-use Rattle.table_writer.proofs.AnyKind.{table-of-tower}
+use Rattle.maker_removal.specs.Removal.{removal-size, Removed}
+use Rattle.maker_classes.specs.Passes.{Ready, Classified}
+use Rattle.maker_file.specs.Writing.{ShortNumbers, table-in, Writable, Writes}
+use Rattle.maker_file.specs.declared.Written.{Written}
+use Rattle.maker_file.specs.declared.Written.the-variants.{Made, NoRoom}
+use Rattle.maker_file.proofs.AnyKind.{table-of-tower}
 use Rattle.maker.specs.Making.{made-table-file, made-book, ending, Ends, graph-in, PairsMet, SafeWritten, RowsMade, TableMade, Room, AllCleared, Makes}
 use Rattle.maker.proofs.SafePairs.{none-made, table-made}
 

@@ -13,7 +13,7 @@ use Rattle.reading.specs.BookReading.{read-book}
 use Rattle.pending.specs.Pairs.{over-pairs}
 use Rattle.outcome.specs.Areas.{book-area, pairs-area, index-area, graph-area, flags-area, classes-area}
 use Rattle.outcome.specs.Make.{table-for, fitting, written, MakeOutcome, make-outcome}
-use Rattle.progression.specs.NodeBytes.{IsHeld}
+use Rattle.book_progression.specs.NodeBytes.{IsHeld}
 use Rattle.pair_graph.specs.Graph.{Graph, Classes}
 use Rattle.pair_graph.specs.Steps.{graph-of, HoldsGraph, safe-in}
 use Rattle.pair_graph.specs.GraphTable.{graph-table}

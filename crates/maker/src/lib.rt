@@ -9,14 +9,14 @@ ghost use Rattle.base.specs.Bytes.{long-enough};
 ghost use Rattle.outcome.specs.Areas.{make-areas};
 ghost use Rattle.outcome.specs.Make.{made-file};
 ghost use Rattle.pair_graph.specs.Steps.{safe-in};
-ghost use Rattle.pending_entries.specs.PendingEntries.{TowerWithBook};
+ghost use Rattle.pair_entries.specs.PendingEntries.{TowerWithBook};
 ghost use Rattle.maker.specs.Making.{made-book, Ends, Room, PairsMet, SafeWritten, RowsMade, TableMade, AllCleared, Makes};
 use base::BookAnswer;
 use base::MakeAnswer;
 use base::Refusal;
 use pair_search::Found;
-use table_writer::Written;
-use tower_reader::TowerRead;
+use maker_file::Written;
+use file_tower::TowerRead;
 
 // The lengths of the six work areas: the book's nodes and lines, the pairs, their index, where actions
 // lead, the flags of removal, and the classes and rows.
@@ -55,11 +55,11 @@ fn write_safe(
     requires { ⌜ PairsMet (now tower) (now graph) (now flags) (now classes) n ⌝ }
     ensures { λ r. ⌜ SafeWritten r (now (tower .entry)) (now (graph .entry)) (now (flags .entry)) n (now (out .entry)) (now (out .exit)) ⌝ }
 {
-    let states = tower_reader::states(tower);
-    let actions = tower_reader::actions(tower);
-    row_classes::classify(graph, flags, actions, n, classes);
+    let states = file_tower::states(tower);
+    let actions = file_tower::actions(tower);
+    maker_classes::classify(graph, flags, actions, n, classes);
     let layout = file_layout::layout_of(tower);
-    let written = table_writer::write_table(graph, flags, classes, out, layout, n, states, actions);
+    let written = maker_file::write_table(graph, flags, classes, out, layout, n, states, actions);
     match written {
         Written::Made(size) => MakeAnswer::Made(size),
         Written::NoRoom => MakeAnswer::Refused(Refusal::Output),
@@ -78,7 +78,7 @@ fn make_rows(
     requires { ⌜ PairsMet (now tower) (now graph) (now flags) (now classes) n ⌝ }
     ensures { λ r. ⌜ RowsMade r (now (tower .entry)) (now (graph .entry)) n (now (out .entry)) (now (out .exit)) ⌝ }
 {
-    removal::remove(tower, graph, n, flags);
+    maker_removal::remove(tower, graph, n, flags);
     if !first_safe(flags) {
         return MakeAnswer::Refused(Refusal::NoTable);
     }
@@ -125,7 +125,7 @@ fn make_book(
     requires { ⌜ Room (now nodes) (now pairs) (now index) (now graph) (now flags) (now classes) ⌝ }
     ensures { λ r. ⌜ Ends (made-book (now (tower .entry)) (now (text .entry))) (now (out .entry)) r (now (out .exit)) ⌝ }
 {
-    let book = book_reader::read_lines(tower_reader::marks(tower), text, nodes);
+    let book = book_reader::read_lines(file_tower::marks(tower), text, nodes);
     match book {
         BookAnswer::Refused(why) => MakeAnswer::Refused(why),
         BookAnswer::Read {
@@ -161,7 +161,7 @@ fn make_files(
     requires { ⌜ Room (now nodes) (now pairs) (now index) (now graph) (now flags) (now classes) ⌝ }
     ensures { λ r. ⌜ Ends (made-file (now (tower .entry)) (now (text .entry))) (now (out .entry)) r (now (out .exit)) ⌝ }
 {
-    let read = tower_reader::read_tower(tower);
+    let read = file_tower::read_tower(tower);
     if let TowerRead::Refused(why) = read {
         return MakeAnswer::Refused(why);
     }
@@ -208,12 +208,12 @@ fn clear_all(
 )
     ensures { λ _. ⌜ AllCleared (now (nodes .entry)) (now (pairs .entry)) (now (index .entry)) (now (graph .entry)) (now (flags .entry)) (now (classes .entry)) (now (nodes .exit)) (now (pairs .exit)) (now (index .exit)) (now (graph .exit)) (now (flags .exit)) (now (classes .exit)) ⌝ }
 {
-    lent_bytes::clear(nodes);
-    lent_bytes::clear(pairs);
-    lent_bytes::clear(index);
-    lent_bytes::clear(graph);
-    lent_bytes::clear(flags);
-    lent_bytes::clear(classes);
+    area_bytes::clear(nodes);
+    area_bytes::clear(pairs);
+    area_bytes::clear(index);
+    area_bytes::clear(graph);
+    area_bytes::clear(flags);
+    area_bytes::clear(classes);
 }
 
 // Writes the made table for the tower and the book to the output and answers its length, or the first

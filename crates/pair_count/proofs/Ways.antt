@@ -5,10 +5,10 @@ use mathlib.Core.List.{List}
 use Rattle.base.specs.declared.BookAnswer.{BookAnswer}
 use Rattle.base.specs.declared.BookAnswer.the-variants as Reads
 use Rattle.logic.specs.Tower.{FitTower, tower-of}
-use Rattle.tower_reader.proofs.Laws.{marks-few}
+use Rattle.file_tower.proofs.Laws.{marks-few}
 use Rattle.book_reader.specs.Lines.{Answers}
 use Rattle.book_reader.proofs.BookHeld.{book-held}
-use Rattle.pending_entries.specs.PendingEntries.{TowerWithBook}
+use Rattle.pair_entries.specs.PendingEntries.{TowerWithBook}
 
 pub book-known : (tower text nodes : List ℕ) (marks lines count : ℕ) (a : BookAnswer) → a ≡ Reads.Read lines count → Answers a marks text nodes
     → marks ≡ tower-of tower .marks → FitTower tower → TowerWithBook tower nodes lines count

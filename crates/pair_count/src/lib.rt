@@ -3,10 +3,10 @@
 ghost use Prim.Native.Nat.{_≤_};
 ghost use lib.ListN.{length};
 ghost use Rattle.logic.specs.Tower.{FitTower};
-ghost use Rattle.pending_entries.specs.PendingEntries.{TowerWithBook};
+ghost use Rattle.pair_entries.specs.PendingEntries.{TowerWithBook};
 use base::BookAnswer;
 use pair_search::Found;
-use tower_reader::TowerRead;
+use file_tower::TowerRead;
 
 // The pairs are those of the tower, not of a table's rows.
 const BY_ROWS: bool = false;
@@ -66,7 +66,7 @@ fn of_book(tower: &[u8], text: &[u8], nodes: &mut [u8]) -> usize
     requires { ⌜ FitTower (now tower) ⌝ }
     requires { ⌜ 512 ≤ length (now nodes) ⌝ }
 {
-    let book = book_reader::read_lines(tower_reader::marks(tower), text, nodes);
+    let book = book_reader::read_lines(file_tower::marks(tower), text, nodes);
     match book {
         BookAnswer::Refused(why) => 0,
         BookAnswer::Read {
@@ -78,7 +78,7 @@ fn of_book(tower: &[u8], text: &[u8], nodes: &mut [u8]) -> usize
 
 // How many pairs a tower and a book have; 0 if one of them is refused or there are too many.
 pub fn pairs(tower: &[u8], text: &[u8]) -> usize {
-    let read = tower_reader::read_tower(tower);
+    let read = file_tower::read_tower(tower);
     if let TowerRead::Refused(why) = read {
         return 0;
     }

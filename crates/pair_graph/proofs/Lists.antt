@@ -7,9 +7,9 @@ use mathlib.Core.Logic.{inl}
 use mathlib.Core.List.{List}
 use lib.ListN.{length, replicate}
 use Rattle.base.specs.Bytes.{byte-at, number-at}
-use Rattle.chains.specs.Chains.{Chained, head-in, link-in, added, Apart}
-use Rattle.chains.proofs.Walks.{chained-skip, chained-same}
-use Rattle.chains.proofs.Additions.{cleared-chains, added-chains}
+use Rattle.area_chains.specs.Chains.{Chained, head-in, link-in, added, Apart}
+use Rattle.area_chains.proofs.Walks.{chained-skip, chained-same}
+use Rattle.area_chains.proofs.Additions.{cleared-chains, added-chains}
 use Rattle.pair_graph.specs.Graph.{Move, to}
 use Rattle.pair_graph.specs.Steps.{cell, move-of, move-at, HoldsGraph}
 use Rattle.pair_graph.specs.Predecessors.{CellTo, Listed}

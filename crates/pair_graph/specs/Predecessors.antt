@@ -3,7 +3,7 @@ use Prim.Native.Nat.{ℕ, _*_, _%_, _<_}
 use mathlib.Core.Path.{_≡_}
 use mathlib.Core.List.{List}
 use Rattle.base.specs.Bytes.{number-at}
-use Rattle.chains.specs.Chains.{Chained, head-in, link-in}
+use Rattle.area_chains.specs.Chains.{Chained, head-in, link-in}
 use Rattle.pair_graph.specs.Graph.{to}
 use Rattle.pair_graph.specs.Steps.{action-room, move-of}
 

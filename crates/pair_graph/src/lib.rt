@@ -38,7 +38,7 @@ pub fn move_number(graph: &[u8], i: usize, a: usize) -> usize
     requires { ⌜ a < action-room ⌝ }
     ensures { λ r. ⌜ r ≡ number-at 2 (now (graph .entry)) (cell i a) ⌝ }
 {
-    lent_bytes::two_bytes(graph, 2 * (ACTION_ROOM * i + a))
+    area_bytes::two_bytes(graph, 2 * (ACTION_ROOM * i + a))
 }
 
 // Writes the move of action a from pair i.
@@ -48,7 +48,7 @@ pub fn put_move(graph: &mut [u8], i: usize, a: usize, number: usize)
     requires { ⌜ a < action-room ⌝ }
     ensures { λ _. ⌜ now (graph .exit) ≡ sets (now (graph .entry)) (cell i a) (number-bytes 2 number) ⌝ }
 {
-    lent_bytes::put_two_bytes(graph, 2 * (ACTION_ROOM * i + a), number);
+    area_bytes::put_two_bytes(graph, 2 * (ACTION_ROOM * i + a), number);
 }
 
 // The state of pair i.
@@ -57,7 +57,7 @@ pub fn state(graph: &[u8], i: usize) -> usize
     requires { ⌜ i < pair-room ⌝ }
     ensures { λ r. ⌜ r ≡ state-in (now (graph .entry)) i ⌝ }
 {
-    lent_bytes::two_bytes(graph, STATES_AT + 2 * i)
+    area_bytes::two_bytes(graph, STATES_AT + 2 * i)
 }
 
 // Writes the state of pair i.
@@ -66,7 +66,7 @@ pub fn put_state(graph: &mut [u8], i: usize, x: usize)
     requires { ⌜ i < pair-room ⌝ }
     ensures { λ _. ⌜ now (graph .exit) ≡ sets (now (graph .entry)) (states-at + 2 * i) (number-bytes 2 x) ⌝ }
 {
-    lent_bytes::put_two_bytes(graph, STATES_AT + 2 * i, x);
+    area_bytes::put_two_bytes(graph, STATES_AT + 2 * i, x);
 }
 
 // Pair i is safe.
@@ -82,7 +82,7 @@ pub fn class(classes: &[u8], i: usize) -> usize
     requires { ⌜ 2 * i + 1 < length (now classes) ⌝ }
     ensures { λ r. ⌜ r ≡ class-in (now (classes .entry)) i ⌝ }
 {
-    lent_bytes::two_bytes(classes, 2 * i)
+    area_bytes::two_bytes(classes, 2 * i)
 }
 
 // Action a is enabled in pair i.

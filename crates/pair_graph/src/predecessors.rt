@@ -3,7 +3,7 @@
 ghost use Prim.Native.Nat.{_+_, _*_, _/_, _<_, _≤_};
 ghost use mathlib.Core.Path.{_≡_};
 ghost use lib.ListN.{length};
-ghost use Rattle.chains.specs.Chains.{head-in, link-in};
+ghost use Rattle.area_chains.specs.Chains.{head-in, link-in};
 ghost use Rattle.pair_graph.specs.Steps.{pair-room, action-room, HoldsGraph};
 ghost use Rattle.pair_graph.specs.Predecessors.{heads-at, links-at, lists-end, Listed};
 
@@ -18,7 +18,7 @@ pub fn head(area: &[u8], j: usize) -> usize
     requires { ⌜ j < pair-room ⌝ }
     ensures { λ r. ⌜ r ≡ head-in heads-at (now (area .entry)) j ⌝ }
 {
-    chains::head(area, HEADS_AT, j)
+    area_chains::head(area, HEADS_AT, j)
 }
 
 // The cell before cell c in its list plus 1, or 0.
@@ -27,7 +27,7 @@ pub fn link(area: &[u8], c: usize) -> usize
     requires { ⌜ c < action-room * pair-room ⌝ }
     ensures { λ r. ⌜ r ≡ link-in links-at (now (area .entry)) c ⌝ }
 {
-    chains::link(area, LINKS_AT, c)
+    area_chains::link(area, LINKS_AT, c)
 }
 
 // The pair of cell c.
@@ -43,7 +43,7 @@ pub fn list_all(graph: &[u8], n: usize, actions: usize, area: &mut [u8])
     requires { ⌜ lists-end ≤ length (now area) ⌝ }
     ensures { λ _. ⌜ Listed n actions (now (graph .entry)) (action-room * n) (now (area .exit)) ⌝ }
 {
-    lent_bytes::clear(area);
+    area_bytes::clear(area);
     let mut i = 0;
     while i < n {
         list_pair(graph, n, actions, i, area);
@@ -79,7 +79,7 @@ fn list_cell(graph: &[u8], n: usize, actions: usize, i: usize, a: usize, area: &
     if m < super::FIRST_PAIR {
         return;
     }
-    chains::add(
+    area_chains::add(
         area,
         HEADS_AT,
         LINKS_AT,

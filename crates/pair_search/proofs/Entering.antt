@@ -13,10 +13,10 @@ use Rattle.logic.specs.declared.Tick.{Tick}
 use Rattle.pending.specs.Pending.{progressed}
 use Rattle.pending.specs.Pairs.{Pair}
 use Rattle.pending.proofs.Steps.{then-pending, pair-step-out, pair-step-none}
-use Rattle.progression.specs.PendingBytes.{pending-of, outcome}
-use Rattle.progression.specs.NodeBytes.{IsHeld}
-use Rattle.tower_reader.proofs.Laws.{fit-bounds}
-use Rattle.pending_entries.specs.PendingEntries.{entry-number, entry-cells, Entered, Copied}
+use Rattle.book_progression.specs.PendingBytes.{pending-of, outcome}
+use Rattle.book_progression.specs.NodeBytes.{IsHeld}
+use Rattle.file_tower.proofs.Laws.{fit-bounds}
+use Rattle.pair_entries.specs.PendingEntries.{entry-number, entry-cells, Entered, Copied}
 use Rattle.pair_graph.specs.Graph.{Move, broken, to}
 use Rattle.pair_graph.specs.Steps.{cell, move-of, move-at, is-enabled}
 use Rattle.pair_graph.proofs.Moves.{high-move}

@@ -13,11 +13,11 @@ use Rattle.base.specs.Search.{search-on, search-from}
 use Rattle.logic.specs.Tower.{Tower}
 use Rattle.logic.specs.Book.{Book}
 use Rattle.pending.specs.Pairs.{Pair, same-pair, most-pairs, first-pair, pair-step, pair-followers, pairs, over-pairs}
-use Rattle.progression.specs.NodeBytes.{IsHeld}
-use Rattle.lent_bytes.proofs.Numbers.{stored, stored-read, stored-beside}
-use Rattle.entry_index.specs.Entries.{entries-of, Indexed}
-use Rattle.pending_entries.specs.PendingEntries.{entry-number, First}
-use Rattle.pending_entries.proofs.Turns.{search-next, search-end, search-over}
+use Rattle.book_progression.specs.NodeBytes.{IsHeld}
+use Rattle.area_bytes.proofs.Numbers.{stored, stored-read, stored-beside}
+use Rattle.area_index.specs.Entries.{entries-of, Indexed}
+use Rattle.pair_entries.specs.PendingEntries.{entry-number, First}
+use Rattle.pair_entries.proofs.Turns.{search-next, search-end, search-over}
 use Rattle.pair_graph.specs.Graph.{Move, to}
 use Rattle.pair_graph.specs.Steps.{cell, state-in, move-of, move-at, graph-of}
 use Rattle.pair_graph.specs.GraphOf.{numbered, SaysStep, says-not-enabled, says-broken, says-to}

@@ -15,17 +15,17 @@ use Rattle.base.specs.Bytes.{number-at}
 use Rattle.logic.specs.Tower.{Tower}
 use Rattle.logic.specs.Book.{Book}
 use Rattle.pending.specs.Pairs.{Pair, same-pair, pair-at, pair-step}
-use Rattle.progression.specs.PendingBytes.{pending-of, outcome}
-use Rattle.progression.specs.NodeBytes.{IsHeld}
-use Rattle.tower_reader.specs.TowerRead.{target-read}
-use Rattle.tower_reader.specs.declared.Reached.{Reached}
-use Rattle.tower_reader.specs.declared.Reached.the-variants.{State, NotEnabled}
-use Rattle.tower_reader.proofs.Laws.{state-reached, none-reached}
-use Rattle.lent_bytes.proofs.Numbers.{stored, stored-read, stored-beside}
-use Rattle.entry_index.specs.Entries.{entry-at, Indexed}
-use Rattle.entry_index.proofs.Laws.{indexed-same}
-use Rattle.pending_entries.specs.PendingEntries.{entry-number, entry-cells, Noted, with-one}
-use Rattle.pending_entries.specs.declared.Place.{Place}
+use Rattle.book_progression.specs.PendingBytes.{pending-of, outcome}
+use Rattle.book_progression.specs.NodeBytes.{IsHeld}
+use Rattle.file_tower.specs.TowerRead.{target-read}
+use Rattle.file_tower.specs.declared.Reached.{Reached}
+use Rattle.file_tower.specs.declared.Reached.the-variants.{State, NotEnabled}
+use Rattle.file_tower.proofs.Laws.{state-reached, none-reached}
+use Rattle.area_bytes.proofs.Numbers.{stored, stored-read, stored-beside}
+use Rattle.area_index.specs.Entries.{entry-at, Indexed}
+use Rattle.area_index.proofs.Laws.{indexed-same}
+use Rattle.pair_entries.specs.PendingEntries.{entry-number, entry-cells, Noted, with-one}
+use Rattle.pair_entries.specs.declared.Place.{Place}
 use Rattle.pair_graph.specs.Graph.{Move, to}
 use Rattle.pair_graph.specs.Steps.{move-of, cell, move-at, state-in}
 use Rattle.pair_search.specs.Walked.{Searchable}

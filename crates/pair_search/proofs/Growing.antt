@@ -9,10 +9,10 @@ use Rattle.base.specs.Search.{new-ones}
 use Rattle.logic.specs.Tower.{Tower}
 use Rattle.logic.specs.Book.{Book}
 use Rattle.pending.specs.Pairs.{Pair, same-pair, pair-step, pair-followers}
-use Rattle.progression.specs.NodeBytes.{IsHeld}
-use Rattle.entry_index.specs.Entries.{entry-at, Indexed}
-use Rattle.pending_entries.specs.PendingEntries.{with-one}
-use Rattle.pending_entries.proofs.Seen.{numbers-cons, one-more}
+use Rattle.book_progression.specs.NodeBytes.{IsHeld}
+use Rattle.area_index.specs.Entries.{entry-at, Indexed}
+use Rattle.pair_entries.specs.PendingEntries.{with-one}
+use Rattle.pair_entries.proofs.Seen.{numbers-cons, one-more}
 use Rattle.pair_search.specs.Walked.{Searchable}
 use Rattle.pair_search.specs.Explored.{pair-of, pairs-of, pair-in, Filled, RightGraph, Stepped, with-new, Grown}
 use Rattle.pair_search.proofs.PairEntries.{pairs-length}

@@ -7,11 +7,11 @@ use mathlib.Core.List.{List, [], _∷_}
 use lib.ListN.{length, getD}
 use Rattle.pending.specs.Pairs.{Pair, same-pair}
 use Rattle.pending.proofs.Same.{same-pair-eq, same-pair-refl}
-use Rattle.progression.proofs.Cells.{pending-eq}
-use Rattle.entry_index.specs.Entries.{entry-at}
-use Rattle.pending_entries.specs.PendingEntries.{entry-number, entry-cells, Blank, Noted, with-one}
-use Rattle.pending_entries.specs.declared.Place.{Place}
-use Rattle.pending_entries.proofs.Seen.{values-length, values-at, values-same, noted-values}
+use Rattle.book_progression.proofs.Cells.{pending-eq}
+use Rattle.area_index.specs.Entries.{entry-at}
+use Rattle.pair_entries.specs.PendingEntries.{entry-number, entry-cells, Blank, Noted, with-one}
+use Rattle.pair_entries.specs.declared.Place.{Place}
+use Rattle.pair_entries.proofs.Seen.{values-length, values-at, values-same, noted-values}
 use Rattle.pair_search.specs.Explored.{pair-of, pairs-of, pair-in}
 
 module _ (count : ℕ) where

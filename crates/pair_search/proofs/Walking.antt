@@ -10,16 +10,16 @@ use Rattle.logic.specs.Tables.{row-at, move, rows-tower}
 use Rattle.logic.specs.TableFile.{most-rows}
 use Rattle.reading.specs.TableReading.{rows-of, row-first, row-count, table-states, row-state, row-of-table, header-right, laid-out, table-of}
 use Rattle.reading.proofs.LaidOut.{length-table-of, row-of-table-at}
-use Rattle.progression.specs.NodeBytes.{Marked}
-use Rattle.tower_reader.specs.TowerRead.{target-read}
-use Rattle.tower_reader.specs.declared.Reached.{Reached}
-use Rattle.tower_reader.specs.declared.Reached.the-variants.{State, NotEnabled}
-use Rattle.tower_reader.proofs.Laws.{fit-bounds}
-use Rattle.table_reader.specs.Moves as Table
-use Rattle.table_reader.specs.declared.Target.{Target}
-use Rattle.table_reader.specs.declared.Target.the-variants.{Row, Nothing}
-use Rattle.table_reader.proofs.Laws.{header-of, laid-out-known, move-read, step-to-from, target-row, target-nothing}
-use Rattle.pending_entries.specs.PendingEntries.{TowerWithBook}
+use Rattle.book_progression.specs.NodeBytes.{Marked}
+use Rattle.file_tower.specs.TowerRead.{target-read}
+use Rattle.file_tower.specs.declared.Reached.{Reached}
+use Rattle.file_tower.specs.declared.Reached.the-variants.{State, NotEnabled}
+use Rattle.file_tower.proofs.Laws.{fit-bounds}
+use Rattle.file_table.specs.Moves as Table
+use Rattle.file_table.specs.declared.Target.{Target}
+use Rattle.file_table.specs.declared.Target.the-variants.{Row, Nothing}
+use Rattle.file_table.proofs.Laws.{header-of, laid-out-known, move-read, step-to-from, target-row, target-nothing}
+use Rattle.pair_entries.specs.PendingEntries.{TowerWithBook}
 use Rattle.pair_search.specs.Walked.{walked, tower-state, Searchable, Files, Walkable}
 
 -- ---- the tower itself

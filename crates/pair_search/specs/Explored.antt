@@ -13,10 +13,10 @@ use Rattle.logic.specs.Tower.{Tower, tower-of}
 use Rattle.logic.specs.Book.{Book}
 use Rattle.pending.specs.Pending.{progressed}
 use Rattle.pending.specs.Pairs.{Pair, same-pair, first-pair, pair-step, pair-followers, pairs, over-pairs}
-use Rattle.progression.specs.PendingBytes.{pending-of, part, outcome}
-use Rattle.progression.specs.NodeBytes.{IsHeld}
-use Rattle.entry_index.specs.Entries.{entries-size, entry-at, entries-of, Indexed}
-use Rattle.pending_entries.specs.PendingEntries.{entry-number, entry-cells, Blank, Copied, with-one}
+use Rattle.book_progression.specs.PendingBytes.{pending-of, part, outcome}
+use Rattle.book_progression.specs.NodeBytes.{IsHeld}
+use Rattle.area_index.specs.Entries.{entries-size, entry-at, entries-of, Indexed}
+use Rattle.pair_entries.specs.PendingEntries.{entry-number, entry-cells, Blank, Copied, with-one}
 use Rattle.pair_graph.specs.Graph.{Move, not-enabled, broken, to}
 use Rattle.pair_graph.specs.Steps.{state-in, move-of, move-at, is-enabled, graph-of, HoldsGraph}
 use Rattle.pair_graph.specs.GraphOf.{GraphOf}

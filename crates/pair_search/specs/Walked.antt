@@ -7,7 +7,7 @@ use mathlib.Core.List.{List}
 use Rattle.logic.specs.Tower.{Tower, FitTower, tower-of}
 use Rattle.logic.specs.Tables.{row-at, rows-tower}
 use Rattle.reading.specs.TableReading.{laid-out, table-of}
-use Rattle.progression.specs.NodeBytes.{IsHeld}
+use Rattle.book_progression.specs.NodeBytes.{IsHeld}
 
 -- the tower itself, or the table for it as a tower
 unfoldable pub walked : List ℕ → List ℕ → Bool → Tower

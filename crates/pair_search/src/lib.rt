@@ -9,13 +9,13 @@ ghost use mathlib.Core.Bool.{true};
 ghost use Rattle.logic.specs.Tower.{FitTower, tower-of};
 ghost use Rattle.logic.specs.Tables.{move};
 ghost use Rattle.reading.specs.TableReading.{rows-of, laid-out, table-of};
-ghost use Rattle.tower_reader.specs.TowerRead.{target-read};
-ghost use Rattle.entry_index.specs.Entries.{most-entries, entries-size, index-size, Indexed};
+ghost use Rattle.file_tower.specs.TowerRead.{target-read};
+ghost use Rattle.area_index.specs.Entries.{most-entries, entries-size, index-size, Indexed};
 ghost use Rattle.pair_graph.specs.Steps.{graph-size, pair-room, action-room};
 ghost use Rattle.pair_search.specs.Walked.{walked, tower-state, Files, Walkable};
 ghost use Rattle.pair_search.specs.Explored.{Filled, RightGraph, Earlier, Leads, TakenOver, NextEntered, Followed, Stepped, Grown, Begun, Explored};
-use table_reader::Target;
-use tower_reader::Reached;
+use file_table::Target;
+use file_tower::Reached;
 
 // How the search ends: over 1,000 pairs, or so many.
 pub enum Found {
@@ -42,7 +42,7 @@ fn start(tower: &[u8], table: &[u8], rows: bool) -> usize
     if rows {
         return 0;
     }
-    tower_reader::start(tower)
+    file_tower::start(tower)
 }
 
 // The tower's state that state x of it stands for.
@@ -52,7 +52,7 @@ fn tower_state(tower: &[u8], table: &[u8], rows: bool, x: usize) -> usize
     ensures { λ r. ⌜ r ≡ tower-state (now (table .entry)) rows x ⌝ }
 {
     if rows {
-        return table_reader::row_state(table, x);
+        return file_table::row_state(table, x);
     }
     x
 }
@@ -63,7 +63,7 @@ fn row_target(table: &[u8], x: usize, a: usize) -> Reached
     requires { ⌜ x < rows-of (now table) ⌝ }
     ensures { λ r. ⌜ r ≡ target-read (move (table-of (now (table .entry))) x a) ⌝ }
 {
-    let reached = table_reader::step_to(table, x, a);
+    let reached = file_table::step_to(table, x, a);
     match reached {
         Target::Row(y) => Reached::State(y),
         Target::Nothing => Reached::NotEnabled,
@@ -80,7 +80,7 @@ fn target(tower: &[u8], table: &[u8], rows: bool, x: usize, a: usize) -> Reached
     if rows {
         return row_target(table, x, a);
     }
-    tower_reader::target(tower, x, a)
+    file_tower::target(tower, x, a)
 }
 
 // ---- what is pending behind a step
@@ -95,12 +95,12 @@ fn earlier(tower: &[u8], graph: &[u8], x: usize, i: usize, a: usize) -> usize
     requires { ⌜ i < pair-room ⌝ }
     ensures { λ b. ⌜ Earlier b (now (tower .entry)) (now (graph .entry)) x i a ⌝ }
 {
-    let d = tower_reader::step_length(tower, x, a);
+    let d = file_tower::step_length(tower, x, a);
     let mut b = 0;
     while b < a {
         let at = b;
         b += 1;
-        let e = tower_reader::step_length(tower, x, at);
+        let e = file_tower::step_length(tower, x, at);
         if e.0 == d.0 {
             if pair_graph::enabled(graph, i, at) {
                 return at;
@@ -135,7 +135,7 @@ fn take_over(
     if m < pair_graph::FIRST_PAIR {
         return false;
     }
-    pending_entries::copy(count, pairs, m - pair_graph::FIRST_PAIR, number, n);
+    pair_entries::copy(count, pairs, m - pair_graph::FIRST_PAIR, number, n);
     true
 }
 
@@ -166,14 +166,14 @@ fn enter(
     requires { ⌜ number < 65536 ⌝ }
     ensures { λ b. ⌜ NextEntered b (walked (now (tower .entry)) (now (table .entry)) rows) (now (nodes .entry)) lines count (now (pairs .entry)) i a number n (now (pairs .exit)) ⌝ }
 {
-    let x = tower_state(tower, table, rows, pending_entries::number(pairs, i));
+    let x = tower_state(tower, table, rows, pair_entries::number(pairs, i));
     let b = earlier(tower, graph, x, i, a);
     if b < a {
         return take_over(count, pairs, graph, i, b, number, n);
     }
-    let d = tower_reader::step_length(tower, x, a);
-    let mask = tower_reader::mask(tower, x);
-    pending_entries::follow(nodes, lines, count, mask, d, pairs, i, number, n)
+    let d = file_tower::step_length(tower, x, a);
+    let mask = file_tower::mask(tower, x);
+    pair_entries::follow(nodes, lines, count, mask, d, pairs, i, number, n)
 }
 
 // ---- the search
@@ -205,7 +205,7 @@ fn follow(
     requires { ⌜ a < walked (now tower) (now table) rows .actions ⌝ }
     ensures { λ way. ⌜ Followed way (walked (now (tower .entry)) (now (table .entry)) rows) (now (nodes .entry)) lines count (now (pairs .entry)) i a n (now (pairs .exit)) (now (index .exit)) ⌝ }
 {
-    let reached = target(tower, table, rows, pending_entries::number(pairs, i), a);
+    let reached = target(tower, table, rows, pair_entries::number(pairs, i), a);
     let Reached::State(y) = reached else {
         return Way {
             code: pair_graph::NOT_ENABLED,
@@ -231,7 +231,7 @@ fn follow(
             met: n,
         };
     }
-    let place = pending_entries::note(pairs, index, n);
+    let place = pair_entries::note(pairs, index, n);
     Way {
         code: place.at + pair_graph::FIRST_PAIR,
         met: place.met,
@@ -306,7 +306,7 @@ fn follow_all(
     requires { ⌜ met ≤ most-entries ⌝ }
     ensures { λ m. ⌜ Grown m (walked (now (tower .entry)) (now (table .entry)) rows) (now (nodes .entry)) lines count (now (pairs .entry)) i met (now (pairs .exit)) (now (index .exit)) (now (graph .exit)) ⌝ }
 {
-    let actions = tower_reader::actions(tower);
+    let actions = file_tower::actions(tower);
     let mut a = 0;
     let mut n = met;
     while a < actions {
@@ -357,7 +357,7 @@ fn expand(
     requires { ⌜ met ≤ most-entries ⌝ }
     ensures { λ m. ⌜ Grown m (walked (now (tower .entry)) (now (table .entry)) rows) (now (nodes .entry)) lines count (now (pairs .entry)) i met (now (pairs .exit)) (now (index .exit)) (now (graph .exit)) ⌝ }
 {
-    pair_graph::put_state(graph, i, pending_entries::number(pairs, i));
+    pair_graph::put_state(graph, i, pair_entries::number(pairs, i));
     follow_all(
         tower,
         table,
@@ -432,8 +432,8 @@ fn begin(
     requires { ⌜ index-size ≤ length (now index) ⌝ }
     ensures { λ _. ⌜ Begun (walked (now (tower .entry)) (now (table .entry)) rows) (now (nodes .entry)) lines count (now (pairs .exit)) (now (index .exit)) ⌝ }
 {
-    pending_entries::begin(nodes, lines, count, start(tower, table, rows), pairs);
-    entry_index::begin(pairs, index);
+    pair_entries::begin(nodes, lines, count, start(tower, table, rows), pairs);
+    area_index::begin(pairs, index);
 }
 
 // The pairs of a book that lies in `nodes` and of the tower; by rows, of the table for it. By the

@@ -15,10 +15,10 @@ use Rattle.logic.specs.Tower.{tower-of, most-marks}
 use Rattle.reading.specs.TowerReading.{read-tower}
 use Rattle.outcome.specs.Areas.{book-areas}
 use Rattle.outcome.specs.ReadBook.{book-answer, book-under, read-outcome}
-use Rattle.tower_reader.specs.TowerRead.{tower-read}
-use Rattle.tower_reader.specs.declared.TowerRead.{TowerRead}
-use Rattle.tower_reader.specs.declared.TowerRead.the-variants as Fits
-use Rattle.tower_reader.proofs.Laws.{fit-bounds, fit-of, fit-gives, refused-of}
+use Rattle.file_tower.specs.TowerRead.{tower-read}
+use Rattle.file_tower.specs.declared.TowerRead.{TowerRead}
+use Rattle.file_tower.specs.declared.TowerRead.the-variants as Fits
+use Rattle.file_tower.proofs.Laws.{fit-bounds, fit-of, fit-gives, refused-of}
 use Rattle.book_reader.specs.Lines.{Outcome}
 use Rattle.read_rules.specs.Rules.{rules-answer}
 

@@ -4,21 +4,21 @@
 ghost use mathlib.Core.Path.{_≡_};
 ghost use Rattle.read_rules.specs.Rules.{rules-answer};
 use base::BookAnswer;
-use files::Contents;
-use tower_reader::TowerRead;
+use program_files::Contents;
+use file_tower::TowerRead;
 
 // Prints the answer.
 fn tell(answer: BookAnswer, tower: &[u8], book: &[u8], tower_bytes: &[u8], text: &[u8]) {
     match answer {
         BookAnswer::Read { lines, nodes } => {
             let mut line = [0u8; 4096];
-            let n = listing::sizes(lines, nodes, &mut line);
-            if files::print(&line[..n]) {
-                notes::left_out(book, text, lines);
+            let n = program_listing::sizes(lines, nodes, &mut line);
+            if program_files::print(&line[..n]) {
+                words_notes::left_out(book, text, lines);
             }
         }
         BookAnswer::Refused(why) => {
-            explaining::refuse(why, tower, book, b"", tower_bytes, text, b"");
+            words_refusal::refuse(why, tower, book, b"", tower_bytes, text, b"");
         }
     }
 }
@@ -28,12 +28,12 @@ fn tell(answer: BookAnswer, tower: &[u8], book: &[u8], tower_bytes: &[u8], text:
 fn read(tower: &[u8], text: &[u8]) -> BookAnswer
     ensures { λ r. ⌜ r ≡ rules-answer (now (tower .entry)) (now (text .entry)) ⌝ }
 {
-    let fit = tower_reader::read_tower(tower);
+    let fit = file_tower::read_tower(tower);
     if let TowerRead::Refused(why) = fit {
         return BookAnswer::Refused(why);
     }
     let mut nodes = [0u8; 512];
-    book_reader::read_book(tower_reader::marks(tower), text, &mut nodes)
+    book_reader::read_book(file_tower::marks(tower), text, &mut nodes)
 }
 
 // Answers for what the files hold.
@@ -45,12 +45,12 @@ fn answer(tower: &[u8], book: &[u8], tower_bytes: &[u8], text: &[u8]) {
 // Reads the files. Each area has room for one byte more than the longest file that is fit, so that a
 // longer one is refused for its length.
 fn run(tower: &[u8], book: &[u8]) {
-    let mut tower_bytes = [0u8; file_limits::TOWER];
-    let Contents::Bytes(t) = files::read_file(tower, &mut tower_bytes) else {
+    let mut tower_bytes = [0u8; program_limits::TOWER];
+    let Contents::Bytes(t) = program_files::read_file(tower, &mut tower_bytes) else {
         return;
     };
-    let mut text = [0u8; file_limits::BOOK];
-    let Contents::Bytes(b) = files::read_file(book, &mut text) else {
+    let mut text = [0u8; program_limits::BOOK];
+    let Contents::Bytes(b) = program_files::read_file(book, &mut text) else {
         return;
     };
     answer(tower, book, &tower_bytes[..t], &text[..b]);
@@ -59,11 +59,11 @@ fn run(tower: &[u8], book: &[u8]) {
 // The names are the arguments.
 fn run_named() {
     let mut tower = [0u8; 4096];
-    let Contents::Bytes(t) = files::argument(1, b"TOWER", &mut tower) else {
+    let Contents::Bytes(t) = program_files::argument(1, b"TOWER", &mut tower) else {
         return;
     };
     let mut book = [0u8; 4096];
-    let Contents::Bytes(b) = files::argument(2, b"BOOK", &mut book) else {
+    let Contents::Bytes(b) = program_files::argument(2, b"BOOK", &mut book) else {
         return;
     };
     run(&tower[..t], &book[..b]);

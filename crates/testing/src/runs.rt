@@ -4,8 +4,8 @@ use logic::Tick;
 ghost use Prim.Native.Nat.{_+_, _≤_};
 ghost use lib.ListN.{length};
 ghost use Rattle.logic.specs.Time.{ticks};
-ghost use Rattle.progression.specs.NodeBytes.{IsHeld};
-ghost use Rattle.progression.specs.Contracts.{Parts, Begun, Progressed};
+ghost use Rattle.book_progression.specs.NodeBytes.{IsHeld};
+ghost use Rattle.book_progression.specs.Contracts.{Parts, Begun, Progressed};
 
 // What is pending at first, written to the part of the area that starts at `to`.
 #[no_mangle]
@@ -14,7 +14,7 @@ pub extern "C" fn test_begin(book: &[u8], lines: usize, count: usize, area: &mut
     requires { ⌜ to + count ≤ length (now area) ⌝ }
     ensures { λ _. ⌜ Begun (now (book .entry)) lines count (now (area .entry)) to (now (area .exit)) ⌝ }
 {
-    progression::begin(book, lines, count, area, to);
+    book_progression::begin(book, lines, count, area, to);
 }
 
 // A step of d ticks out of a state with these marks, from one part of the area into another. False
@@ -34,5 +34,5 @@ pub extern "C" fn test_progressed(
     requires { ⌜ Parts (length (now area)) count from to ⌝ }
     ensures { λ b. ⌜ Progressed b (now (book .entry)) lines count mask (ticks d) (now (area .entry)) from to (now (area .exit)) ⌝ }
 {
-    progression::progressed(book, lines, count, mask, Tick(d), area, from, to)
+    book_progression::progressed(book, lines, count, mask, Tick(d), area, from, to)
 }

@@ -29,20 +29,20 @@ const STEP_TARGET: u32 = 8;
 pub extern "C" fn test_laid_out(table: &[u8]) -> bool
     ensures { λ r. ⌜ r ≡ laid-out (now (table .entry)) ⌝ }
 {
-    table_reader::laid_out(table)
+    file_table::laid_out(table)
 }
 
 // A field of a table, of row i or of step i.
 #[no_mangle]
 pub extern "C" fn test_table_field(table: &[u8], which: u32, i: usize) -> usize {
-    if !table_reader::laid_out(table) {
+    if !file_table::laid_out(table) {
         return NOTHING;
     }
     match which {
-        ROWS => table_reader::rows(table),
-        STEPS => table_reader::steps(table),
-        STATES => table_reader::states(table),
-        ACTIONS => table_reader::actions(table),
+        ROWS => file_table::rows(table),
+        STEPS => file_table::steps(table),
+        STATES => file_table::states(table),
+        ACTIONS => file_table::actions(table),
         ROW_STATE..=ROW_FIRST => row_field(table, which, i),
         _ => step_field(table, which, i),
     }
@@ -52,13 +52,13 @@ pub extern "C" fn test_table_field(table: &[u8], which: u32, i: usize) -> usize 
 fn row_field(table: &[u8], which: u32, i: usize) -> usize
     requires { ⌜ header-right (now table) ≡ true ⌝ }
 {
-    if table_reader::rows(table) <= i {
+    if file_table::rows(table) <= i {
         return NOTHING;
     }
     match which {
-        ROW_STATE => table_reader::row_state(table, i),
-        ROW_COUNT => table_reader::row_count(table, i),
-        ROW_FIRST => table_reader::row_first(table, i),
+        ROW_STATE => file_table::row_state(table, i),
+        ROW_COUNT => file_table::row_count(table, i),
+        ROW_FIRST => file_table::row_first(table, i),
         _ => NOTHING,
     }
 }
@@ -67,12 +67,12 @@ fn row_field(table: &[u8], which: u32, i: usize) -> usize
 fn step_field(table: &[u8], which: u32, i: usize) -> usize
     requires { ⌜ header-right (now table) ≡ true ⌝ }
 {
-    if table_reader::steps(table) <= i {
+    if file_table::steps(table) <= i {
         return NOTHING;
     }
     match which {
-        STEP_ACTION => table_reader::step_action(table, i),
-        STEP_TARGET => table_reader::step_target(table, i),
+        STEP_ACTION => file_table::step_action(table, i),
+        STEP_TARGET => file_table::step_target(table, i),
         _ => NOTHING,
     }
 }

@@ -2,14 +2,14 @@
 ghost use mathlib.Core.Path.{_≡_};
 ghost use Rattle.logic.specs.Tower.{FitTower};
 ghost use Rattle.reading.specs.TowerReading.{read-tower};
-ghost use Rattle.tower_reader.specs.TowerRead.{tower-read};
+ghost use Rattle.file_tower.specs.TowerRead.{tower-read};
 ghost use Rattle.succoryvise.specs.Shown.{shown};
 ghost use Rattle.testing.specs.Said.{tower-said};
 use crate::NOTHING;
 use succoryvise::answer;
 use succoryvise::answer::Answer;
-use tower_reader::Reached;
-use tower_reader::TowerRead;
+use file_tower::Reached;
+use file_tower::TowerRead;
 
 // The fields, by number.
 const STATES: u32 = 0;
@@ -38,7 +38,7 @@ const MASK_BITS: usize = 16;
 pub extern "C" fn test_read_tower(tower: &[u8]) -> Answer
     ensures { λ a. ⌜ a ≡ shown (tower-said (tower-read (read-tower (now (tower .entry))))) ⌝ }
 {
-    match tower_reader::read_tower(tower) {
+    match file_tower::read_tower(tower) {
         TowerRead::Fit => answer::yes(),
         TowerRead::Refused(refusal) => answer::refused(refusal),
     }
@@ -47,14 +47,14 @@ pub extern "C" fn test_read_tower(tower: &[u8]) -> Answer
 // A field of a fit tower, of state x, or of number i: an action, and for MARKED a mark.
 #[no_mangle]
 pub extern "C" fn test_tower_field(tower: &[u8], which: u32, x: usize, i: usize) -> usize {
-    let TowerRead::Fit = tower_reader::read_tower(tower) else {
+    let TowerRead::Fit = file_tower::read_tower(tower) else {
         return NOTHING;
     };
     match which {
-        STATES => tower_reader::states(tower),
-        ACTIONS => tower_reader::actions(tower),
-        MARKS => tower_reader::marks(tower),
-        START => tower_reader::start(tower),
+        STATES => file_tower::states(tower),
+        ACTIONS => file_tower::actions(tower),
+        MARKS => file_tower::marks(tower),
+        START => file_tower::start(tower),
         KIND => kind(tower, i),
         LENGTH | TARGET => step_field(tower, which, x, i),
         _ => state_field(tower, which, x, i),
@@ -65,27 +65,27 @@ pub extern "C" fn test_tower_field(tower: &[u8], which: u32, x: usize, i: usize)
 fn kind(tower: &[u8], i: usize) -> usize
     requires { ⌜ FitTower (now tower) ⌝ }
 {
-    if tower_reader::actions(tower) <= i {
+    if file_tower::actions(tower) <= i {
         return NOTHING;
     }
-    tower_reader::kind(tower, i)
+    file_tower::kind(tower, i)
 }
 
 // A field of the step that leaves state x by action i. The target is NOTHING where it is not enabled.
 fn step_field(tower: &[u8], which: u32, x: usize, i: usize) -> usize
     requires { ⌜ FitTower (now tower) ⌝ }
 {
-    if tower_reader::states(tower) <= x {
+    if file_tower::states(tower) <= x {
         return NOTHING;
     }
-    if tower_reader::actions(tower) <= i {
+    if file_tower::actions(tower) <= i {
         return NOTHING;
     }
     if which == LENGTH {
-        let length = tower_reader::step_length(tower, x, i);
+        let length = file_tower::step_length(tower, x, i);
         return length.0 as usize;
     }
-    match tower_reader::target(tower, x, i) {
+    match file_tower::target(tower, x, i) {
         Reached::State(y) => y,
         Reached::NotEnabled => NOTHING,
     }
@@ -95,11 +95,11 @@ fn step_field(tower: &[u8], which: u32, x: usize, i: usize) -> usize
 fn state_field(tower: &[u8], which: u32, x: usize, i: usize) -> usize
     requires { ⌜ FitTower (now tower) ⌝ }
 {
-    if tower_reader::states(tower) <= x {
+    if file_tower::states(tower) <= x {
         return NOTHING;
     }
     if which == MASK {
-        return tower_reader::mask(tower, x);
+        return file_tower::mask(tower, x);
     }
     if which != MARKED {
         return NOTHING;
@@ -107,5 +107,5 @@ fn state_field(tower: &[u8], which: u32, x: usize, i: usize) -> usize
     if MASK_BITS <= i {
         return NOTHING;
     }
-    tower_reader::marked(tower, x, i) as usize
+    file_tower::marked(tower, x, i) as usize
 }

@@ -1,7 +1,7 @@
 -- `checker::check_book` meets its contract.
 use borrow.Author.Needs.{needs}
 use Rattle.checker.proofs.Ways.{book-refused, book-known, book-good}
-use Rattle.tower_reader.proofs.Laws.{marks-few}
+use Rattle.file_tower.proofs.Laws.{marks-few}
 use Rattle.checker.proofs.check_book.Statement.{statement}
 use Rattle.checker.proofs.check_book.Tie as tie
 

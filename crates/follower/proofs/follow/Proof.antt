@@ -1,7 +1,7 @@
 -- Each return answers the follower's outcome once the tests before it are known.
 use borrow.Author.Needs.{needs}
 use borrow.Author.Tests.{not-true, not-false}
-use Rattle.table_reader.proofs.Laws.{holds-by, header-of}
+use Rattle.file_table.proofs.Laws.{holds-by, header-of}
 use Rattle.follower.proofs.Ways.{promised, not-laid-out, row-outside, action-outside, followed, not-allowed}
 use Rattle.follower.proofs.follow.Statement.{statement}
 use Rattle.follower.proofs.follow.Tie as tie

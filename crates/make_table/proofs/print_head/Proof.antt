@@ -1,6 +1,6 @@
 -- `make_table::print_head` is safe and ends.
 use borrow.Author.Needs.{needs}
-use Rattle.table_reader.proofs.Laws.{header-of}
+use Rattle.file_table.proofs.Laws.{header-of}
 use Rattle.make_table.proofs.print_head.Statement.{statement}
 use Rattle.make_table.proofs.print_head.Tie as tie
 

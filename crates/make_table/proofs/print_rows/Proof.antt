@@ -3,7 +3,7 @@ use borrow.Author.Needs.{needs}
 use Prim.Native.Nat.{_-_}
 use mathlib.Core.Path.{_≡_}
 use Rattle.reading.specs.TableReading.{rows-of}
-use Rattle.table_reader.proofs.Laws.{header-of}
+use Rattle.file_table.proofs.Laws.{header-of}
 use Rattle.make_table.proofs.print_rows.Statement.{statement}
 use Rattle.make_table.proofs.print_rows.Tie as tie
 

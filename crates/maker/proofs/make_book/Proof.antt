@@ -1,7 +1,7 @@
 -- `maker::make_book` meets its contract.
 use borrow.Author.Needs.{needs}
 use Rattle.maker.proofs.Ways.{book-refused, book-known, book-good}
-use Rattle.tower_reader.proofs.Laws.{marks-few}
+use Rattle.file_tower.proofs.Laws.{marks-few}
 use Rattle.maker.proofs.make_book.Statement.{statement}
 use Rattle.maker.proofs.make_book.Tie as tie
 

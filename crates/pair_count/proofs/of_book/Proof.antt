@@ -1,6 +1,6 @@
 -- The book that was read lies in its area.
 use borrow.Author.Needs.{needs}
-use Rattle.tower_reader.proofs.Laws.{marks-few}
+use Rattle.file_tower.proofs.Laws.{marks-few}
 use Rattle.pair_count.proofs.Ways.{book-known}
 use Rattle.pair_count.proofs.of_book.Statement.{statement}
 use Rattle.pair_count.proofs.of_book.Tie as tie

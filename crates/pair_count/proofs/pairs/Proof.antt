@@ -1,6 +1,6 @@
 -- The tower was read.
 use borrow.Author.Needs.{needs}
-use Rattle.tower_reader.proofs.Laws.{fit-of}
+use Rattle.file_tower.proofs.Laws.{fit-of}
 use Rattle.pair_count.proofs.pairs.Statement.{statement}
 use Rattle.pair_count.proofs.pairs.Tie as tie
 

@@ -1,6 +1,6 @@
 -- `read_rules::read` meets its contract.
 use borrow.Author.Needs.{needs}
-use Rattle.tower_reader.proofs.Laws.{fit-of}
+use Rattle.file_tower.proofs.Laws.{fit-of}
 use Rattle.read_rules.proofs.Ways.{tower-refused, book-read}
 use Rattle.read_rules.proofs.read.Statement.{statement}
 use Rattle.read_rules.proofs.read.Tie as tie

@@ -1,7 +1,7 @@
 -- `testing::table::test_table_field` meets its contract.
 use borrow.Author.Needs.{needs}
 use borrow.Author.Tests.{not-true, not-false}
-use Rattle.table_reader.proofs.Laws.{holds-by, header-of}
+use Rattle.file_table.proofs.Laws.{holds-by, header-of}
 use Rattle.testing.proofs.table.test_table_field.Statement.{statement}
 use Rattle.testing.proofs.table.test_table_field.Tie as tie
 

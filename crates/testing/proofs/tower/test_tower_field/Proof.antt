@@ -1,6 +1,6 @@
 -- `testing::tower::test_tower_field` meets its contract.
 use borrow.Author.Needs.{needs}
-use Rattle.tower_reader.proofs.Laws.{fit-of}
+use Rattle.file_tower.proofs.Laws.{fit-of}
 use Rattle.testing.proofs.tower.test_tower_field.Statement.{statement}
 use Rattle.testing.proofs.tower.test_tower_field.Tie as tie
 

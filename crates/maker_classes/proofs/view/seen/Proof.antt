@@ -1,0 +1,12 @@
+-- `maker_classes::view.seen` meets its contract.
+use borrow.Author.Needs.{needs}
+use Rattle.maker_classes.proofs.Looks.{target-small, shows-none, shows-class}
+use Rattle.maker_classes.proofs.view.seen.Statement.{statement}
+use Rattle.maker_classes.proofs.view.seen.Tie as tie
+
+ruleset all = (needs, target-small, shows-none, shows-class)
+
+pub seen-spec : {M : Type 1} → statement M
+seen-spec =
+    tie.close
+    (tie.spec (λ c κs. search all) (λ c. search all) (λ c. search all) (λ c. search all) (λ c κs. search all) (λ c. search all) (λ c. search all))

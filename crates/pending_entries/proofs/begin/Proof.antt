@@ -1,9 +1,0 @@
--- `pending_entries::begin` meets its contract.
-use borrow.Author.Needs.{needs}
-use Rattle.pending_entries.proofs.Ways.{begin-first}
-use Rattle.pending_entries.proofs.begin.Statement.{statement}
-use Rattle.pending_entries.proofs.begin.Tie as tie
-
-pub begin-spec : {M : Type 1} → statement M
-begin-spec =
-    tie.close (tie.spec (λ c κs. search needs) (λ c κs. search needs) (λ c κs. search needs) (λ c. search needs) (λ c. search (begin-first, c .before .before .before .before .before .before .before .before .before .before .before .before .before .before .pre)))

@@ -1,0 +1,20 @@
+-- Nothing has to hold from turn to turn; the end comes nearer.
+use borrow.Author.Needs.{needs}
+use Prim.Native.Nat.{_-_}
+use Rattle.place_lines.proofs.counting.wrong_mark.Statement.{statement}
+use Rattle.place_lines.proofs.counting.wrong_mark.Tie as tie
+
+ruleset all = (needs)
+
+abbrev Inv-loop : tie.InvT-loop
+Inv-loop text start end marks i₀ i = Unit {0}
+
+abbrev μ-loop : tie.MeasureT-loop
+μ-loop text start end marks i₀ i = end - i
+
+pub wrong-mark-spec : {M : Type 1} → statement M
+wrong-mark-spec = tie.close (tie.spec
+    Inv-loop
+    μ-loop
+    (λ c. search all) (λ c κs. search all) (λ c. search all) (λ c. search all) (λ c. search all) (λ c. search all)
+    (λ c κs. search all) (λ c. search all))

@@ -1,9 +1,0 @@
--- `texts::digit` meets its contract.
-use borrow.Author.Needs.{needs}
-use Rattle.texts.specs.Decimal.{digit}
-use Rattle.texts.proofs.digit.Statement.{statement}
-use Rattle.texts.proofs.digit.Tie as tie
-
-pub digit-spec : {M : Type 1} → statement M
-unfolding digit
-digit-spec = tie.close (tie.spec (λ c. search needs) (λ c. search needs) (λ c. search needs))
