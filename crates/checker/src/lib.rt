@@ -15,9 +15,9 @@ use base::BookAnswer;
 use base::Reason;
 use base::Refusal;
 use base::Verdict;
-use pair_search::Found;
 use checker_rows::RowVerdict;
 use file_tower::TowerRead;
+use pair_search::Found;
 
 // The lengths of the four work areas: the book's nodes and lines, the rows with what is pending as
 // pairs, their index, and their graph.

@@ -15,11 +15,7 @@ fn print_head(table: &[u8]) -> bool
     requires { ⌜ laid-out (now table) ≡ true ⌝ }
 {
     let mut line = [0u8; 4096];
-    let n = program_listing::head(
-        file_table::rows(table),
-        file_table::steps(table),
-        &mut line,
-    );
+    let n = program_listing::head(file_table::rows(table), file_table::steps(table), &mut line);
     program_files::print(&line[..n])
 }
 

@@ -14,9 +14,9 @@ ghost use Rattle.maker.specs.Making.{made-book, Ends, Room, PairsMet, Sa
 use base::BookAnswer;
 use base::MakeAnswer;
 use base::Refusal;
-use pair_search::Found;
-use maker_file::Written;
 use file_tower::TowerRead;
+use maker_file::Written;
+use pair_search::Found;
 
 // The lengths of the six work areas: the book's nodes and lines, the pairs, their index, where actions
 // lead, the flags of removal, and the classes and rows.

@@ -12,8 +12,8 @@ ghost use Rattle.pair_graph.specs.Steps.{led-to, FlaggedGraph};
 ghost use Rattle.maker_order.specs.Orders.{followers, order-of};
 ghost use Rattle.maker_file.specs.Writing.{table-in, Writable, ShortNumbers, Writes, steps-total, step-of, steps-of, packed-of, Laid, IsRow, Marked, Wrote, WroteRows, WroteFile};
 use logic::FileLayout;
-use pair_graph::Led;
 use maker_order;
+use pair_graph::Led;
 
 // Where the list of rows begins in the area of classes.
 const ORDER_AT: usize = 2000;

@@ -4,8 +4,8 @@ ghost use mathlib.Core.Path.{_≡_};
 ghost use Rattle.logic.specs.Tower.{tower-of};
 ghost use Rattle.pair_graph.specs.Steps.{move-at, safe-in};
 ghost use Rattle.maker_removal.specs.Removal.{leads-inside, not-forced-at, goes-at, none-forced, some-goes, fine-at, PairInput};
-use pair_graph::Led;
 use file_tower::kinds;
+use pair_graph::Led;
 
 // Action a leads from pair i to a safe pair.
 fn leads_inside(tower: &[u8], graph: &[u8], n: usize, i: usize, a: usize, flags: &[u8]) -> bool

@@ -5,8 +5,8 @@ ghost use lib.ListN.{length};
 ghost use Rattle.logic.specs.Tower.{FitTower};
 ghost use Rattle.pair_entries.specs.PendingEntries.{TowerWithBook};
 use base::BookAnswer;
-use pair_search::Found;
 use file_tower::TowerRead;
+use pair_search::Found;
 
 // The pairs are those of the tower, not of a table's rows.
 const BY_ROWS: bool = false;

@@ -1,7 +1,7 @@
 // Whether a table may be written under a name: the name is new, or that of a regular file that is
 // neither the tower nor the book. Names are compared by the files that they lead to.
-use program_status::Status;
 use program_saying::in_file;
+use program_status::Status;
 
 // Says what is there in place of a regular file.
 fn not_regular(table: &[u8], kind: u32) {

@@ -4,8 +4,8 @@
 ghost use mathlib.Core.Path.{_≡_};
 ghost use Rattle.read_rules.specs.Rules.{rules-answer};
 use base::BookAnswer;
-use program_files::Contents;
 use file_tower::TowerRead;
+use program_files::Contents;
 
 // Prints the answer.
 fn tell(answer: BookAnswer, tower: &[u8], book: &[u8], tower_bytes: &[u8], text: &[u8]) {

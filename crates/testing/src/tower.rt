@@ -6,10 +6,10 @@ ghost use Rattle.file_tower.specs.TowerRead.{tower-read};
 ghost use Rattle.succoryvise.specs.Shown.{shown};
 ghost use Rattle.testing.specs.Said.{tower-said};
 use crate::NOTHING;
-use succoryvise::answer;
-use succoryvise::answer::Answer;
 use file_tower::Reached;
 use file_tower::TowerRead;
+use succoryvise::answer;
+use succoryvise::answer::Answer;
 
 // The fields, by number.
 const STATES: u32 = 0;
