@@ -1,12 +1,12 @@
 -- A loop that clears an area from its first byte on.
-use Prim.Native.Nat.{ℕ, _+_, _≤_, _<_}
+use Prim.Native.Nat.{ℕ, _+_, _-_, _≤_, _<_}
 use native.Mathlib.Omega.{arith}
 use native.Mathlib.Decide.{decLt}
 use native.Mathlib.Numerals.{add-one}
 use mathlib.Core.Path.{_≡_, refl, sym, _∙_, ap}
 use mathlib.Core.List.{List, [], _∷_, _++_}
-use lib.ListN.{length, set, take, replicate, length-set, length-replicate, replicate-append-replicate, getD-replicate, List·getD-eq-default}
-use lib.Seq.{take-all, take-suc-set}
+use lib.ListN.{length, set, take, replicate, length-set, length-replicate, replicate-append-replicate, getD-replicate, List·getD-eq-default, List·getD-append}
+use lib.Seq.{take-all, take-suc-set, getD-append-add}
 use Rattle.base.specs.Bytes.{byte-at}
 
 -- The first i bytes are cleared.
@@ -41,3 +41,14 @@ cleared-byte size p = elim (decLt p size) [
   | yes l ↦ getD-replicate size p 0 0 l
   | no l ↦ List·getD-eq-default (replicate size 0) 0 (omega (arith, length-replicate {A = ℕ} size 0))
 ]
+
+-- So is every byte of a part that is cleared.
+pub part-byte : (before behind : List ℕ) (size p : ℕ) → length before ≤ p → p < length before + size
+    → _≡_ {A = ℕ} (byte-at (before ++ (replicate size 0 ++ behind)) p) 0
+part-byte before behind size p l m =
+    let place : length before + (p - length before) ≡ p = omega arith in
+    let within : p - length before < length (replicate {A = ℕ} size 0) = omega (arith, length-replicate {A = ℕ} size 0) in
+    ap (byte-at (before ++ (replicate size 0 ++ behind))) (sym place)
+    ∙ getD-append-add before (replicate size 0 ++ behind) (p - length before) 0
+    ∙ List·getD-append (replicate size 0) behind 0 (p - length before) within
+    ∙ cleared-byte size (p - length before)

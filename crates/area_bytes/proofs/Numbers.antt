@@ -1,5 +1,5 @@
--- Numbers of one byte or two in files and lent areas: read, written, and read back.
-use Prim.Native.Nat.{ℕ, suc, _+_, _*_, _/_, _%_, _≤_, _<_}
+-- Numbers in files and lent areas: read, written, and read back.
+use Prim.Native.Nat.{ℕ, zero, suc, _+_, _*_, _/_, _%_, _^_, _≤_, _<_}
 use native.Mathlib.Omega.{arith}
 use native.Mathlib.Numerals.{add-one}
 use mathlib.Core.Path.{_≡_, sym, _∙_}
@@ -10,7 +10,7 @@ use lib.Seq.{sets, length-sets, getD-set-same, getD-set-other, take-set-le}
 use mir.Syntax.{w8, w64}
 use mir.Val.{Fits}
 use Rattle.base.specs.Bytes.{number-at, number-bytes}
-use Rattle.base.proofs.Bytes.{number-at-one}
+use Rattle.base.proofs.Bytes.{number-at-one, number-fits}
 
 -- ---- bytes
 
@@ -39,6 +39,51 @@ byte-fits n = omega arith
 pub two-written : (l : List ℕ) (p n : ℕ) → set (set l p (n % 256)) (p + 1) (n / 256 % 256) ≡ sets l p (number-bytes 2 n)
 unfolding number-bytes
 two-written l p n = rw (add-one p)
+
+-- ---- numbers of four and of eight bytes
+
+-- A number in bytes is below the power of its width.
+pub number-bound : (width : ℕ) (l : List ℕ) (p : ℕ) → ((j : ℕ) → Fits w8 (getD l j 0)) → number-at width l p < 256 ^ width
+number-bound width l p bytes = number-fits width l p (record { at = λ i. omega (arith, bytes i) })
+
+-- A four-byte number of two two-byte ones: the upper one, and their sum.
+pub four-upper : (l : List ℕ) (p w : ℕ) → w ≡ number-at 2 l p → ((j : ℕ) → Fits w8 (getD l j 0)) → Fits w64 (65536 * w)
+four-upper l p w e bytes = omega (arith, number-bound 2 l p bytes)
+
+pub four-sum : (l : List ℕ) (p q v w : ℕ) → v ≡ number-at 2 l p → w ≡ number-at 2 l q → ((j : ℕ) → Fits w8 (getD l j 0))
+    → Fits w64 (v + 65536 * w)
+four-sum l p q v w e f bytes = omega (arith, number-bound 2 l p bytes, number-bound 2 l q bytes)
+
+-- What it is.
+pub four-read : (l : List ℕ) (p v w : ℕ) → v ≡ number-at 2 l p → w ≡ number-at 2 l (p + 2) → v + 65536 * w ≡ number-at 4 l p
+unfolding number-at
+four-read l p v w e f =
+    let second : p + 1 + 1 ≡ p + 2 = omega arith in
+    rw second (omega arith)
+
+-- An eight-byte number of two four-byte ones: the upper one, and their sum.
+pub eight-upper : (l : List ℕ) (p w : ℕ) → w ≡ number-at 4 l p → ((j : ℕ) → Fits w8 (getD l j 0)) → Fits w64 (4294967296 * w)
+eight-upper l p w e bytes = omega (arith, number-bound 4 l p bytes)
+
+pub eight-sum : (l : List ℕ) (p q v w : ℕ) → v ≡ number-at 4 l p → w ≡ number-at 4 l q → ((j : ℕ) → Fits w8 (getD l j 0))
+    → Fits w64 (v + 4294967296 * w)
+eight-sum l p q v w e f bytes = omega (arith, number-bound 4 l p bytes, number-bound 4 l q bytes)
+
+-- What it is.
+pub eight-read : (l : List ℕ) (p v w : ℕ) → v ≡ number-at 4 l p → w ≡ number-at 4 l (p + 4) → v + 4294967296 * w ≡ number-at 8 l p
+unfolding number-at
+eight-read l p v w e f =
+    let fourth : p + 1 + 1 + 1 + 1 ≡ p + 4 = omega arith in
+    rw fourth (omega arith)
+
+-- A number that is zero has zero bytes.
+pub zero-bytes : (width : ℕ) (l : List ℕ) (p : ℕ) → number-at width l p ≡ 0 → (m : ℕ) → m < width → getD l (p + m) 0 ≡ 0
+unfolding number-at
+zero-bytes zero l p e m less = absurd (omega arith)
+zero-bytes (suc width) l p e zero less = let here : p + 0 ≡ p = omega arith in rw here (omega arith)
+zero-bytes (suc width) l p e (suc m) less =
+    let place : p + 1 + m ≡ p + suc m = omega arith in
+    rw (← place) (zero-bytes width l (p + 1) (omega arith) m (omega arith))
 
 -- ---- one byte or two
 

@@ -1,4 +1,4 @@
-// Numbers of one byte or two in files and lent areas, the low byte first, and areas that are cleared.
+// Numbers in files and lent areas, the low byte first, and areas that are cleared.
 ghost use Prim.Native.Nat.{_+_, _≤_, _<_};
 ghost use mathlib.Core.Path.{_≡_};
 ghost use lib.ListN.{length, replicate};
@@ -11,6 +11,22 @@ pub fn two_bytes(bytes: &[u8], p: usize) -> usize
     ensures { λ r. ⌜ r ≡ number-at 2 (now (bytes .entry)) p ⌝ }
 {
     bytes[p] as usize + 256 * (bytes[p + 1] as usize)
+}
+
+// The four-byte number at p.
+pub fn four_bytes(bytes: &[u8], p: usize) -> usize
+    requires { ⌜ p + 3 < length (now bytes) ⌝ }
+    ensures { λ r. ⌜ r ≡ number-at 4 (now (bytes .entry)) p ⌝ }
+{
+    two_bytes(bytes, p) + 65536 * two_bytes(bytes, p + 2)
+}
+
+// The eight-byte number at p.
+pub fn eight_bytes(bytes: &[u8], p: usize) -> usize
+    requires { ⌜ p + 7 < length (now bytes) ⌝ }
+    ensures { λ r. ⌜ r ≡ number-at 8 (now (bytes .entry)) p ⌝ }
+{
+    four_bytes(bytes, p) + 4294967296 * four_bytes(bytes, p + 4)
 }
 
 // Writes n as a two-byte number at p.

@@ -6,11 +6,11 @@ use native.Mathlib.Decide.{decLt}
 use mathlib.Core.Path.{_≡_, refl, sym, _∙_}
 use mathlib.Core.Logic.{_⊎_, inl, inr}
 use mathlib.Core.List.{List}
-use lib.ListN.{length, replicate}
+use lib.ListN.{length, take, replicate}
 use lib.Seq.{sets}
 use Rattle.base.specs.Bytes.{number-at, number-bytes}
 use Rattle.area_bytes.proofs.Clearing.{cleared-byte}
-use Rattle.area_bytes.proofs.Numbers.{stored, stored-read, stored-beside, length-stored}
+use Rattle.area_bytes.proofs.Numbers.{stored, stored-read, stored-beside, take-stored, length-stored}
 use Rattle.area_chains.specs.Chains.{Chained, head-in, link-in, added, Apart}
 use Rattle.area_chains.proofs.Walks.{chained-none, chained-more}
 
@@ -99,3 +99,11 @@ pub both-written : (heads-at links-at : ℕ) (area : List ℕ) (h k before : ℕ
     → both ≡ added heads-at links-at area h k
 unfolding added
 both-written heads-at links-at area h k before one both e f g = rw (g, f, e)
+
+-- What lies before heads and links is as it was.
+pub added-front : (heads-at links-at : ℕ) (area : List ℕ) (h k p : ℕ) → p ≤ heads-at → p ≤ links-at
+    → take p (added heads-at links-at area h k) ≡ take p area
+unfolding added
+added-front heads-at links-at area h k p l m =
+    take-stored p (stored area (links-at + 2 * k) (head-in heads-at area h)) (heads-at + 2 * h) (k + 1) (omega arith)
+    ∙ take-stored p area (links-at + 2 * k) (head-in heads-at area h) (omega arith)

@@ -2,7 +2,7 @@
 use Prim.Native.Nat.{ℕ, zero, suc, _+_, _-_, _≤_, _<_}
 use native.Mathlib.Omega.{arith}
 use native.Mathlib.Decide.{decLt, ℕ-discrete}
-use mathlib.Core.Path.{_≡_, sym, ap, _∙_, subst}
+use mathlib.Core.Path.{_≡_, refl, sym, ap, _∙_, subst}
 use Rattle.area_chains.specs.Chains.{Member, Chained}
 
 -- What holds below i and at i holds below i + 1.
@@ -106,6 +106,11 @@ module _ (Stands : ℕ → ℕ → Type 0) (buckets : ℕ) where
   -- Before the end it is at a member.
   pub walk-node : (n h at : ℕ) → Walking n h at → 0 < at → Member Stands n (at - 1) h
   walk-node n h at w more = w .node (at - 1) (omega arith)
+
+  -- It is at no more than n.
+  pub walk-most : (n h at : ℕ) → Walking n h at → at ≤ n
+  walk-most n h zero w = omega arith
+  walk-most n h (suc k) w = w .node k refl .there
 
   module _ (head link : ℕ → ℕ) (n h : ℕ) (c : Chained Stands buckets head link n) (small : h < buckets) where
     -- It begins at the head,

@@ -19,7 +19,7 @@ use Rattle.base.proofs.Lists.{place-of-le, place-of-at, place-of-before, place-
 use Rattle.area_chains.specs.Chains.{head-in, link-in}
 use Rattle.area_chains.proofs.Walks.{chained-stands}
 use Rattle.area_chains.proofs.Additions.{cleared-chains}
-use Rattle.area_index.specs.Entries.{entry-size, buckets, entry-at, entries-of, same-entry, hash-of, hashed, Indexed}
+use Rattle.area_index.specs.Entries.{entry-size, buckets, entry-at, entries-of, same-entry, hash-of, hashed, IsNew, Indexed}
 
 -- ---- entries
 
@@ -161,10 +161,19 @@ pub indexed-same : (one other index : List ℕ) (n : ℕ) → ((i : ℕ) → i <
 indexed-same one other index n agree indexed =
     record {
       chained =
-          chained-stands (hashed one) (hashed other) buckets (head-in 0 index) (link-in 2048 index) n
+          chained-stands (hashed one) (hashed other) buckets (head-in 0 index) (link-in 6160 index) n
           (λ i h l e. ap hash-of (sym (agree i l)) ∙ e) (λ i h l e. ap hash-of (agree i l) ∙ e) (indexed .chained);
+      distinct = λ j l. record {
+        other = λ i k e. indexed .distinct j l .other i k (agree i (omega arith) ∙ e ∙ sym (agree j l));
+      };
     }
 
 -- A cleared area is an index of no entries.
 pub indexed-cleared : (entries index : List ℕ) (size : ℕ) → index ≡ replicate size 0 → Indexed entries index 0
-indexed-cleared entries index size e = record { chained = cleared-chains (hashed entries) buckets 0 2048 size index e }
+indexed-cleared entries index size e =
+    record { chained = cleared-chains (hashed entries) buckets 0 6160 size index e; distinct = λ j l. absurd (omega arith) }
+
+-- An entry that was not found is a new one.
+pub not-found-new : (entries : List ℕ) (n r : ℕ) → r ≡ place-of (same-entry (entry-at entries n)) (entries-of entries n) → n ≤ r
+    → IsNew entries n
+not-found-new entries n r is-r l = record { other = λ i k same. found-first entries n r i is-r (omega arith) same }

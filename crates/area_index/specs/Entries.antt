@@ -1,5 +1,5 @@
 -- Entries of fixed size, one behind the other, and an index by which one is found again without a comparison with all of them.
-use Prim.Native.Nat.{ℕ, zero, suc, _+_, _*_, _%_}
+use Prim.Native.Nat.{ℕ, zero, suc, _+_, _*_, _%_, _<_}
 use mathlib.Core.Path.{_≡_}
 use mathlib.Core.Bool.{Bool}
 use mathlib.Core.List.{List, map}
@@ -39,24 +39,25 @@ same-entry x y = same-list eqb x y
 
 -- how many different hashes there are
 abbrev pub buckets : ℕ
-buckets = 1021
+buckets = 3079
 
--- how many times eight bytes an entry has; six are left
-abbrev pub entry-eights : ℕ
-entry-eights = 7
+-- how many four-byte numbers an entry has behind its first two bytes
+abbrev pub entry-fours : ℕ
+entry-fours = 15
 
--- Two numbers of at most four bytes go into a hash. It has six bytes, so that the high bytes of the numbers spread as well.
-unfoldable pub mix : ℕ → ℕ → ℕ → ℕ
-mix h low high = (h * 48271 + low + 521288629 * high) % 281474976710656
+-- what number k of them is multiplied by: powers, cut to 28 bits, so that no sum of the products is too large
+unfoldable pub multiplier : ℕ → ℕ
+multiplier zero = 48271
+multiplier (suc k) = multiplier k * 48271 % 268435456
 
--- the hash of the first k times eight bytes of an entry, before it is brought below the number of hashes
+-- the sum of the first two bytes and the first k of those numbers, each with its multiplier
 unfoldable pub hash-upto : List ℕ → ℕ → ℕ
-hash-upto entry zero = 0
-hash-upto entry (suc k) = mix (hash-upto entry k) (number-at 4 entry (8 * k)) (number-at 4 entry (8 * k + 4))
+hash-upto entry zero = 521288629 * number-at 2 entry 0
+hash-upto entry (suc k) = hash-upto entry k + multiplier k * number-at 4 entry (4 * k + 2)
 
 -- the hash of an entry
 unfoldable pub hash-of : List ℕ → ℕ
-hash-of entry = mix (hash-upto entry entry-eights) (number-at 4 entry 56) (number-at 2 entry 60) % buckets
+hash-of entry = hash-upto entry entry-fours % buckets
 
 -- entry i has the hash h
 abbrev pub hashed : List ℕ → ℕ → ℕ → Type 0
@@ -74,8 +75,13 @@ heads-at = 0
 
 -- where the links begin
 abbrev pub links-at : ℕ
-links-at = 2048
+links-at = 6160
 
--- The index is one of the first n entries: a bucket for each hash, with the entries that have it.
+-- Entry n is equal to none before it.
+pub record IsNew (entries : List ℕ) (n : ℕ) : Type 0 where
+  pub other : (i : ℕ) → i < n → entry-at entries i ≡ entry-at entries n → ⊥
+
+-- The index is one of the first n entries, no two of which are equal: a bucket for each hash, with the entries that have it.
 pub record Indexed (entries index : List ℕ) (n : ℕ) : Type 0 where
   pub chained : Chained (hashed entries) buckets (head-in heads-at index) (link-in links-at index) n
+  pub distinct : (j : ℕ) → j < n → IsNew entries j

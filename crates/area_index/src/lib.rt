@@ -3,11 +3,11 @@
 ghost use Prim.Native.Nat.{_+_, _*_, _<_, _≤_};
 ghost use mathlib.Core.Path.{_≡_};
 ghost use lib.ListN.{length};
-ghost use Rattle.base.specs.Bytes.{number-at};
 ghost use Rattle.base.specs.Lists.{place-of};
 ghost use Rattle.area_chains.specs.Chains.{head-in, link-in};
 ghost use Rattle.area_index.specs.Entries.{entry-size, most-entries, entries-size, index-size, heads-at, links-at};
-ghost use Rattle.area_index.specs.Entries.{entry-at, entries-of, same-entry, mix, hash-of, Indexed};
+ghost use Rattle.area_index.specs.Entries.{entry-at, entries-of, same-entry, hash-of, IsNew, Indexed};
+use area_bytes::eight_bytes;
 
 // The bytes of an entry.
 const ENTRY_SIZE: usize = 62;
@@ -15,49 +15,23 @@ const ENTRY_SIZE: usize = 62;
 // Where the last eight bytes of an entry begin.
 const LAST_EIGHT: usize = 54;
 
-// The hash of an entry: seven times eight of its bytes are added, as two four-byte numbers, to the
-// multiple of what came before them, then the six that are left; the sum is brought below the number of
-// buckets, a prime.
-const ENTRY_EIGHTS: usize = 7;
+// The hash of an entry: its first two bytes and the 15 four-byte numbers behind them, each multiplied
+// by a number of its own, are added, and the sum is brought below the number of buckets, a prime. No
+// product waits for another one.
+const ENTRY_FOURS: usize = 15;
+
+const FIRST_MULTIPLIER: usize = 521288629;
 
 const MULTIPLIER: usize = 48271;
 
-const HIGH_MULTIPLIER: usize = 521288629;
+const MODULUS: usize = 268435456;
 
-const MODULUS: usize = 281474976710656;
-
-const BUCKETS: usize = 1021;
+const BUCKETS: usize = 3079;
 
 // Where the heads and the links begin in the index.
 const HEADS_AT: usize = 0;
 
-const LINKS_AT: usize = 2048;
-
-// The four-byte number at p.
-fn four_bytes(bytes: &[u8], p: usize) -> usize
-    requires { ⌜ p + 3 < length (now bytes) ⌝ }
-    ensures { λ r. ⌜ r ≡ number-at 4 (now (bytes .entry)) p ⌝ }
-{
-    area_bytes::two_bytes(bytes, p) + 65536 * area_bytes::two_bytes(bytes, p + 2)
-}
-
-// The eight-byte number at p.
-fn eight_bytes(bytes: &[u8], p: usize) -> usize
-    requires { ⌜ p + 7 < length (now bytes) ⌝ }
-    ensures { λ r. ⌜ r ≡ number-at 8 (now (bytes .entry)) p ⌝ }
-{
-    four_bytes(bytes, p) + 4294967296 * four_bytes(bytes, p + 4)
-}
-
-// Two numbers more go into a hash.
-fn mixed(h: usize, low: usize, high: usize) -> usize
-    requires { ⌜ h < 281474976710656 ⌝ }
-    requires { ⌜ low < 4294967296 ⌝ }
-    requires { ⌜ high < 4294967296 ⌝ }
-    ensures { λ r. ⌜ r ≡ mix h low high ⌝ }
-{
-    (h * MULTIPLIER + low + HIGH_MULTIPLIER * high) % MODULUS
-}
+const LINKS_AT: usize = 6160;
 
 // The hash of entry i.
 pub fn hash(entries: &[u8], i: usize) -> usize
@@ -65,17 +39,15 @@ pub fn hash(entries: &[u8], i: usize) -> usize
     ensures { λ r. ⌜ r ≡ hash-of (entry-at (now (entries .entry)) i) ⌝ }
 {
     let start = ENTRY_SIZE * i;
-    let mut h = 0;
+    let mut h = FIRST_MULTIPLIER * area_bytes::two_bytes(entries, start);
+    let mut m = MULTIPLIER;
     let mut k = 0;
-    while k < ENTRY_EIGHTS {
-        let low = four_bytes(entries, start + 8 * k);
-        let high = four_bytes(entries, start + 8 * k + 4);
-        h = mixed(h, low, high);
+    while k < ENTRY_FOURS {
+        h += m * area_bytes::four_bytes(entries, start + 4 * k + 2);
+        m = m * MULTIPLIER % MODULUS;
         k += 1;
     }
-    let low = four_bytes(entries, start + 56);
-    let high = area_bytes::two_bytes(entries, start + 60);
-    mixed(h, low, high) % BUCKETS
+    h % BUCKETS
 }
 
 // Whether entries i and j are equal: eight bytes at a time, and the last eight, some of them again.
@@ -115,7 +87,7 @@ fn link(index: &[u8], i: usize) -> usize
     area_chains::link(index, LINKS_AT, i)
 }
 
-// The number of the first of n entries that is equal to entry n, or n if there is none.
+// The number of the one among n entries that is equal to entry n, or n if there is none.
 pub fn find(entries: &[u8], index: &[u8], n: usize) -> usize
     requires { ⌜ Indexed (now entries) (now index) n ⌝ }
     requires { ⌜ n ≤ most-entries ⌝ }
@@ -123,21 +95,21 @@ pub fn find(entries: &[u8], index: &[u8], n: usize) -> usize
     requires { ⌜ index-size ≤ length (now index) ⌝ }
     ensures { λ r. ⌜ r ≡ place-of (same-entry (entry-at (now (entries .entry)) n)) (entries-of (now (entries .entry)) n) ⌝ }
 {
-    let mut found = n;
     let mut at = head(entries, index, n);
     while 0 < at {
         let i = at - 1;
-        at = link(index, i);
         if same(entries, n, i) {
-            found = i;
+            return i;
         }
+        at = link(index, i);
     }
-    found
+    n
 }
 
-// Brings entry n into the index.
+// Brings entry n into the index; it is a new one.
 pub fn add(entries: &[u8], index: &mut [u8], n: usize)
     requires { ⌜ Indexed (now entries) (now index) n ⌝ }
+    requires { ⌜ IsNew (now entries) n ⌝ }
     requires { ⌜ n ≤ most-entries ⌝ }
     requires { ⌜ entries-size ≤ length (now entries) ⌝ }
     requires { ⌜ index-size ≤ length (now index) ⌝ }

@@ -10,9 +10,8 @@ use lib.Seq.{append-snoc}
 use lib.Dec.{ltb}
 use borrow.Author.Tests.{ltb-true}
 use Rattle.base.specs.Choice.{pick}
-use Rattle.base.specs.Lists.{some-of, place-of, Distinct}
-use Rattle.base.specs.Search.{Apart, new-ones, search-on, search-from}
-use Rattle.base.proofs.Pigeonhole.{pigeonhole}
+use Rattle.base.specs.Lists.{some-of, place-of, total, Distinct}
+use Rattle.base.specs.Search.{Apart, new-ones, search-on, search-from, once}
 use Rattle.base.proofs.Lists.{never-both, false-by, or-fails-left, or-fails-right, or-neither, some-none, some-append, none-of, mem-getD, mem-index, mem-along, place-of-append-left, place-of-append-right, place-of-some, place-of-at, place-of-found, place-of-first, IsSame, decides-same}
 
 -- ---- What is said of a search
@@ -46,6 +45,42 @@ decides-fitting {X} same followers x out itself =
       is-same = decides-same same out itself;
       respects = λ y z f _ _ e m. (f, mem-along (ap followers (out y z e)) m, itself f);
     }
+
+-- ---- Weights
+
+-- Where each counts once, a list weighs its length.
+pub total-once : {X : Type 0} (xs : List X) → total (map once xs) ≡ length xs
+unfolding total
+total-once [] = refl
+total-once (x ∷ xs) = omega (arith, total-once xs)
+
+-- Where each weighs 1 or more, a list weighs its length or more.
+pub length-weight : {X : Type 0} (weight : X → ℕ) → ((x : X) → 0 < weight x) → (xs : List X) → length xs ≤ total (map weight xs)
+unfolding total
+length-weight weight heavy [] = omega arith
+length-weight weight heavy (x ∷ xs) = omega (arith, heavy x, length-weight weight heavy xs)
+
+-- Each weighs 1 or more, and a list no more than `most`.
+pub record Few {X : Type 0} (weight : X → ℕ) (most : ℕ) (l : List X) : Type 0 where
+  pub heavy : (x : X) → 0 < weight x
+  pub light : total (map weight l) ≤ most
+
+-- A list of so many, where each counts once.
+pub few-once : {X : Type 0} (most : ℕ) (l : List X) → length l ≤ most → Few once most l
+few-once most l le = record { heavy = λ x. omega arith; light = omega (arith, total-once l) }
+
+-- One taken out of a list, with its weight.
+taken : {X : Type 0} (weight : X → ℕ) {z : X} {l : List X} → List·Memᴰ z l
+    → (rest : List X) × (total (map weight l) ≡ weight z + total (map weight rest)) × ((w : X) → List·Memᴰ w l → (w ≡ z) ⊎ List·Memᴰ w rest)
+unfolding total
+taken weight {z} (List·Memᴰ·head {x = x} {xs = xs} e) = (
+  xs,
+  ap (λ (y : _). weight y + total (map weight xs)) (sym e),
+  λ w m. ⊎-elim (λ p. inl (p ∙ sym e)) inr (List·Memᴰ·cases-cons m),
+)
+taken {X} weight {z} (List·Memᴰ·tail {x = x} {xs = xs} m) =
+    let (rest, sum, out) = taken weight m in
+    (x ∷ rest, omega arith, λ w k. ⊎-elim (λ p. inr (List·Memᴰ·head p)) (λ i. ⊎-elim inl (λ j. inr (List·Memᴰ·tail j)) (out w i)) (List·Memᴰ·cases-cons k))
 
 -- ---- Elements apart
 
@@ -82,26 +117,31 @@ module _ {X : Type 0} {same : X → X → Bool} (is : IsSame same) where
       turn : same x y ≡ true → ⊥
       turn p = never-both (is .turned x y p) (or-fails-left (same y x) (some-of (same y) xs) e)
 
-  -- Elements apart, each the same as one of a list, are no more than that list has.
+  -- Elements apart, each the same as one of a list, weigh no more than that list.
+  pub apart-weigh : (weight : X → ℕ) → ((y z : X) → same y z ≡ true → weight y ≡ weight z) → (ms l : List X) → Apart same ms
+      → ((y : X) → List·Memᴰ y ms → (z : X) × List·Memᴰ z l × (same y z ≡ true)) → total (map weight ms) ≤ total (map weight l)
+  unfolding Apart total
+  apart-weigh weight alike [] l a h = omega arith
+  apart-weigh weight alike (y ∷ ms) l (none-same, a) h =
+      let (z, m, e) = h y (List·Memᴰ·head refl) in
+      let (rest, sum, out) = taken weight m in
+      let fewer = apart-weigh weight alike ms rest a (λ u k. go z e rest out u k (h u (List·Memᴰ·tail k))) in
+      let same-weight = alike y z e in
+      omega arith
+    where
+      go : (z : X) → same y z ≡ true → (rest : List X) → ((w : X) → List·Memᴰ w l → (w ≡ z) ⊎ List·Memᴰ w rest) → (u : X) → List·Memᴰ u ms
+          → (v : X) × List·Memᴰ v l × (same u v ≡ true) → (v : X) × List·Memᴰ v rest × (same u v ≡ true)
+      go z e rest out u k (v, m, f) =
+          ⊎-elim
+          (λ is-z.
+          absurd
+          (never-both (is .chained y z u e (is .turned u z (ap (same u) (sym is-z) ∙ f))) (some-none (same y) none-same k)))
+          (λ i. (v, i, f)) (out v m)
+
+  -- So there are no more of them than it has.
   pub apart-few : (ms l : List X) → Apart same ms → ((y : X) → List·Memᴰ y ms → (z : X) × List·Memᴰ z l × (same y z ≡ true))
       → length ms ≤ length l
-  apart-few [] l a h = omega arith
-  apart-few (d ∷ ms) l a h =
-      pigeonhole (λ i j. (i < length (d ∷ ms)) × (same (at i) (getD l j d) ≡ true)) (length (d ∷ ms)) (length l) give one
-    where
-      at : ℕ → X
-      at i = getD (d ∷ ms) i d
-
-      give : (i : ℕ) → i < length (d ∷ ms) → (j : ℕ) × (j < length l) × ((i < length (d ∷ ms)) × (same (at i) (getD l j d) ≡ true))
-      give i k =
-          let (z, m, e) = h (at i) (mem-getD (d ∷ ms) i d k) in
-          let (j, b, p) = mem-index d m in
-          (j, b, (k, ap (same (at i)) p ∙ e))
-
-      one : (i k j : ℕ) → (i < length (d ∷ ms)) × (same (at i) (getD l j d) ≡ true)
-          → (k < length (d ∷ ms)) × (same (at k) (getD l j d) ≡ true) → i ≡ k
-      one i k j (b, e) (c, f) =
-          apart-at (d ∷ ms) i k d a b c (is .chained (at i) (getD l j d) (at k) e (is .turned (at k) (getD l j d) f))
+  apart-few ms l a h = let w = apart-weigh once (λ y z e. refl) ms l a h in omega (arith, total-once ms, total-once l)
 
 -- What is apart by a test that each passes with itself is distinct.
 pub apart-distinct : {X : Type 0} (same : X → X → Bool) → ((x : X) → same x x ≡ true) → (xs : List X) → Apart same xs → Distinct xs
@@ -241,9 +281,9 @@ module _ {X : Type 0} (same : X → X → Bool) (followers : X → List X) where
   abbrev places : List X → List X → List (List ℕ)
   places l ys = map (λ y. map (λ f. place-of (same f) l) (followers y)) ys
 
-  module _ (most : ℕ) where
+  module _ (weight : X → ℕ) (most : ℕ) where
     abbrev searched : ℕ → List X → List X → List X
-    searched n seen todo = search-on same followers most n seen todo
+    searched n seen todo = search-on same followers weight most n seen todo
 
     -- What each turn keeps the search keeps.
     search-keeps : (P : List X → List X → Type 0)
@@ -253,7 +293,7 @@ module _ {X : Type 0} (same : X → X → Bool) (followers : X → List X) where
     search-keeps P step zero seen todo p = (todo, p)
     search-keeps P step (suc n) seen [] p = ([], p)
     search-keeps P step (suc n) seen (y ∷ todo) p =
-        go (ltb most (length seen)) (search-keeps P step n (seen ++ new seen y) (todo ++ new seen y) (step seen y todo p))
+        go (ltb most (total (map weight seen))) (search-keeps P step n (seen ++ new seen y) (todo ++ new seen y) (step seen y todo p))
       where
         l : List X
         l = searched n (seen ++ new seen y) (todo ++ new seen y)
@@ -283,15 +323,15 @@ module _ {X : Type 0} (same : X → X → Bool) (followers : X → List X) where
         }
 
     search-looks : IsSame same → (n : ℕ) (done todo seen l : List X) → seen ≡ done ++ todo → suc most ≤ n + length done
-        → l ≡ searched n seen todo → length l ≤ most → Looked done todo seen l
+        → l ≡ searched n seen todo → Few weight most l → Looked done todo seen l
     unfolding search-on MetInOrder
-    search-looks is zero done todo seen l e fuel is-l few = absurd (omega (arith, ap length is-l, ap length e, length-append done todo))
+    search-looks is zero done todo seen l e fuel is-l few = absurd (omega (arith, length-weight weight (few .heavy) l, few .light, ap length is-l, ap length e, length-append done todo))
     search-looks is (suc n) done [] seen l e fuel is-l few =
         record { more = []; grown = is-l ∙ sym (append-nil seen); order = ap length e ∙ ap length (append-nil done) }
     search-looks is (suc n) done (y ∷ todo) seen l e fuel is-l few =
         let less : suc most ≤ n + length (done ++ (y ∷ [])) = omega (arith, length-snoc done y) in
         let next = search-looks is n (done ++ (y ∷ [])) (todo ++ new seen y) (seen ++ new seen y) l moved less in
-        go (ltb most (length seen)) refl is-l (λ q. next q few)
+        go (ltb most (total (map weight seen))) refl is-l (λ q. next q few)
       where
         moved : seen ++ new seen y ≡ (done ++ (y ∷ [])) ++ (todo ++ new seen y)
         moved =
@@ -299,26 +339,26 @@ module _ {X : Type 0} (same : X → X → Bool) (followers : X → List X) where
             ∙ append-assoc done (y ∷ todo) (new seen y)
             ∙ sym (append-snoc done y (todo ++ new seen y))
 
-        go : (b : Bool) → ltb most (length seen) ≡ b → l ≡ pick b (λ _. seen) (λ _. searched n (seen ++ new seen y) (todo ++ new seen y))
+        go : (b : Bool) → ltb most (total (map weight seen)) ≡ b → l ≡ pick b (λ _. seen) (λ _. searched n (seen ++ new seen y) (todo ++ new seen y))
             → (l ≡ searched n (seen ++ new seen y) (todo ++ new seen y)
             → Looked (done ++ (y ∷ [])) (todo ++ new seen y) (seen ++ new seen y) l)
             → Looked done (y ∷ todo) seen l
-        go true p q ih = absurd (omega (arith, ltb-true most (length seen) p, ap length q))
+        go true p q ih = absurd (omega (arith, few .light, ltb-true most (total (map weight seen)) p, ap (λ (z : List X). total (map weight z)) q))
         go false p q ih = look is y done todo seen l e (ih q)
 
   -- ---- From one element on
 
-  module _ (most : ℕ) (x : X) where
+  module _ (weight : X → ℕ) (most : ℕ) (x : X) where
     -- what the search finds from x on
     abbrev found : List X
-    found = search-from same followers most x
+    found = search-from same followers weight most x
 
     -- What each turn keeps holds of what is found.
     found-keeps : (P : List X → List X → Type 0)
         → ((seen : List X) (y : X) (todo : List X) → P seen (y ∷ todo) → P (seen ++ new seen y) (todo ++ new seen y)) → P (x ∷ []) (x ∷ [])
         → (left : List X) × P found left
     unfolding search-from
-    found-keeps P step p = search-keeps most P step (suc most) (x ∷ []) (x ∷ []) p
+    found-keeps P step p = search-keeps weight most P step (suc most) (x ∷ []) (x ∷ []) p
 
     -- The search finds x first.
     pub search-first : (rest : List X) × (found ≡ x ∷ rest)
@@ -352,21 +392,16 @@ module _ {X : Type 0} (same : X → X → Bool) (followers : X → List X) where
     unfolding Apart some-of
     search-apart is = found-keeps (λ seen todo. Apart same seen) (λ seen y todo p. new-ones-apart is seen (followers y) p) (refl, tt) .1
 
-    -- Those that it finds at different indices are not one and the same.
-    pub search-apart-at : IsSame same → (i j : ℕ) (d : X) → i < length found → j < length found
-        → same (getD found i d) (getD found j d) ≡ true → i ≡ j
-    search-apart-at is i j d k l e = apart-at is found i j d (search-apart is) k l e
-
-    -- If it finds at most `most`, it meets them in order: row by row, each follower's place is one met already or the next, and at the end
+    -- If what it finds weighs at most `most`, it meets them in order: row by row, each follower's place is one met already or the next, and at the end
     -- all are read.
-    pub search-order : IsSame same → length found ≤ most → MetInOrder 0 1 (places found found)
+    pub search-order : IsSame same → Few weight most found → MetInOrder 0 1 (places found found)
     unfolding search-from
     search-order is few =
-        let k = search-looks most is (suc most) [] (x ∷ []) (x ∷ []) found refl (omega arith) refl few in
+        let k = search-looks weight most is (suc most) [] (x ∷ []) (x ∷ []) found refl (omega arith) refl few in
         subst (λ (ys : List X). MetInOrder 0 1 (places found ys)) (sym (k .grown)) (k .order)
 
-    -- If it finds at most `most`, each follower of one found is the same as one found.
-    pub search-closed : IsSame same → length found ≤ most → {y f : X} → List·Memᴰ y found → List·Memᴰ f (followers y)
+    -- If what it finds weighs at most `most`, each follower of one found is the same as one found.
+    pub search-closed : IsSame same → Few weight most found → {y f : X} → List·Memᴰ y found → List·Memᴰ f (followers y)
         → (z : X) × List·Memᴰ z found × (same f z ≡ true)
     search-closed is few {f = f} m k =
         let row = Memᴰ·map (λ y. map (λ f. place-of (same f) found) (followers y)) m in
@@ -375,8 +410,8 @@ module _ {X : Type 0} (same : X → X → Bool) (followers : X → List X) where
         let c : place-of (same f) found < length found = omega arith in
         (getD found (place-of (same f) found) f, mem-getD found (place-of (same f) found) f c, place-of-at (same f) found f c)
 
-    -- If it finds at most `most`, all that is reached is the same as one found.
-    pub search-all : Fitting same followers x → length found ≤ most → {y : X} → Reached followers x y
+    -- If what it finds weighs at most `most`, all that is reached is the same as one found.
+    pub search-all : Fitting same followers x → Few weight most found → {y : X} → Reached followers x y
         → (z : X) × List·Memᴰ z found × (same y z ≡ true)
     search-all fit few start =
         let (rest, e) = search-first in
@@ -387,55 +422,24 @@ module _ {X : Type 0} (same : X → X → Bool) (followers : X → List X) where
         let (w, n, q) = search-closed (fit .is-same) few m i in
         (w, n, fit .is-same .chained f g w p q)
 
-    -- If it finds at most `most`, elements that are reached and apart are no more than it finds.
-    pub search-few : Fitting same followers x → length found ≤ most → (ms : List X) → ((y : X) → List·Memᴰ y ms → Reached followers x y)
-        → Apart same ms → length ms ≤ length found
-    search-few fit few ms reached apart = apart-few (fit .is-same) ms found apart (λ y m. search-all fit few (reached y m))
-
-    -- If it finds more than `most`, there are more than `most` elements that are reached and apart.
-    pub search-many : IsSame same → most < length found
-        → (ms : List X) × (most < length ms) × ((y : X) → List·Memᴰ y ms → Reached followers x y) × Apart same ms
-    search-many is many = (found, many, λ y m. search-reached m, search-apart is)
-
-    -- If it finds at most `most`, what is reached has a place in what is found,
-    pub search-place : Fitting same followers x → length found ≤ most → {y : X} → Reached followers x y
-        → place-of (same y) found < length found
-    search-place fit few {y} r = let (z, m, e) = search-all fit few r in place-of-found (same y) m e
-
-    -- and the one at that place is the same.
-    pub search-at-place : Fitting same followers x → length found ≤ most → {y : X} (d : X) → Reached followers x y
-        → same y (getD found (place-of (same y) found) d) ≡ true
-    search-at-place fit few {y} d r = place-of-at (same y) found d (search-place fit few r)
-
-    -- One found has its own index for its place.
-    pub search-own-place : IsSame same → (i : ℕ) (d : X) → i < length found → place-of (same (getD found i d)) found ≡ i
-    search-own-place is i d k = place-of-first (same (getD found i d)) found i d k (is .itself (getD found i d)) earlier
-      where
-        earlier : (j : ℕ) → j < i → same (getD found i d) (getD found j d) ≡ false
-        earlier j h =
-            false-by
-            (same (getD found i d) (getD found j d))
-            (λ e. let q = search-apart-at is i j d k (omega arith) e in omega arith)
-
     -- ---- Where the test decides equality
 
     module _ (out : (y z : X) → same y z ≡ true → y ≡ z) (itself : (y : X) → same y y ≡ true) where
-      -- If it finds at most `most`, it finds all that is reached.
-      pub search-finds : length found ≤ most → {y : X} → Reached followers x y → List·Memᴰ y found
+      -- If what it finds weighs at most `most`, it finds all that is reached.
+      pub search-finds : Few weight most found → {y : X} → Reached followers x y → List·Memᴰ y found
       search-finds few {y} r =
           let (z, m, e) = search-all (decides-fitting same followers x out itself) few r in
           Memᴰ·cast (out y z e) m
 
-      -- If it finds at most `most`, no more than `most` distinct elements are reached.
-      pub search-at-most : length found ≤ most → (ms : List X) → Distinct ms → ((y : X) → List·Memᴰ y ms → Reached followers x y)
-          → length ms ≤ most
+      -- If what it finds weighs at most `most`, distinct elements that are reached weigh no more.
+      pub search-at-most : Few weight most found → (ms : List X) → Distinct ms → ((y : X) → List·Memᴰ y ms → Reached followers x y)
+          → total (map weight ms) ≤ most
       search-at-most few ms distinct reached =
-          let n = search-few (decides-fitting same followers x out itself) few ms reached (distinct-apart same out ms distinct) in
-          omega arith
+          let w =
+          apart-weigh (decides-same same out itself) weight (λ y z e. ap weight (out y z e)) ms found (distinct-apart same out ms distinct)
+          (λ y m. search-all (decides-fitting same followers x out itself) few (reached y m)) in
+          omega (arith, few .light)
 
-      -- If it finds more than `most`, more than `most` distinct elements are reached.
-      pub search-more : most < length found
-          → (ms : List X) × (most < length ms) × Distinct ms × ((y : X) → List·Memᴰ y ms → Reached followers x y)
-      search-more many =
-          let distinct = apart-distinct same itself found (search-apart (decides-same same out itself)) in
-          (found, many, distinct, λ y m. search-reached m)
+      -- What it finds is distinct, and reached.
+      pub search-distinct : Distinct found
+      search-distinct = apart-distinct same itself found (search-apart (decides-same same out itself))

@@ -7,7 +7,7 @@ use Rattle.base.specs.Text.{byte}
 use Rattle.base.specs.declared.Reason.{Reason}
 use Rattle.base.specs.declared.Reason.the-variants.{Start, Withheld, WrongStep, Stopped, Broken}
 use Rattle.base.specs.declared.Refusal.{Refusal}
-use Rattle.base.specs.declared.Refusal.the-variants.{TowerSize, Range, Action, Target, Mask, Grammar, Number, Mark, Limit, Timed, Pairs, NoTable, Layout, NotGood, Area, Output, Outside, NotAllowed}
+use Rattle.base.specs.declared.Refusal.the-variants.{TowerSize, Range, Action, Target, Mask, Grammar, Number, Mark, Limit, Timed, Pairs, NoTable, Layout, Area, Output, Outside, NotAllowed}
 use Rattle.base.specs.declared.BookAnswer.{BookAnswer}
 use Rattle.base.specs.declared.BookAnswer.the-variants as Book
 use Rattle.base.specs.declared.MakeAnswer.{MakeAnswer}
@@ -23,7 +23,7 @@ pub data Said : Type 0 where
   refused : (number place : ℕ) (inside : List ℕ) → Said
 
 -- a reason's place: the row for b to d, otherwise 0
-unfoldable pub row-of : Reason → ℕ
+abbrev pub row-of : Reason → ℕ
 row-of Start = 0
 row-of (Withheld row) = row
 row-of (WrongStep row) = row
@@ -31,33 +31,60 @@ row-of (Stopped row) = row
 row-of Broken = 0
 
 -- a reason's letter
-unfoldable pub letter-of : Reason → ℕ
+abbrev pub letter-of : Reason → ℕ
 letter-of Start = byte "a"
 letter-of (Withheld row) = byte "b"
 letter-of (WrongStep row) = byte "c"
 letter-of (Stopped row) = byte "d"
 letter-of Broken = byte "e"
 
--- number and place of every refusal
+-- the number of every refusal
+abbrev pub refusal-number : Refusal → ℕ
+refusal-number TowerSize = 1
+refusal-number Range = 2
+refusal-number Action = 3
+refusal-number Target = 4
+refusal-number Mask = 5
+refusal-number (Grammar line) = 6
+refusal-number (Number line) = 7
+refusal-number (Mark line) = 8
+refusal-number (Limit line) = 9
+refusal-number (Timed line) = 10
+refusal-number Pairs = 11
+refusal-number NoTable = 12
+refusal-number Layout = 13
+refusal-number Area = 15
+refusal-number Output = 16
+refusal-number Outside = 17
+refusal-number NotAllowed = 18
+
+-- its place: the line for 6 to 10, otherwise 0
+abbrev pub refusal-place : Refusal → ℕ
+refusal-place TowerSize = 0
+refusal-place Range = 0
+refusal-place Action = 0
+refusal-place Target = 0
+refusal-place Mask = 0
+refusal-place (Grammar line) = line
+refusal-place (Number line) = line
+refusal-place (Mark line) = line
+refusal-place (Limit line) = line
+refusal-place (Timed line) = line
+refusal-place Pairs = 0
+refusal-place NoTable = 0
+refusal-place Layout = 0
+refusal-place Area = 0
+refusal-place Output = 0
+refusal-place Outside = 0
+refusal-place NotAllowed = 0
+
+-- what is said of a refusal
 unfoldable pub refusal-said : Refusal → Said
-refusal-said TowerSize = refused 1 0 []
-refusal-said Range = refused 2 0 []
-refusal-said Action = refused 3 0 []
-refusal-said Target = refused 4 0 []
-refusal-said Mask = refused 5 0 []
-refusal-said (Grammar line) = refused 6 line []
-refusal-said (Number line) = refused 7 line []
-refusal-said (Mark line) = refused 8 line []
-refusal-said (Limit line) = refused 9 line []
-refusal-said (Timed line) = refused 10 line []
-refusal-said Pairs = refused 11 0 []
-refusal-said NoTable = refused 12 0 []
-refusal-said Layout = refused 13 0 []
-refusal-said (NotGood reason) = refused 14 (row-of reason) (letter-of reason ∷ [])
-refusal-said Area = refused 15 0 []
-refusal-said Output = refused 16 0 []
-refusal-said Outside = refused 17 0 []
-refusal-said NotAllowed = refused 18 0 []
+refusal-said r = refused (refusal-number r) (refusal-place r) []
+
+-- 14, with the reason's row as its place and the letter inside
+unfoldable pub reason-said : Reason → Said
+reason-said reason = refused 14 (row-of reason) (letter-of reason ∷ [])
 
 -- the book reader's values: how many lines and how many nodes
 unfoldable pub book-said : BookAnswer → Said
@@ -72,7 +99,7 @@ make-said (Make.Refused r) = refusal-said r
 -- the checker has no value but that the table is good
 unfoldable pub verdict-said : Verdict → Said
 verdict-said Check.Good = answered []
-verdict-said (Check.NotGood reason) = refusal-said (NotGood reason)
+verdict-said (Check.NotGood reason) = reason-said reason
 verdict-said (Check.Refused r) = refusal-said r
 
 -- the follower's value: the target row

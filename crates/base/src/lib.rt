@@ -15,7 +15,8 @@ pub enum Reason {
     Broken,
 }
 
-// Why a call is turned down, a case for each number of 01 in its order. A rule book's refusal carries its line.
+// Why a call is turned down, a case for each number of 01 in its order, but 14: a table that is not good is a case of
+// the checker's answer. A rule book's refusal carries its line.
 pub enum Refusal {
     // 1: the tower's length, or an offset in its header.
     TowerSize,
@@ -43,8 +44,6 @@ pub enum Refusal {
     NoTable,
     // 13: the table is not laid out as a table file, or not for this tower.
     Layout,
-    // 14: the table is not good.
-    NotGood(Reason),
     // 15: a work area is too short.
     Area,
     // 16: the output is too short.
@@ -70,6 +69,7 @@ pub enum MakeAnswer {
 // What the checker answers.
 pub enum Verdict {
     Good,
+    // 14: the table is not good.
     NotGood(Reason),
     Refused(Refusal),
 }

@@ -2,7 +2,7 @@
 use Prim.Native.Nat.{ℕ, suc, _+_, _-_, _≤_, _<_, max}
 use native.Mathlib.Omega.{arith}
 use native.Mathlib.Nat.{zero-max}
-use mathlib.Core.Path.{_≡_, refl, sym, _∙_, ap}
+use mathlib.Core.Path.{_≡_, refl, sym, _∙_, ap, ap₂}
 use mathlib.Core.Logic.{_⊎_, inl, inr}
 use mathlib.Core.Bool.{Bool, true, false, _||_, not}
 use mathlib.Core.Option.{Option, none, some}
@@ -20,7 +20,7 @@ use Rattle.logic.specs.Time.{ticks}
 use Rattle.logic.specs.Book.{Formula, constant, proposition, and, or, next, until, within}
 use Rattle.logic.specs.declared.Tick.{Tick}
 use Rattle.reading.specs.Tokens.{stands, skip, numeral, mark-named, mark-at, mark-token}
-use Rattle.reading.specs.Grammar.{Bound, no-bound, compared, optional, Connective, connective, connectives, BoundRead, bound-at, Parsed, bad, got, onward, behind, or-level, and-level, unit-level, or-rest, and-rest, joining, bracketed, two-parts, with-bound, led, marked-unit, unit-at, read-level, formula-one, formula-two, formula-at}
+use Rattle.reading.specs.Grammar.{Bound, no-bound, compared, optional, Connective, connective, connectives, BoundRead, bound-at, Parsed, bad, got, onward, behind, Level, or-level, and-level, unit-level, or-rest, and-rest, joining, bracketed, two-parts, with-bound, led, marked-unit, unit-at, read-level, formula-one, formula-two, formula-at}
 use Rattle.reading.specs.BookArea.{comparison-code}
 use Rattle.book_tokens.specs.Told.{place-behind, numeral-told, bound-told, bound-code, row-told, led-told, bound-by}
 use Rattle.book_tokens.specs.declared.Place.{Place}
@@ -33,41 +33,44 @@ use Rattle.book_tokens.specs.declared.Row.{Row}
 use Rattle.book_tokens.specs.declared.Led.{Led}
 use Rattle.book_tokens.specs.declared.Led.the-variants.{Nothing, By}
 use Rattle.book_tokens.proofs.Laws.{byte-inside, skip-ahead, numeral-missing, numeral-read}
-use Rattle.book_nodes.specs.State.{State, state-of, absorb, one-if, leaf, mark-node, last-node, bounded-node, until-node, Opens}
-use Rattle.book_nodes.proofs.Absorb.{absorb-constant, absorb-mark, absorb-open, absorb-and, absorb-or, absorb-next, absorb-always, absorb-until}
-use Rattle.book_formula.specs.Parse.{parse, Reads, not-of, is-read, Joint, by-or, by-and, whole-of, operand-of, rest-of, sign-of, node-of, Joins, left-at, mark-code, Marks, with-connective, led-at, Leads, one-code, ReadsOne, not-one, one-read, within-at, until-at, second-at, Ended, not-ended, is-ended, Seconds}
-use Rattle.book_formula.proofs.Ends.{stands-inside, bound-end, lettered, Ends, parse-eq, parse-ends}
+use Rattle.book_nodes.specs.State.{fault-at, State, state-of, usual-in, absorb, one-if, leaf, mark-node, last-node, bounded-node, until-node, Opens}
+use Rattle.book_nodes.proofs.Area.{leaf-usual, opens-usual}
+use Rattle.book_nodes.proofs.Absorb.{absorb-usual, absorb-constant, absorb-mark, absorb-open, absorb-and, absorb-or, absorb-next, absorb-always, absorb-until}
+use Rattle.book_formula.specs.Parse.{parse, Reads, not-of, is-read, Joint, by-or, by-and, whole-of, operand-of, rest-of, sign-of, node-of, Joins, left-at, mark-code, Marks, with-connective, led-at, LetterLeads, one-code, ReadsOne, not-one, one-read, within-at, until-at, second-at, Ended, not-ended, is-ended, Seconds}
+use Rattle.book_formula.proofs.Ends.{stands-inside, bound-end, lettered, parse-eq, or-ends, and-ends, unit-ends}
 
 -- ---- places
 
 -- Behind a byte that stands there.
-behind-on : (s : List ℕ) (p b q : ℕ) (pl : Place) (go : ℕ → Parsed) → pl ≡ place-behind s p b → pl ≡ At q → behind s p b go ≡ go q
-unfolding place-behind behind
-behind-on s p b q pl go e f = split (stands s (skip s p) b) refl
+placed : (s : List ℕ) (p b q : ℕ) (pl : Place) → pl ≡ place-behind s p b → pl ≡ At q → (stands s (skip s p) b ≡ true) × (skip s p + 1 ≡ q)
+unfolding place-behind
+placed s p b q pl e f = split (stands s (skip s p) b) refl
   where
-    split : (t : Bool) → stands s (skip s p) b ≡ t → pick (stands s (skip s p) b) (λ _. go (skip s p + 1)) (λ _. bad) ≡ go q
-    split true g = let h : pl ≡ At (skip s p + 1) = rw g at e in let k : skip s p + 1 ≡ q = cc in rw (g, k)
+    split : (t : Bool) → stands s (skip s p) b ≡ t → (stands s (skip s p) b ≡ true) × (skip s p + 1 ≡ q)
+    split true g = let h : pl ≡ At (skip s p + 1) = rw g at e in (g, let k : skip s p + 1 ≡ q = cc in k)
     split false g = let h : pl ≡ Nowhere = rw g at e in let z : _≡_ {A = ℕ} 0 1 = cc in absurd (omega arith)
 
-behind-off : (s : List ℕ) (p b : ℕ) (pl : Place) (go : ℕ → Parsed) → pl ≡ place-behind s p b → pl ≡ Nowhere → behind s p b go ≡ bad
-unfolding place-behind behind
-behind-off s p b pl go e f = split (stands s (skip s p) b) refl
+unplaced : (s : List ℕ) (p b : ℕ) (pl : Place) → pl ≡ place-behind s p b → pl ≡ Nowhere → stands s (skip s p) b ≡ false
+unfolding place-behind
+unplaced s p b pl e f = split (stands s (skip s p) b) refl
   where
-    split : (t : Bool) → stands s (skip s p) b ≡ t → pick (stands s (skip s p) b) (λ _. go (skip s p + 1)) (λ _. bad) ≡ bad
+    split : (t : Bool) → stands s (skip s p) b ≡ t → stands s (skip s p) b ≡ false
     split true g = let h : pl ≡ At (skip s p + 1) = rw g at e in let z : _≡_ {A = ℕ} 0 1 = cc in absurd (omega arith)
-    split false g = rw g
+    split false g = g
+
+behind-on : (s : List ℕ) (p b q : ℕ) (pl : Place) (go : ℕ → Parsed) → pl ≡ place-behind s p b → pl ≡ At q → behind s p b go ≡ go q
+unfolding behind
+behind-on s p b q pl go e f = let (g, k) = placed s p b q pl e f in rw (g, k)
+
+behind-off : (s : List ℕ) (p b : ℕ) (pl : Place) (go : ℕ → Parsed) → pl ≡ place-behind s p b → pl ≡ Nowhere → behind s p b go ≡ bad
+unfolding behind
+behind-off s p b pl go e f = rw (unplaced s p b pl e f)
 
 -- A place behind a byte lies ahead and inside the text.
 pub place-ahead : (s : List ℕ) (p b q : ℕ) (pl : Place) → 1 ≤ b → pl ≡ place-behind s p b → pl ≡ At q → (p < q) × (q ≤ length s)
-unfolding place-behind
-place-ahead s p b q pl one e f = split (stands s (skip s p) b) refl
-  where
-    split : (t : Bool) → stands s (skip s p) b ≡ t → (p < q) × (q ≤ length s)
-    split true g =
-        let h : pl ≡ At (skip s p + 1) = rw g at e in
-        let k : skip s p + 1 ≡ q = cc in
-        (omega (arith, skip-ahead s p), omega (arith, stands-inside s (skip s p) b one g))
-    split false g = let h : pl ≡ Nowhere = rw g at e in let z : _≡_ {A = ℕ} 0 1 = cc in absurd (omega arith)
+place-ahead s p b q pl one e f =
+    let (g, k) = placed s p b q pl e f in
+    (omega (arith, skip-ahead s p), omega (arith, stands-inside s (skip s p) b one g))
 
 -- ---- readings
 
@@ -77,18 +80,13 @@ reads-as e (not-of f g) = not-of (sym e ∙ f) g
 reads-as e (is-read f b g h) = is-read f b (sym e ∙ g) h
 
 -- A reading at one of the three levels that answers 0 is not of the grammar.
-pub or-ends : (s : List ℕ) (p : ℕ) (f : Formula) (b q : ℕ) → parse s or-level p ≡ got f b q → (p < q) × (q ≤ length s)
-unfolding Ends
-or-ends s p f b q e = parse-ends s or-level p f b q e
+operand-ends : (usual : ℕ) (j : Joint) (s : List ℕ) (p : ℕ) (f : Formula) (b q : ℕ) → parse usual s (operand-of j) p ≡ got f b q → (p < q) × (q ≤ length s)
+operand-ends usual by-or s p f b q e = and-ends usual s p f b q e
+operand-ends usual by-and s p f b q e = unit-ends usual s p f b q e
 
-unit-ends : (s : List ℕ) (p : ℕ) (f : Formula) (b q : ℕ) → parse s unit-level p ≡ got f b q → (p < q) × (q ≤ length s)
-unfolding Ends
-unit-ends s p f b q e = parse-ends s unit-level p f b q e
-
-operand-ends : (j : Joint) (s : List ℕ) (p : ℕ) (f : Formula) (b q : ℕ) → parse s (operand-of j) p ≡ got f b q → (p < q) × (q ≤ length s)
-unfolding Ends
-operand-ends by-or s p f b q e = parse-ends s and-level p f b q e
-operand-ends by-and s p f b q e = parse-ends s unit-level p f b q e
+-- The same reading, by an equal bound at an equal place.
+parse-moved : {u v : ℕ} (s : List ℕ) (level : Level) {p q : ℕ} → u ≡ v → p ≡ q → parse v s level q ≡ parse u s level p
+parse-moved s level e f = ap₂ (λ (x k : ℕ). parse x s level k) (sym e) (sym f)
 
 zero-bad : {x : Parsed} {room : ℕ} {a z : List ℕ} (s : List ℕ) (p r : ℕ)
     → ((f : Formula) (b q : ℕ) → x ≡ got f b q → (p < q) × (q ≤ length s)) → Reads r x room a z → r ≡ 0 → x ≡ bad
@@ -97,51 +95,33 @@ zero-bad s p r ends (is-read f b e h) g = let (l, i) = ends f b r e in absurd (o
 
 -- ---- joining
 
-whole-eq : (j : Joint) (s : List ℕ) (p : ℕ)
-    → parse s (whole-of j) p ≡ onward (parse s (operand-of j) p) (λ f b q. parse s (rest-of j f b) q)
+whole-eq : (usual : ℕ) (j : Joint) (s : List ℕ) (p : ℕ)
+    → parse usual s (whole-of j) p ≡ onward (parse usual s (operand-of j) p) (λ f b q. parse usual s (rest-of j f b) q)
 unfolding read-level
-whole-eq by-or s p = parse-eq s or-level p
-whole-eq by-and s p = parse-eq s and-level p
+whole-eq usual by-or s p = parse-eq usual s or-level p
+whole-eq usual by-and s p = parse-eq usual s and-level p
 
 abbrev join-of : Joint → Formula → Formula → Formula
 join-of by-or f g = or f g
 join-of by-and f g = and f g
 
-rest-eq : (j : Joint) (s : List ℕ) (f : Formula) (b p : ℕ)
-    → parse s (rest-of j f b) p
+rest-eq : (usual : ℕ) (j : Joint) (s : List ℕ) (f : Formula) (b p : ℕ)
+    → parse usual s (rest-of j f b) p
     ≡ pick (stands s (skip s p) (sign-of j))
-    (λ _. onward (parse s (operand-of j) (skip s (skip s p + 1))) (λ g more q. parse s (rest-of j (join-of j f g) (max b more)) q))
+    (λ _. onward (parse usual s (operand-of j) (skip s (skip s p + 1))) (λ g more q. parse usual s (rest-of j (join-of j f g) (max b more)) q))
     (λ _. got f b p)
 unfolding read-level joining
-rest-eq by-or s f b p = parse-eq s (or-rest f b) p
-rest-eq by-and s f b p = parse-eq s (and-rest f b) p
+rest-eq usual by-or s f b p = parse-eq usual s (or-rest f b) p
+rest-eq usual by-and s f b p = parse-eq usual s (and-rest f b) p
 
-rest-on : (j : Joint) (s : List ℕ) (f : Formula) (b p q : ℕ) (pl : Place) → pl ≡ place-behind s p (sign-of j) → pl ≡ At q
-    → parse s (rest-of j f b) p
-    ≡ onward (parse s (operand-of j) (skip s q)) (λ g more r. parse s (rest-of j (join-of j f g) (max b more)) r)
-unfolding place-behind
-rest-on j s f b p q pl e d = rest-eq j s f b p ∙ split (stands s (skip s p) (sign-of j)) refl
-  where
-    split : (t : Bool) → stands s (skip s p) (sign-of j) ≡ t
-        → pick (stands s (skip s p) (sign-of j))
-        (λ _. onward (parse s (operand-of j) (skip s (skip s p + 1))) (λ g more r. parse s (rest-of j (join-of j f g) (max b more)) r))
-        (λ _. got f b p)
-        ≡ onward (parse s (operand-of j) (skip s q)) (λ g more r. parse s (rest-of j (join-of j f g) (max b more)) r)
-    split true g = let h : pl ≡ At (skip s p + 1) = rw g at e in let k : skip s p + 1 ≡ q = cc in rw (g, k)
-    split false g = let h : pl ≡ Nowhere = rw g at e in let z : _≡_ {A = ℕ} 0 1 = cc in absurd (omega arith)
+rest-on : (usual : ℕ) (j : Joint) (s : List ℕ) (f : Formula) (b p q : ℕ) (pl : Place) → pl ≡ place-behind s p (sign-of j) → pl ≡ At q
+    → parse usual s (rest-of j f b) p
+    ≡ onward (parse usual s (operand-of j) (skip s q)) (λ g more r. parse usual s (rest-of j (join-of j f g) (max b more)) r)
+rest-on usual j s f b p q pl e d = let (g, k) = placed s p (sign-of j) q pl e d in rest-eq usual j s f b p ∙ rw (g, k)
 
-rest-off : (j : Joint) (s : List ℕ) (f : Formula) (b p : ℕ) (pl : Place) → pl ≡ place-behind s p (sign-of j) → pl ≡ Nowhere
-    → parse s (rest-of j f b) p ≡ got f b p
-unfolding place-behind
-rest-off j s f b p pl e d = rest-eq j s f b p ∙ split (stands s (skip s p) (sign-of j)) refl
-  where
-    split : (t : Bool) → stands s (skip s p) (sign-of j) ≡ t
-        → pick (stands s (skip s p) (sign-of j))
-        (λ _. onward (parse s (operand-of j) (skip s (skip s p + 1))) (λ g more r. parse s (rest-of j (join-of j f g) (max b more)) r))
-        (λ _. got f b p)
-        ≡ got f b p
-    split true g = let h : pl ≡ At (skip s p + 1) = rw g at e in let z : _≡_ {A = ℕ} 0 1 = cc in absurd (omega arith)
-    split false g = rw g
+rest-off : (usual : ℕ) (j : Joint) (s : List ℕ) (f : Formula) (b p : ℕ) (pl : Place) → pl ≡ place-behind s p (sign-of j) → pl ≡ Nowhere
+    → parse usual s (rest-of j f b) p ≡ got f b p
+rest-off usual j s f b p pl e d = rest-eq usual j s f b p ∙ rw (unplaced s p (sign-of j) pl e d)
 
 absorb-joint : (j : Joint) (room b c : ℕ) (f g : Formula) (st : State)
     → node-of j (last-node (absorb room b f st)) (absorb room b f st .is-timed) (absorb room c g (absorb room b f st))
@@ -163,48 +143,51 @@ sign-some by-and = omega arith
 
 module _ (j : Joint) where
   -- The first operand is not of the grammar.
-  pub first-bad : (s : List ℕ) (at room r : ℕ) (a y : List ℕ) → Reads r (parse s (operand-of j) at) room a y → r ≡ 0
-      → Reads 0 (parse s (whole-of j) at) room a y
+  pub first-bad : (s : List ℕ) (at room r : ℕ) (a y : List ℕ) → Reads r (parse (usual-in a) s (operand-of j) at) room a y → r ≡ 0
+      → Reads 0 (parse (usual-in a) s (whole-of j) at) room a y
   first-bad s at room r a y h e =
-      not-of (whole-eq j s at ∙ onward-bad (parse s (operand-of j) at) _ (zero-bad s at r (operand-ends j s at) h e)) refl
+      not-of (whole-eq (usual-in a) j s at ∙ onward-bad (parse (usual-in a) s (operand-of j) at) _ (zero-bad s at r (operand-ends (usual-in a) j s at) h e)) refl
 
-  pub joins-start : (s : List ℕ) (room p : ℕ) (a : List ℕ) → Joins j s room p a p a
-  joins-start s room p a = record { ahead = omega arith; long = refl; from = λ st f b e. (f, b, refl, e) }
+  pub joins-start : (s : List ℕ) (at room r : ℕ) (a y : List ℕ) → Reads r (parse (usual-in a) s (operand-of j) at) room a y → (r ≡ 0 → ⊥)
+      → Joins j s at room r y r y
+  joins-start s at room r a y (not-of e f) n = absurd (n f)
+  joins-start s at room r a y (is-read g c e k) n =
+      let (l, i) = operand-ends (usual-in a) j s at g c r e in record { ahead = l; long = refl; from = λ st f b h. (f, b, refl, h) }
 
   -- What the whole is, once the first operand was read and some were joined to it.
-  joined-whole : (s : List ℕ) (at room r : ℕ) (a y : List ℕ) (q : ℕ) (z : List ℕ) → Reads r (parse s (operand-of j) at) room a y
-      → (r ≡ 0 → ⊥) → Joins j s room r y q z
-      → (g : Formula) × (c : ℕ) × (parse s (whole-of j) at ≡ parse s (rest-of j g c) q) × (state-of z ≡ absorb room c g (state-of a))
+  joined-whole : (s : List ℕ) (at room r : ℕ) (a y : List ℕ) (q : ℕ) (z : List ℕ) → Reads r (parse (usual-in a) s (operand-of j) at) room a y
+      → (r ≡ 0 → ⊥) → Joins j s at room r y q z
+      → (g : Formula) × (c : ℕ) × (parse (usual-in a) s (whole-of j) at ≡ parse (usual-in a) s (rest-of j g c) q) × (state-of z ≡ absorb room c g (state-of a))
   joined-whole s at room r a y q z (not-of e f) n h = absurd (n f)
   joined-whole s at room r a y q z (is-read f b e k) n h =
       let (g, c, same, st) = h .from (state-of a) f b k in
-      (g, c, whole-eq j s at ∙ onward-got (parse s (operand-of j) at) _ f b r e ∙ same, st)
+      (g, c, whole-eq (usual-in a) j s at ∙ onward-got (parse (usual-in a) s (operand-of j) at) _ f b r e ∙ same, st)
 
   -- Nothing more is joined.
-  pub joins-end : (s : List ℕ) (at room r : ℕ) (a y : List ℕ) (q : ℕ) (z : List ℕ) (pl : Place) → Reads r (parse s (operand-of j) at) room a y
-      → (r ≡ 0 → ⊥) → Joins j s room r y q z → pl ≡ place-behind s q (sign-of j) → pl ≡ Nowhere → Reads q (parse s (whole-of j) at) room a z
+  pub joins-end : (s : List ℕ) (at room r : ℕ) (a y : List ℕ) (q : ℕ) (z : List ℕ) (pl : Place) → Reads r (parse (usual-in a) s (operand-of j) at) room a y
+      → (r ≡ 0 → ⊥) → Joins j s at room r y q z → pl ≡ place-behind s q (sign-of j) → pl ≡ Nowhere → Reads q (parse (usual-in a) s (whole-of j) at) room a z
   joins-end s at room r a y q z pl h n k e f =
       let (g, c, same, st) = joined-whole s at room r a y q z h n k in
-      is-read g c (same ∙ rest-off j s g c q pl e f) st
+      is-read g c (same ∙ rest-off (usual-in a) j s g c q pl e f) st
 
   -- The next operand is not of the grammar.
   pub joins-bad : (s : List ℕ) (at room r : ℕ) (a y : List ℕ) (q : ℕ) (u : List ℕ) (pl : Place) (v w after : ℕ) (z : List ℕ)
-      → Reads r (parse s (operand-of j) at) room a y → (r ≡ 0 → ⊥) → Joins j s room r y q u → pl ≡ place-behind s q (sign-of j) → pl ≡ At v
-      → w ≡ skip s v → Reads after (parse s (operand-of j) w) room u z → after ≡ 0 → Reads 0 (parse s (whole-of j) at) room a z
+      → Reads r (parse (usual-in a) s (operand-of j) at) room a y → (r ≡ 0 → ⊥) → Joins j s at room r y q u → pl ≡ place-behind s q (sign-of j) → pl ≡ At v
+      → w ≡ skip s v → Reads after (parse (usual-in u) s (operand-of j) w) room u z → after ≡ 0 → Reads 0 (parse (usual-in a) s (whole-of j) at) room a z
   joins-bad s at room r a y q u pl v w after z h n k e f d m o =
       let (g, c, same, st) = joined-whole s at room r a y q u h n k in
-      not-of (same ∙ rest-on j s g c q v pl e f
-      ∙ onward-bad (parse s (operand-of j) (skip s v)) _ (ap (parse s (operand-of j)) (sym d) ∙ zero-bad s w after (operand-ends j s w) m o)) refl
+      not-of (same ∙ rest-on (usual-in a) j s g c q v pl e f
+      ∙ onward-bad (parse (usual-in a) s (operand-of j) (skip s v)) _ (parse-moved s (operand-of j) (absorb-usual u room c g (state-of a) st) d ∙ zero-bad s w after (operand-ends (usual-in u) j s w) m o)) refl
 
   -- One more operand is joined.
-  pub joins-more : (s : List ℕ) (room p : ℕ) (a : List ℕ) (q : ℕ) (u : List ℕ) (pl : Place) (v w first t after : ℕ) (x z : List ℕ)
-      → Joins j s room p a q u → pl ≡ place-behind s q (sign-of j) → pl ≡ At v → w ≡ skip s v → first ≡ last-node (state-of u)
-      → t ≡ state-of u .is-timed → Reads after (parse s (operand-of j) w) room u x → (after ≡ 0 → ⊥)
-      → state-of z ≡ node-of j first t (state-of x) → length z ≡ length u → Joins j s room p a after z
-  joins-more s room p a q u pl v w first t after x z h e f d k l (not-of o m) n g len = absurd (n m)
-  joins-more s room p a q u pl v w first t after x z h e f d k l (is-read i c o m) n g len =
+  pub joins-more : (s : List ℕ) (at room p : ℕ) (a : List ℕ) (q : ℕ) (u : List ℕ) (pl : Place) (v w first t after : ℕ) (x z : List ℕ)
+      → Joins j s at room p a q u → pl ≡ place-behind s q (sign-of j) → pl ≡ At v → w ≡ skip s v → first ≡ last-node (state-of u)
+      → t ≡ state-of u .is-timed → Reads after (parse (usual-in u) s (operand-of j) w) room u x → (after ≡ 0 → ⊥)
+      → state-of z ≡ node-of j first t (state-of x) → length z ≡ length u → Joins j s at room p a after z
+  joins-more s at room p a q u pl v w first t after x z h e f d k l (not-of o m) n g len = absurd (n m)
+  joins-more s at room p a q u pl v w first t after x z h e f d k l (is-read i c o m) n g len =
       let (more, inside) = place-ahead s q (sign-of j) v pl (sign-some j) e f in
-      let (l', i') = operand-ends j s w i c after o in
+      let (l', i') = operand-ends (usual-in u) j s w i c after o in
       record {
         ahead = omega (arith, h .ahead, skip-ahead s v);
         long = len ∙ h .long;
@@ -212,12 +195,13 @@ module _ (j : Joint) where
       }
     where
       joins-one : (st : State) (f' : Formula) (b : ℕ)
-          → (g' : Formula) × (d' : ℕ) × (parse s (rest-of j f' b) p ≡ parse s (rest-of j g' d') q) × (state-of u ≡ absorb room d' g' st)
-          → (g'' : Formula) × (d'' : ℕ) × (parse s (rest-of j f' b) p ≡ parse s (rest-of j g'' d'') after) × (state-of z ≡ absorb room d'' g'' st)
+          → (g' : Formula) × (d' : ℕ) × (parse (st .usual) s (rest-of j f' b) p ≡ parse (st .usual) s (rest-of j g' d') q) × (state-of u ≡ absorb room d' g' st)
+          → (g'' : Formula) × (d'' : ℕ) × (parse (st .usual) s (rest-of j f' b) p ≡ parse (st .usual) s (rest-of j g'' d'') after) × (state-of z ≡ absorb room d'' g'' st)
       joins-one st f' b (g', d', same, held) = (
         join-of j g' i,
         max d' c,
-        same ∙ rest-on j s g' d' q v pl e f ∙ onward-got (parse s (operand-of j) (skip s v)) _ i c after (ap (parse s (operand-of j)) (sym d) ∙ o),
+        same ∙ rest-on (st .usual) j s g' d' q v pl e f
+            ∙ onward-got (parse (st .usual) s (operand-of j) (skip s v)) _ i c after (parse-moved s (operand-of j) (absorb-usual u room d' g' st held) d ∙ o),
         rw (g, m, k, l, held) (absorb-joint j room d' c g' i st),
       )
 
@@ -234,57 +218,57 @@ no-bit = refl
 
 -- ---- units
 
-unit-eq : (s : List ℕ) (p : ℕ) → parse s unit-level p ≡ unit-at s p (parse s)
+unit-eq : (usual : ℕ) (s : List ℕ) (p : ℕ) → parse usual s unit-level p ≡ unit-at usual s p (parse usual s)
 unfolding read-level
-unit-eq s p = parse-eq s unit-level p
+unit-eq usual s p = parse-eq usual s unit-level p
 
 -- The least number of a refusal in an area is a byte.
 pub byte-fault : (a : List ℕ) → ((i : ℕ) → Fits w8 (getD a i 0)) → state-of a .fault ≤ 255
 unfolding state-of
-byte-fault a h = omega (arith, h 361)
+byte-fault a h = omega (arith, h fault-at)
 
-pub unit-open : (s : List ℕ) (at b room r : ℕ) (a z : List ℕ) → b ≡ byte-at s at → b ≡ 40 → Reads r (bracketed s at (parse s)) room a z
-    → Reads r (parse s unit-level at) room a z
+pub unit-open : (s : List ℕ) (at b room r : ℕ) (a z : List ℕ) → b ≡ byte-at s at → b ≡ 40 → Reads r (bracketed s at (parse (usual-in a) s)) room a z
+    → Reads r (parse (usual-in a) s unit-level at) room a z
 unfolding unit-at stands
-unit-open s at b room r a z e f h = reads-as (sym (unit-eq s at ∙ rw (eq-eqb (byte-at s at) 40 (sym e ∙ f)))) h
+unit-open s at b room r a z e f h = reads-as (sym (unit-eq (usual-in a) s at ∙ rw (eq-eqb (byte-at s at) 40 (sym e ∙ f)))) h
 
 pub unit-negated : (s : List ℕ) (at b room r : ℕ) (a z : List ℕ) → b ≡ byte-at s at → b ≡ 33 → Marks r false s (at + 1) a z
-    → Reads r (parse s unit-level at) room a z
+    → Reads r (parse (usual-in a) s unit-level at) room a z
 unfolding unit-at stands mark-token
-unit-negated s at b room r a z e f h = reads-as (sym (unit-eq s at ∙ rw (sym e ∙ f))) (h .reads room)
+unit-negated s at b room r a z e f h = reads-as (sym (unit-eq (usual-in a) s at ∙ rw (sym e ∙ f))) (h .reads room)
 
 pub unit-marked : (s : List ℕ) (at b room r : ℕ) (a z : List ℕ) → b ≡ byte-at s at → b ≡ 112 → Marks r true s at a z
-    → Reads r (parse s unit-level at) room a z
+    → Reads r (parse (usual-in a) s unit-level at) room a z
 unfolding unit-at stands mark-token
-unit-marked s at b room r a z e f h = reads-as (sym (unit-eq s at ∙ rw (sym e ∙ f))) (h .reads room)
+unit-marked s at b room r a z e f h = reads-as (sym (unit-eq (usual-in a) s at ∙ rw (sym e ∙ f))) (h .reads room)
 
 pub unit-true : (s : List ℕ) (at b room : ℕ) (a z : List ℕ) → ((i : ℕ) → Fits w8 (getD a i 0)) → b ≡ byte-at s at → b ≡ 84
-    → state-of z ≡ leaf 1 0 (state-of a) → Reads (at + 1) (parse s unit-level at) room a z
+    → state-of z ≡ leaf 1 0 (state-of a) → Reads (at + 1) (parse (usual-in a) s unit-level at) room a z
 unfolding unit-at stands led connective connectives
 unit-true s at b room a z bytes e f h =
-    is-read (constant true) 0 (unit-eq s at ∙ rw (sym e ∙ f, sym e ∙ f)) (h ∙ constant-held room true 1 (state-of a) one-bit (byte-fault a bytes))
+    is-read (constant true) 0 (unit-eq (usual-in a) s at ∙ rw (sym e ∙ f, sym e ∙ f)) (h ∙ constant-held room true 1 (state-of a) one-bit (byte-fault a bytes))
 
 pub unit-false : (s : List ℕ) (at b room : ℕ) (a z : List ℕ) → ((i : ℕ) → Fits w8 (getD a i 0)) → b ≡ byte-at s at → b ≡ 70
-    → state-of z ≡ leaf 0 0 (state-of a) → Reads (at + 1) (parse s unit-level at) room a z
+    → state-of z ≡ leaf 0 0 (state-of a) → Reads (at + 1) (parse (usual-in a) s unit-level at) room a z
 unfolding unit-at stands led connective connectives
 unit-false s at b room a z bytes e f h =
-    is-read (constant false) 0 (unit-eq s at ∙ rw (sym e ∙ f, sym e ∙ f)) (h ∙ constant-held room false 0 (state-of a) no-bit (byte-fault a bytes))
+    is-read (constant false) 0 (unit-eq (usual-in a) s at ∙ rw (sym e ∙ f, sym e ∙ f)) (h ∙ constant-held room false 0 (state-of a) no-bit (byte-fault a bytes))
 
-led-whole : (s : List ℕ) (p : ℕ) (o : Option Connective) → (byte-at s p ≡ 84 → ⊥) → (byte-at s p ≡ 70 → ⊥) → led s p o (parse s) ≡ with-connective s p o
+led-whole : (usual : ℕ) (s : List ℕ) (p : ℕ) (o : Option Connective) → (byte-at s p ≡ 84 → ⊥) → (byte-at s p ≡ 70 → ⊥) → led usual s p o (parse usual s) ≡ with-connective usual s p o
 unfolding led with-connective stands
-led-whole s p none n m = refl
-led-whole s p (some c) n m = rw (ne-eqb (byte-at s p) 84 n, ne-eqb (byte-at s p) 70 m)
+led-whole usual s p none n m = refl
+led-whole usual s p (some c) n m = rw (ne-eqb (byte-at s p) 84 n, ne-eqb (byte-at s p) 70 m)
 
 pub unit-led : (s : List ℕ) (at b room r : ℕ) (a z : List ℕ) → b ≡ byte-at s at → (b ≡ 40 → ⊥) → (b ≡ 33 → ⊥) → (b ≡ 112 → ⊥)
-    → (b ≡ 84 → ⊥) → (b ≡ 70 → ⊥) → Leads r b s at room a z → Reads r (parse s unit-level at) room a z
+    → (b ≡ 84 → ⊥) → (b ≡ 70 → ⊥) → LetterLeads r b s at room a z → Reads r (parse (usual-in a) s unit-level at) room a z
 unfolding unit-at stands led-at
 unit-led s at b room r a z e n1 n2 n3 n4 n5 h =
-    reads-as (sym (unit-eq s at ∙ rw (
+    reads-as (sym (unit-eq (usual-in a) s at ∙ rw (
       ne-eqb (byte-at s at) 40 (λ f. n1 (e ∙ f)),
       ne-eqb (byte-at s at) 33 (λ f. n2 (e ∙ f)),
       ne-eqb (byte-at s at) 112 (λ f. n3 (e ∙ f)),
       e,
-    ) (led-whole s at (connective connectives (byte-at s at)) (λ f. n4 (e ∙ f)) (λ f. n5 (e ∙ f))))) (h .reads)
+    ) (led-whole (usual-in a) s at (connective connectives (byte-at s at)) (λ f. n4 (e ∙ f)) (λ f. n5 (e ∙ f))))) (h .reads)
 
 -- The byte of a unit stands inside the text.
 pub letter-inside : (s : List ℕ) (at b v : ℕ) → b ≡ byte-at s at → b ≡ v → 1 ≤ v → at < length s
@@ -324,55 +308,57 @@ code-without wanted e = rw e
 
 -- ---- brackets
 
-pub bracketed-bad : (s : List ℕ) (at room inner k r : ℕ) (a y z : List ℕ) → k ≡ skip s (at + 1) → Reads r (parse s or-level k) inner y z → r ≡ 0
-    → Reads 0 (bracketed s at (parse s)) room a z
+pub bracketed-bad : (s : List ℕ) (at room inner k r : ℕ) (a y z : List ℕ) → Opens inner room a y → k ≡ skip s (at + 1)
+    → Reads r (parse (usual-in y) s or-level k) inner y z → r ≡ 0
+    → Reads 0 (bracketed s at (parse (usual-in a) s)) room a z
 unfolding bracketed
-bracketed-bad s at room inner k r a y z e h f =
-    not-of (onward-bad (parse s or-level (skip s (at + 1))) _ (ap (parse s or-level) (sym e) ∙ zero-bad s k r (or-ends s k) h f)) refl
+bracketed-bad s at room inner k r a y z o e h f =
+    not-of (onward-bad (parse (usual-in a) s or-level (skip s (at + 1))) _ (parse-moved s or-level (opens-usual o) e ∙ zero-bad s k r (or-ends (usual-in y) s k) h f)) refl
 
-pub bracketed-open : (s : List ℕ) (at room inner k r : ℕ) (a y z : List ℕ) (pl : Place) → k ≡ skip s (at + 1)
-    → Reads r (parse s or-level k) inner y z → (r ≡ 0 → ⊥) → pl ≡ place-behind s r 41 → pl ≡ Nowhere → Reads 0 (bracketed s at (parse s)) room a z
+pub bracketed-open : (s : List ℕ) (at room inner k r : ℕ) (a y z : List ℕ) (pl : Place) → Opens inner room a y → k ≡ skip s (at + 1)
+    → Reads r (parse (usual-in y) s or-level k) inner y z → (r ≡ 0 → ⊥) → pl ≡ place-behind s r 41 → pl ≡ Nowhere → Reads 0 (bracketed s at (parse (usual-in a) s)) room a z
 unfolding bracketed
-bracketed-open s at room inner k r a y z pl e (not-of f g) n d m = absurd (n g)
-bracketed-open s at room inner k r a y z pl e (is-read f b g h) n d m =
-    not-of (onward-got (parse s or-level (skip s (at + 1))) _ f b r (ap (parse s or-level) (sym e) ∙ g) ∙ behind-off s r 41 pl _ d m) refl
+bracketed-open s at room inner k r a y z pl o e (not-of f g) n d m = absurd (n g)
+bracketed-open s at room inner k r a y z pl o e (is-read f b g h) n d m =
+    not-of (onward-got (parse (usual-in a) s or-level (skip s (at + 1))) _ f b r (parse-moved s or-level (opens-usual o) e ∙ g) ∙ behind-off s r 41 pl _ d m) refl
 
 pub bracketed-read : (s : List ℕ) (at room inner k r q : ℕ) (a y z : List ℕ) (pl : Place) → ((i : ℕ) → Fits w8 (getD a i 0)) → Opens inner room a y
-    → k ≡ skip s (at + 1) → Reads r (parse s or-level k) inner y z → (r ≡ 0 → ⊥) → pl ≡ place-behind s r 41 → pl ≡ At q
-    → Reads q (bracketed s at (parse s)) room a z
+    → k ≡ skip s (at + 1) → Reads r (parse (usual-in y) s or-level k) inner y z → (r ≡ 0 → ⊥) → pl ≡ place-behind s r 41 → pl ≡ At q
+    → Reads q (bracketed s at (parse (usual-in a) s)) room a z
 unfolding bracketed
 bracketed-read s at room inner k r q a y z pl bytes o e (not-of f g) n d m = absurd (n g)
 bracketed-read s at room inner k r q a y z pl bytes o e (is-read f b g h) n d m =
-    is-read f (suc b) (onward-got (parse s or-level (skip s (at + 1))) _ f b r (ap (parse s or-level) (sym e) ∙ g) ∙ behind-on s r 41 q pl _ d m)
+    is-read f (suc b) (onward-got (parse (usual-in a) s or-level (skip s (at + 1))) _ f b r (parse-moved s or-level (opens-usual o) e ∙ g) ∙ behind-on s r 41 q pl _ d m)
     (rw (h, o .state, o .inner) (absorb-open room b f (state-of a) (byte-fault a bytes)))
 
 -- ---- `N`, `A` and `E`
 
-pub one-bad : (s : List ℕ) (at code amount room k r : ℕ) (a z : List ℕ) → k ≡ skip s at → Reads r (parse s unit-level k) room a z → r ≡ 0
-    → ReadsOne 0 (parse s unit-level (skip s at)) code amount room a z
-one-bad s at code amount room k r a z e h f = not-one (ap (parse s unit-level) (sym e) ∙ zero-bad s k r (unit-ends s k) h f) refl
+pub one-bad : (s : List ℕ) (at code amount room k r : ℕ) (a z : List ℕ) → k ≡ skip s at → Reads r (parse (usual-in a) s unit-level k) room a z → r ≡ 0
+    → ReadsOne 0 (parse (usual-in a) s unit-level (skip s at)) code amount room a z
+one-bad s at code amount room k r a z e h f = not-one (ap (parse (usual-in a) s unit-level) (sym e) ∙ zero-bad s k r (unit-ends (usual-in a) s k) h f) refl
 
-pub one-put : (s : List ℕ) (at code amount room k r : ℕ) (a y z : List ℕ) → k ≡ skip s at → Reads r (parse s unit-level k) room a y
-    → (r ≡ 0 → ⊥) → state-of z ≡ bounded-node code amount 0 (state-of y) → ReadsOne r (parse s unit-level (skip s at)) code amount room a z
+pub one-put : (s : List ℕ) (at code amount room k r : ℕ) (a y z : List ℕ) → k ≡ skip s at → Reads r (parse (usual-in a) s unit-level k) room a y
+    → (r ≡ 0 → ⊥) → state-of z ≡ bounded-node code amount 0 (state-of y) → ReadsOne r (parse (usual-in a) s unit-level (skip s at)) code amount room a z
 one-put s at code amount room k r a y z e (not-of f g) n h = absurd (n g)
 one-put s at code amount room k r a y z e (is-read f b g d) n h =
-    one-read f b (ap (parse s unit-level) (sym e) ∙ g) (h ∙ ap (bounded-node code amount 0) d)
+    one-read f b (ap (parse (usual-in a) s unit-level) (sym e) ∙ g) (h ∙ ap (bounded-node code amount 0) d)
 
-pub within-bad : (s : List ℕ) (at amount room k r : ℕ) (a y z : List ℕ) → k ≡ skip s at → Reads r (parse s unit-level k) room y z → r ≡ 0
-    → Reads 0 (within-at s at amount) room a z
+pub within-bad : (s : List ℕ) (at amount room k r : ℕ) (a y z : List ℕ) → state-of y ≡ leaf 1 0 (state-of a) → k ≡ skip s at
+    → Reads r (parse (usual-in y) s unit-level k) room y z → r ≡ 0
+    → Reads 0 (within-at (usual-in a) s at amount) room a z
 unfolding within-at
-within-bad s at amount room k r a y z e h f =
-    not-of (onward-bad (parse s unit-level (skip s at)) _ (ap (parse s unit-level) (sym e) ∙ zero-bad s k r (unit-ends s k) h f)) refl
+within-bad s at amount room k r a y z t e h f =
+    not-of (onward-bad (parse (usual-in a) s unit-level (skip s at)) _ (parse-moved s unit-level (leaf-usual a y 1 0 t) e ∙ zero-bad s k r (unit-ends (usual-in y) s k) h f)) refl
 
 pub within-read : (s : List ℕ) (at amount room k r first : ℕ) (a y u z : List ℕ) → ((i : ℕ) → Fits w8 (getD a i 0))
-    → state-of y ≡ leaf 1 0 (state-of a) → first ≡ last-node (state-of y) → k ≡ skip s at → Reads r (parse s unit-level k) room y u
-    → (r ≡ 0 → ⊥) → state-of z ≡ until-node amount first (state-of u) → Reads r (within-at s at amount) room a z
+    → state-of y ≡ leaf 1 0 (state-of a) → first ≡ last-node (state-of y) → k ≡ skip s at → Reads r (parse (usual-in y) s unit-level k) room y u
+    → (r ≡ 0 → ⊥) → state-of z ≡ until-node amount first (state-of u) → Reads r (within-at (usual-in a) s at amount) room a z
 unfolding within-at within
 within-read s at amount room k r first a y u z bytes t l e (not-of f g) n h = absurd (n g)
 within-read s at amount room k r first a y u z bytes t l e (is-read f b g d) n h =
     let held : state-of y ≡ absorb room 0 (constant true) (state-of a) = t ∙ constant-held room true 1 (state-of a) one-bit (byte-fault a bytes) in
     is-read (until (ticks amount) (constant true) f) b
-    (onward-got (parse s unit-level (skip s at)) _ f b r (ap (parse s unit-level) (sym e) ∙ g))
+    (onward-got (parse (usual-in a) s unit-level (skip s at)) _ f b r (parse-moved s unit-level (leaf-usual a y 1 0 t) e ∙ g))
     (rw (h, d, l, held)
     (absorb-until room 0 b amount (constant true) f (state-of a)
     ∙ ap (λ (m : ℕ). absorb room m (until (ticks amount) (constant true) f) (state-of a)) (zero-max b)))
@@ -380,39 +366,42 @@ within-read s at amount room k r first a y u z bytes t l e (is-read f b g d) n h
 -- ---- `U`
 
 pub two-unopened : (s : List ℕ) (at amount room : ℕ) (a : List ℕ) (pl : Place) → pl ≡ place-behind s at 40 → pl ≡ Nowhere
-    → Reads 0 (until-at s at amount) room a a
+    → Reads 0 (until-at (usual-in a) s at amount) room a a
 unfolding until-at two-parts
 two-unopened s at amount room a pl e f = not-of (behind-off s at 40 pl _ e f) refl
 
-module _ (s : List ℕ) (at amount p : ℕ) (pl : Place) where
+module _ (usual : ℕ) (s : List ℕ) (at amount p : ℕ) (pl : Place) where
   two-first : (k : ℕ) → pl ≡ place-behind s at 40 → pl ≡ At p → k ≡ skip s p
-      → until-at s at amount
-      ≡ onward (parse s or-level k) (λ f b r.
-      behind s r 44 (λ u. onward (parse s or-level (skip s u)) (λ g c v. behind s v 41 (λ w. got (until (ticks amount) f g) (suc (max b c)) w))))
+      → until-at usual s at amount
+      ≡ onward (parse usual s or-level k) (λ f b r.
+      behind s r 44 (λ u. onward (parse usual s or-level (skip s u)) (λ g c v. behind s v 41 (λ w. got (until (ticks amount) f g) (suc (max b c)) w))))
   unfolding until-at two-parts
   two-first k e f d = behind-on s at 40 p pl _ e f ∙ rw d
 
-two-second : (s : List ℕ) (at amount p k r b : ℕ) (i : Formula) (pl : Place) → pl ≡ place-behind s at 40 → pl ≡ At p
-    → k ≡ skip s p → parse s or-level k ≡ got i b r → until-at s at amount ≡ second-at s r amount i b
+two-second : (usual : ℕ) (s : List ℕ) (at amount p k r b : ℕ) (i : Formula) (pl : Place) → pl ≡ place-behind s at 40 → pl ≡ At p
+    → k ≡ skip s p → parse usual s or-level k ≡ got i b r → until-at usual s at amount ≡ second-at usual s r amount i b
 unfolding second-at
-two-second s at amount p k r b i pl e f d m = two-first s at amount p pl k e f d ∙ onward-got (parse s or-level k) _ i b r m
+two-second usual s at amount p k r b i pl e f d m = two-first usual s at amount p pl k e f d ∙ onward-got (parse usual s or-level k) _ i b r m
 
-pub two-bad : (s : List ℕ) (at amount room p k inner r : ℕ) (a y z : List ℕ) (pl : Place) → pl ≡ place-behind s at 40 → pl ≡ At p → k ≡ skip s p
-    → Reads r (parse s or-level k) inner y z → r ≡ 0 → Reads 0 (until-at s at amount) room a z
-two-bad s at amount room p k inner r a y z pl e f d h o =
-    not-of (two-first s at amount p pl k e f d ∙ onward-bad (parse s or-level k) _ (zero-bad s k r (or-ends s k) h o)) refl
+pub two-bad : (s : List ℕ) (at amount room p k inner r : ℕ) (a y z : List ℕ) (pl : Place) → pl ≡ place-behind s at 40 → pl ≡ At p → Opens inner room a y
+    → k ≡ skip s p → Reads r (parse (usual-in y) s or-level k) inner y z → r ≡ 0 → Reads 0 (until-at (usual-in a) s at amount) room a z
+two-bad s at amount room p k inner r a y z pl e f op d h o =
+    not-of (two-first (usual-in a) s at amount p pl k e f d ∙ onward-bad (parse (usual-in a) s or-level k) _ (parse-moved s or-level {p = k} (opens-usual op) refl ∙ zero-bad s k r (or-ends (usual-in y) s k) h o)) refl
 
 pub two-read : (s : List ℕ) (at amount room p k inner r w : ℕ) (a y x z : List ℕ) (pl : Place) → ((i : ℕ) → Fits w8 (getD a i 0))
-    → pl ≡ place-behind s at 40 → pl ≡ At p → Opens inner room a y → k ≡ skip s p → Reads r (parse s or-level k) inner y x → (r ≡ 0 → ⊥)
-    → Seconds w s r amount inner x z → Reads w (until-at s at amount) room a z
+    → pl ≡ place-behind s at 40 → pl ≡ At p → Opens inner room a y → k ≡ skip s p → Reads r (parse (usual-in y) s or-level k) inner y x → (r ≡ 0 → ⊥)
+    → Seconds w s r amount inner x z → Reads w (until-at (usual-in a) s at amount) room a z
 two-read s at amount room p k inner r w a y x z pl bytes e f op d (not-of m o) n h = absurd (n o)
 two-read s at amount room p k inner r w a y x z pl bytes e f op d (is-read i b m o) n h =
     finish (h .from (state-of y) i b o)
   where
-    finish : Ended w (second-at s r amount i b) inner (state-of y) z → Reads w (until-at s at amount) room a z
-    finish (not-ended g q) = not-of (two-second s at amount p k r b i pl e f d m ∙ g) q
+    whole : until-at (usual-in a) s at amount ≡ second-at (usual-in y) s r amount i b
+    whole = ap (λ (x : ℕ). until-at x s at amount) (sym (opens-usual op)) ∙ two-second (usual-in y) s at amount p k r b i pl e f d m
+
+    finish : Ended w (second-at (usual-in y) s r amount i b) inner (state-of y) z → Reads w (until-at (usual-in a) s at amount) room a z
+    finish (not-ended g q) = not-of (whole ∙ g) q
     finish (is-ended g c q u) =
-        is-read g (suc c) (two-second s at amount p k r b i pl e f d m ∙ q)
+        is-read g (suc c) (whole ∙ q)
         (rw (u, op .state, op .inner) (absorb-open room c g (state-of a) (byte-fault a bytes)))
 
 pub second-undivided : (s : List ℕ) (at amount room : ℕ) (a : List ℕ) (ql : Place) → ql ≡ place-behind s at 44 → ql ≡ Nowhere
@@ -420,38 +409,41 @@ pub second-undivided : (s : List ℕ) (at amount room : ℕ) (a : List ℕ) (ql 
 unfolding second-at
 second-undivided s at amount room a ql e f = record { from = λ st i b h. not-ended (behind-off s at 44 ql _ e f) refl }
 
-second-eq : (s : List ℕ) (at amount u l b : ℕ) (i : Formula) (ql : Place) → ql ≡ place-behind s at 44 → ql ≡ At u → l ≡ skip s u
-    → second-at s at amount i b ≡ onward (parse s or-level l) (λ g c v. behind s v 41 (λ w. got (until (ticks amount) i g) (suc (max b c)) w))
+second-eq : (usual : ℕ) (s : List ℕ) (at amount u l b : ℕ) (i : Formula) (ql : Place) → ql ≡ place-behind s at 44 → ql ≡ At u → l ≡ skip s u
+    → second-at usual s at amount i b ≡ onward (parse usual s or-level l) (λ g c v. behind s v 41 (λ w. got (until (ticks amount) i g) (suc (max b c)) w))
 unfolding second-at
-second-eq s at amount u l b i ql e f d = behind-on s at 44 u ql _ e f ∙ rw d
+second-eq usual s at amount u l b i ql e f d = behind-on s at 44 u ql _ e f ∙ rw d
 
 pub second-bad : (s : List ℕ) (at amount room u l v : ℕ) (a z : List ℕ) (ql : Place) → ql ≡ place-behind s at 44 → ql ≡ At u → l ≡ skip s u
-    → Reads v (parse s or-level l) room a z → v ≡ 0 → Seconds 0 s at amount room a z
+    → Reads v (parse (usual-in a) s or-level l) room a z → v ≡ 0 → Seconds 0 s at amount room a z
 second-bad s at amount room u l v a z ql e f d h o =
     record {
       from = λ st i b k.
-          not-ended (second-eq s at amount u l b i ql e f d ∙ onward-bad (parse s or-level l) _ (zero-bad s l v (or-ends s l) h o)) refl;
+          not-ended (second-eq (st .usual) s at amount u l b i ql e f d
+          ∙ onward-bad (parse (st .usual) s or-level l) _ (parse-moved s or-level {p = l} (absorb-usual a room b i st k) refl ∙ zero-bad s l v (or-ends (usual-in a) s l) h o)) refl;
     }
 
 pub second-unclosed : (s : List ℕ) (at amount room u l v : ℕ) (a z : List ℕ) (ql rl : Place) → ql ≡ place-behind s at 44 → ql ≡ At u
-    → l ≡ skip s u → Reads v (parse s or-level l) room a z → (v ≡ 0 → ⊥) → rl ≡ place-behind s v 41 → rl ≡ Nowhere
+    → l ≡ skip s u → Reads v (parse (usual-in a) s or-level l) room a z → (v ≡ 0 → ⊥) → rl ≡ place-behind s v 41 → rl ≡ Nowhere
     → Seconds 0 s at amount room a z
 second-unclosed s at amount room u l v a z ql rl e f d (not-of m o) n g h = absurd (n o)
 second-unclosed s at amount room u l v a z ql rl e f d (is-read i' b' m o) n g h =
     record {
       from = λ st i b k.
-          not-ended (second-eq s at amount u l b i ql e f d ∙ onward-got (parse s or-level l) _ i' b' v m ∙ behind-off s v 41 rl _ g h) refl;
+          not-ended (second-eq (st .usual) s at amount u l b i ql e f d
+          ∙ onward-got (parse (st .usual) s or-level l) _ i' b' v (parse-moved s or-level {p = l} (absorb-usual a room b i st k) refl ∙ m) ∙ behind-off s v 41 rl _ g h) refl;
     }
 
 pub second-read : (s : List ℕ) (at amount room u l v w first : ℕ) (a x z : List ℕ) (ql rl : Place) → ql ≡ place-behind s at 44 → ql ≡ At u
-    → first ≡ last-node (state-of a) → l ≡ skip s u → Reads v (parse s or-level l) room a x → (v ≡ 0 → ⊥) → rl ≡ place-behind s v 41
+    → first ≡ last-node (state-of a) → l ≡ skip s u → Reads v (parse (usual-in a) s or-level l) room a x → (v ≡ 0 → ⊥) → rl ≡ place-behind s v 41
     → rl ≡ At w → state-of z ≡ until-node amount first (state-of x) → Seconds w s at amount room a z
 second-read s at amount room u l v w first a x z ql rl e f la d (not-of m o) n g h held = absurd (n o)
 second-read s at amount room u l v w first a x z ql rl e f la d (is-read i' b' m o) n g h held =
     record {
       from = λ st i b k.
           is-ended (until (ticks amount) i i') (max b b')
-          (second-eq s at amount u l b i ql e f d ∙ onward-got (parse s or-level l) _ i' b' v m ∙ behind-on s v 41 w rl _ g h)
+          (second-eq (st .usual) s at amount u l b i ql e f d
+          ∙ onward-got (parse (st .usual) s or-level l) _ i' b' v (parse-moved s or-level {p = l} (absorb-usual a room b i st k) refl ∙ m) ∙ behind-on s v 41 w rl _ g h)
           (rw (held, o, la, k) (absorb-until room b b' amount i i' st));
     }
 
@@ -491,15 +483,15 @@ one-rows : every one-row connectives ≡ true
 unfolding every connectives one-row
 one-rows = refl
 
-unbounded : (s : List ℕ) (p : ℕ) → B.Missing ≡ bound-told (bound-at no-bound s p)
+unbounded : (usual : ℕ) (s : List ℕ) (p : ℕ) → B.Missing ≡ bound-told (bound-at usual no-bound s p)
 unfolding bound-told bound-at
-unbounded s p = refl
+unbounded usual s p = refl
 
-bound-by-told : (k : Bound) (s : List ℕ) (p : ℕ) → bound-by (bound-code k) s p ≡ bound-told (bound-at k s p)
+bound-by-told : (usual : ℕ) (k : Bound) (s : List ℕ) (p : ℕ) → bound-by usual (bound-code k) s p ≡ bound-told (bound-at usual k s p)
 unfolding bound-by bound-code
-bound-by-told no-bound s p = unbounded s p
-bound-by-told compared s p = refl
-bound-by-told optional s p = refl
+bound-by-told usual no-bound s p = unbounded usual s p
+bound-by-told usual compared s p = refl
+bound-by-told usual optional s p = refl
 
 bound-missing : (o : Option BoundRead) (r : Bounded) → r ≡ bound-told o → r ≡ B.Missing → o ≡ none
 unfolding bound-told
@@ -514,23 +506,23 @@ bound-read (some b) r code amount end e f =
     (b, refl, let z : comparison-code (b .comparison) ≡ code = cc in z, let z : b .amount .0 ≡ amount = cc in z, let z : b .next ≡ end = cc in z)
 
 pub led-nothing : (s : List ℕ) (at b room : ℕ) (a : List ℕ) (c0 : Led) → c0 ≡ led-told (connective connectives b) → c0 ≡ Nothing
-    → Leads 0 b s at room a a
+    → LetterLeads 0 b s at room a a
 unfolding led-at with-connective
 led-nothing s at b room a c0 e f = record { reads = not-of (rw (led-none (connective connectives b) c0 e f)) refl }
 
-pub led-unbounded : (s : List ℕ) (at b room : ℕ) (a : List ℕ) (c0 : Led) (c : Row) (bd : Bounded) → c0 ≡ led-told (connective connectives b)
-    → c0 ≡ By c → bd ≡ bound-by (c .bound) s (at + 1) → bd ≡ B.Missing → Leads 0 b s at room a a
+pub led-unbounded : (usual : ℕ) (s : List ℕ) (at b room : ℕ) (a : List ℕ) (c0 : Led) (c : Row) (bd : Bounded) → c0 ≡ led-told (connective connectives b)
+    → c0 ≡ By c → usual ≡ usual-in a → bd ≡ bound-by usual (c .bound) s (at + 1) → bd ≡ B.Missing → LetterLeads 0 b s at room a a
 unfolding led-at with-connective with-bound row-told
-led-unbounded s at b room a c0 c bd e f g h =
+led-unbounded usual s at b room a c0 c bd e f same g h =
     let (k, found, told) = led-by (connective connectives b) c0 c e f in
     record { reads = not-of (unbound k found (ap (λ (x : Row). x .bound) told)) refl }
   where
-    unbound : (k : Connective) → connective connectives b ≡ some k → c .bound ≡ bound-code (k .bound) → with-connective s at (connective connectives b) ≡ bad
+    unbound : (k : Connective) → connective connectives b ≡ some k → c .bound ≡ bound-code (k .bound) → with-connective (usual-in a) s at (connective connectives b) ≡ bad
     unbound k found kind =
-        rw (found, bound-missing (bound-at (k .bound) s (at + 1)) bd (g ∙ ap (λ (x : ℕ). bound-by x s (at + 1)) kind ∙ bound-by-told (k .bound) s (at + 1)) h)
+        rw (found, bound-missing (bound-at (usual-in a) (k .bound) s (at + 1)) bd (g ∙ ap₂ (λ (u x : ℕ). bound-by u x s (at + 1)) same kind ∙ bound-by-told (usual-in a) (k .bound) s (at + 1)) h)
 
 -- The connective and the bound that were read.
-record LedBy (s : List ℕ) (at b : ℕ) (parts code amount end : ℕ) : Type 0 where
+record LedBy (usual : ℕ) (s : List ℕ) (at b : ℕ) (parts code amount end : ℕ) : Type 0 where
   row : Connective
   bound : BoundRead
   letter : row .letter ≡ b
@@ -540,21 +532,21 @@ record LedBy (s : List ℕ) (at b : ℕ) (parts code amount end : ℕ) : Type 0 
   says : bound .amount .0 ≡ amount
   ends : bound .next ≡ end
   found : connective connectives b ≡ some row
-  held : bound-at (row .bound) s (at + 1) ≡ some bound
+  held : bound-at usual (row .bound) s (at + 1) ≡ some bound
 
-led-bounded : (s : List ℕ) (at b code amount end : ℕ) (c0 : Led) (c : Row) (bd : Bounded) → c0 ≡ led-told (connective connectives b)
-    → c0 ≡ By c → bd ≡ bound-by (c .bound) s (at + 1) → bd ≡ B.Read code amount end → LedBy s at b (c .parts) code amount end
+led-bounded : (usual : ℕ) (s : List ℕ) (at b code amount end : ℕ) (c0 : Led) (c : Row) (bd : Bounded) → c0 ≡ led-told (connective connectives b)
+    → c0 ≡ By c → bd ≡ bound-by usual (c .bound) s (at + 1) → bd ≡ B.Read code amount end → LedBy usual s at b (c .parts) code amount end
 unfolding row-told
-led-bounded s at b code amount end c0 c bd e f g h =
+led-bounded usual s at b code amount end c0 c bd e f g h =
     let (k, found, told) = led-by (connective connectives b) c0 c e f in
     build k found (ap (λ (x : Row). x .parts) told) (ap (λ (x : Row). x .bound) told)
   where
     build : (k : Connective) → connective connectives b ≡ some k → c .parts ≡ k .parts → c .bound ≡ bound-code (k .bound)
-        → LedBy s at b (c .parts) code amount end
+        → LedBy usual s at b (c .parts) code amount end
     build k found parts kind =
         let (bound, held, compares, says, ends) =
-        bound-read (bound-at (k .bound) s (at + 1)) bd code amount end
-        (g ∙ ap (λ (x : ℕ). bound-by x s (at + 1)) kind ∙ bound-by-told (k .bound) s (at + 1)) h in
+        bound-read (bound-at usual (k .bound) s (at + 1)) bd code amount end
+        (g ∙ ap (λ (x : ℕ). bound-by usual x s (at + 1)) kind ∙ bound-by-told usual (k .bound) s (at + 1)) h in
         let (letter, one) = connective-by one-row connectives b k one-rows found in
         record {
           row = k;
@@ -569,26 +561,26 @@ led-bounded s at b code amount end c0 c bd e f g h =
           held = held;
         }
 
-led-whole-by : (s : List ℕ) (at b parts code amount end : ℕ) (h : LedBy s at b parts code amount end)
-    → led-at s at b ≡ with-bound s (h .row) (some (h .bound)) (parse s)
+led-whole-by : (usual : ℕ) (s : List ℕ) (at b parts code amount end : ℕ) (h : LedBy usual s at b parts code amount end)
+    → led-at usual s at b ≡ with-bound s (h .row) (some (h .bound)) (parse usual s)
 unfolding led-at with-connective
-led-whole-by s at b parts code amount end h = rw (h .found, h .held)
+led-whole-by usual s at b parts code amount end h = rw (h .found, h .held)
 
 same-ticks : (t : Tick) (n : ℕ) → t .0 ≡ n → t ≡ ticks n
 same-ticks t n e = ap (λ (k : ℕ). ticks k) e
 
-two-whole : (s : List ℕ) (at b parts code amount end : ℕ) (h : LedBy s at b parts code amount end) → (parts ≡ 1 → ⊥)
-    → with-bound s (h .row) (some (h .bound)) (parse s) ≡ until-at s end amount
+two-whole : (usual : ℕ) (s : List ℕ) (at b parts code amount end : ℕ) (h : LedBy usual s at b parts code amount end) → (parts ≡ 1 → ⊥)
+    → with-bound s (h .row) (some (h .bound)) (parse usual s) ≡ until-at usual s end amount
 unfolding with-bound until-at formula-two
-two-whole s at b parts code amount end h n =
+two-whole usual s at b parts code amount end h n =
     let m : eqb (h .row .parts) 1 ≡ false = ne-eqb (h .row .parts) 1 (λ e. n (sym (h .count) ∙ e)) in
     let t : h .bound .amount ≡ ticks amount = same-ticks (h .bound .amount) amount (h .says) in
     rw (m, h .ends, t)
 
-within-whole : (s : List ℕ) (at b parts code amount end : ℕ) (h : LedBy s at b parts code amount end) → parts ≡ 1 → b ≡ 69
-    → with-bound s (h .row) (some (h .bound)) (parse s) ≡ within-at s end amount
+within-whole : (usual : ℕ) (s : List ℕ) (at b parts code amount end : ℕ) (h : LedBy usual s at b parts code amount end) → parts ≡ 1 → b ≡ 69
+    → with-bound s (h .row) (some (h .bound)) (parse usual s) ≡ within-at usual s end amount
 unfolding with-bound within-at formula-one
-within-whole s at b parts code amount end h n l =
+within-whole usual s at b parts code amount end h n l =
     let m : eqb (h .row .parts) 1 ≡ true = eq-eqb (h .row .parts) 1 (h .count ∙ n) in
     let t : h .bound .amount ≡ ticks amount = same-ticks (h .bound .amount) amount (h .says) in
     rw (m, h .ends, h .letter ∙ l, t)
@@ -606,11 +598,11 @@ unfolding one-code formula-one
 one-next b code amount room d bound g st e f c =
     rw (e, same-ticks (bound .amount) amount f, ← c) (absorb-next room d amount (bound .comparison) g st)
 
-one-node : (s : List ℕ) (at b parts code amount end : ℕ) (h : LedBy s at b parts code amount end) → parts ≡ 1 → (b ≡ 69 → ⊥)
+one-node : (usual : ℕ) (s : List ℕ) (at b parts code amount end : ℕ) (h : LedBy usual s at b parts code amount end) → parts ≡ 1 → (b ≡ 69 → ⊥)
     → (room d : ℕ) (g : Formula) (st : State)
     → bounded-node (one-code b code) amount 0 (absorb room d g st) ≡ absorb room d (formula-one (h .row .letter) (h .bound) g) st
 unfolding one-row
-one-node s at b parts code amount end h n l room d g st =
+one-node usual s at b parts code amount end h n l room d g st =
     rw (h .letter) (split (or-cases (not (eqb (h .row .parts) 1)) (eqb (h .row .letter) 78 || (eqb (h .row .letter) 65 || eqb (h .row .letter) 69)) (h .one)))
   where
     goal : Type 0
@@ -628,39 +620,39 @@ one-node s at b parts code amount end h n l room d g st =
     split (inl e) = absurd (eqb-false (h .row .parts) 1 (not-true (eqb (h .row .parts) 1) e) (h .count ∙ n))
     split (inr e) = middle (or-cases (eqb (h .row .letter) 78) (eqb (h .row .letter) 65 || eqb (h .row .letter) 69) e)
 
-one-whole : (s : List ℕ) (at b parts code amount end room r made : ℕ) (a z : List ℕ) (h : LedBy s at b parts code amount end) → parts ≡ 1
-    → (b ≡ 69 → ⊥) → made ≡ one-code b code → ReadsOne r (parse s unit-level (skip s end)) made amount room a z
-    → Reads r (with-bound s (h .row) (some (h .bound)) (parse s)) room a z
+one-whole : (usual : ℕ) (s : List ℕ) (at b parts code amount end room r made : ℕ) (a z : List ℕ) (h : LedBy usual s at b parts code amount end) → parts ≡ 1
+    → (b ≡ 69 → ⊥) → made ≡ one-code b code → ReadsOne r (parse usual s unit-level (skip s end)) made amount room a z
+    → Reads r (with-bound s (h .row) (some (h .bound)) (parse usual s)) room a z
 unfolding with-bound
-one-whole s at b parts code amount end room r made a z h n l m (not-one e f) =
-    not-of (rw (eq-eqb (h .row .parts) 1 (h .count ∙ n), h .ends) (onward-bad (parse s unit-level (skip s end)) _ e)) f
-one-whole s at b parts code amount end room r made a z h n l m (one-read g d e f) =
-    let same = one-node s at b parts code amount end h n l room d g (state-of a) in
+one-whole usual s at b parts code amount end room r made a z h n l m (not-one e f) =
+    not-of (rw (eq-eqb (h .row .parts) 1 (h .count ∙ n), h .ends) (onward-bad (parse usual s unit-level (skip s end)) _ e)) f
+one-whole usual s at b parts code amount end room r made a z h n l m (one-read g d e f) =
+    let same = one-node usual s at b parts code amount end h n l room d g (state-of a) in
     is-read (formula-one (h .row .letter) (h .bound) g) d
-    (rw (eq-eqb (h .row .parts) 1 (h .count ∙ n), h .ends) (onward-got (parse s unit-level (skip s end)) _ g d r e))
+    (rw (eq-eqb (h .row .parts) 1 (h .count ∙ n), h .ends) (onward-got (parse usual s unit-level (skip s end)) _ g d r e))
     (f ∙ ap (λ (x : ℕ). bounded-node x amount 0 (absorb room d g (state-of a))) m ∙ same)
 
-pub led-two : (s : List ℕ) (at b code amount end room r : ℕ) (c0 : Led) (c : Row) (bd : Bounded) (a z : List ℕ)
-    → c0 ≡ led-told (connective connectives b) → c0 ≡ By c → bd ≡ bound-by (c .bound) s (at + 1) → bd ≡ B.Read code amount end
-    → (c .parts ≡ 1 → ⊥) → Reads r (until-at s end amount) room a z → Leads r b s at room a z
-led-two s at b code amount end room r c0 c bd a z e f g h n k =
-    let by = led-bounded s at b code amount end c0 c bd e f g h in
-    record { reads = reads-as (sym (led-whole-by s at b (c .parts) code amount end by ∙ two-whole s at b (c .parts) code amount end by n)) k }
+pub led-two : (usual : ℕ) (s : List ℕ) (at b code amount end room r : ℕ) (c0 : Led) (c : Row) (bd : Bounded) (a z : List ℕ)
+    → c0 ≡ led-told (connective connectives b) → c0 ≡ By c → usual ≡ usual-in a → bd ≡ bound-by usual (c .bound) s (at + 1) → bd ≡ B.Read code amount end
+    → (c .parts ≡ 1 → ⊥) → Reads r (until-at (usual-in a) s end amount) room a z → LetterLeads r b s at room a z
+led-two usual s at b code amount end room r c0 c bd a z e f same g h n k =
+    let by = led-bounded (usual-in a) s at b code amount end c0 c bd e f (g ∙ ap (λ (u : ℕ). bound-by u (c .bound) s (at + 1)) same) h in
+    record { reads = reads-as (sym (led-whole-by (usual-in a) s at b (c .parts) code amount end by ∙ two-whole (usual-in a) s at b (c .parts) code amount end by n)) k }
 
-pub led-within : (s : List ℕ) (at b code amount end room r : ℕ) (c0 : Led) (c : Row) (bd : Bounded) (a z : List ℕ)
-    → c0 ≡ led-told (connective connectives b) → c0 ≡ By c → bd ≡ bound-by (c .bound) s (at + 1) → bd ≡ B.Read code amount end
-    → c .parts ≡ 1 → b ≡ 69 → Reads r (within-at s end amount) room a z → Leads r b s at room a z
-led-within s at b code amount end room r c0 c bd a z e f g h n l k =
-    let by = led-bounded s at b code amount end c0 c bd e f g h in
-    record { reads = reads-as (sym (led-whole-by s at b (c .parts) code amount end by ∙ within-whole s at b (c .parts) code amount end by n l)) k }
+pub led-within : (usual : ℕ) (s : List ℕ) (at b code amount end room r : ℕ) (c0 : Led) (c : Row) (bd : Bounded) (a z : List ℕ)
+    → c0 ≡ led-told (connective connectives b) → c0 ≡ By c → usual ≡ usual-in a → bd ≡ bound-by usual (c .bound) s (at + 1) → bd ≡ B.Read code amount end
+    → c .parts ≡ 1 → b ≡ 69 → Reads r (within-at (usual-in a) s end amount) room a z → LetterLeads r b s at room a z
+led-within usual s at b code amount end room r c0 c bd a z e f same g h n l k =
+    let by = led-bounded (usual-in a) s at b code amount end c0 c bd e f (g ∙ ap (λ (u : ℕ). bound-by u (c .bound) s (at + 1)) same) h in
+    record { reads = reads-as (sym (led-whole-by (usual-in a) s at b (c .parts) code amount end by ∙ within-whole (usual-in a) s at b (c .parts) code amount end by n l)) k }
 
-pub led-one : (s : List ℕ) (at b code amount end room r made : ℕ) (c0 : Led) (c : Row) (bd : Bounded) (a z : List ℕ)
-    → c0 ≡ led-told (connective connectives b) → c0 ≡ By c → bd ≡ bound-by (c .bound) s (at + 1) → bd ≡ B.Read code amount end
-    → c .parts ≡ 1 → (b ≡ 69 → ⊥) → made ≡ one-code b code → ReadsOne r (parse s unit-level (skip s end)) made amount room a z
-    → Leads r b s at room a z
-led-one s at b code amount end room r made c0 c bd a z e f g h n l m k =
-    let by = led-bounded s at b code amount end c0 c bd e f g h in
-    record { reads = reads-as (sym (led-whole-by s at b (c .parts) code amount end by)) (one-whole s at b (c .parts) code amount end room r made a z by n l m k) }
+pub led-one : (usual : ℕ) (s : List ℕ) (at b code amount end room r made : ℕ) (c0 : Led) (c : Row) (bd : Bounded) (a z : List ℕ)
+    → c0 ≡ led-told (connective connectives b) → c0 ≡ By c → usual ≡ usual-in a → bd ≡ bound-by usual (c .bound) s (at + 1) → bd ≡ B.Read code amount end
+    → c .parts ≡ 1 → (b ≡ 69 → ⊥) → made ≡ one-code b code → ReadsOne r (parse (usual-in a) s unit-level (skip s end)) made amount room a z
+    → LetterLeads r b s at room a z
+led-one usual s at b code amount end room r made c0 c bd a z e f same g h n l m k =
+    let by = led-bounded (usual-in a) s at b code amount end c0 c bd e f (g ∙ ap (λ (u : ℕ). bound-by u (c .bound) s (at + 1)) same) h in
+    record { reads = reads-as (sym (led-whole-by (usual-in a) s at b (c .parts) code amount end by)) (one-whole (usual-in a) s at b (c .parts) code amount end room r made a z by n l m k) }
 
 -- The letter of a connective stands inside the text, and its bound ends behind it.
 pub led-inside : (s : List ℕ) (at b : ℕ) (c0 : Led) (c : Row) → c0 ≡ led-told (connective connectives b) → c0 ≡ By c → b ≡ byte-at s at
@@ -668,12 +660,12 @@ pub led-inside : (s : List ℕ) (at b : ℕ) (c0 : Led) (c : Row) → c0 ≡ led
 led-inside s at b c0 c e f g =
     let (k, found, told) = led-by (connective connectives b) c0 c e f in byte-inside s at (omega (arith, lettered b k found))
 
-led-ahead : (s : List ℕ) (at b code amount end : ℕ) (c0 : Led) (c : Row) (bd : Bounded) → c0 ≡ led-told (connective connectives b)
-    → c0 ≡ By c → b ≡ byte-at s at → bd ≡ bound-by (c .bound) s (at + 1) → bd ≡ B.Read code amount end → (at < end) × (at < length s)
-led-ahead s at b code amount end c0 c bd e f i g h =
-    let by = led-bounded s at b code amount end c0 c bd e f g h in
+led-ahead : (usual : ℕ) (s : List ℕ) (at b code amount end : ℕ) (c0 : Led) (c : Row) (bd : Bounded) → c0 ≡ led-told (connective connectives b)
+    → c0 ≡ By c → b ≡ byte-at s at → bd ≡ bound-by usual (c .bound) s (at + 1) → bd ≡ B.Read code amount end → (at < end) × (at < length s)
+led-ahead usual s at b code amount end c0 c bd e f i g h =
+    let by = led-bounded usual s at b code amount end c0 c bd e f g h in
     let inside = led-inside s at b c0 c e f i in
-    let past = bound-end (by .row .bound) s (at + 1) (by .bound) (omega arith) (by .held) in
+    let past = bound-end usual (by .row .bound) s (at + 1) (by .bound) (by .held) in
     (omega (arith, by .ends), inside)
 
 -- ---- the calls fall
@@ -684,31 +676,27 @@ level-of by-and = 8
 
 module _ (j : Joint) where
   -- The next operand stands further on.
-  pub less-joined : (s : List ℕ) (at room r : ℕ) (a y : List ℕ) (q : ℕ) (u : List ℕ) (pl : Place) (v w t : ℕ)
-      → Reads r (parse s (operand-of j) at) room a y → (r ≡ 0 → ⊥) → Joins j s room r y q u → pl ≡ place-behind s q (sign-of j) → pl ≡ At v
-      → w ≡ skip s v → left-at s (level-of j) at ≡ t → left-at s (level-of j - 1) w < t
-  less-joined s at room r a y q u pl v w t (not-of m o) n k e f d g = absurd (n o)
-  less-joined s at room r a y q u pl v w t (is-read i c m o) n k e f d g =
-      let (l, inside) = operand-ends j s at i c r m in
-      let (l', inside') = place-ahead s q (sign-of j) v pl (sign-some j) e f in
-      omega (arith, k .ahead, skip-ahead s v)
+  pub less-joined : (s : List ℕ) (at room r : ℕ) (y : List ℕ) (q : ℕ) (u : List ℕ) (pl : Place) (v w t : ℕ) → w ≡ skip s v → pl ≡ At v
+      → pl ≡ place-behind s q (sign-of j) → Joins j s at room r y q u → left-at s (level-of j) at ≡ t → left-at s (level-of j - 1) w < t
+  less-joined s at room r y q u pl v w t d f e k g =
+      let (l, inside) = place-ahead s q (sign-of j) v pl (sign-some j) e f in omega (arith, k .ahead, skip-ahead s v)
 
   -- Each turn of the loop goes on behind the last.
   pub less-turn : (s : List ℕ) (room q : ℕ) (u : List ℕ) (pl : Place) (v w after : ℕ) (x : List ℕ) → pl ≡ place-behind s q (sign-of j) → pl ≡ At v
-      → w ≡ skip s v → Reads after (parse s (operand-of j) w) room u x → (after ≡ 0 → ⊥) → length s - after < length s - q
+      → w ≡ skip s v → Reads after (parse (usual-in u) s (operand-of j) w) room u x → (after ≡ 0 → ⊥) → length s - after < length s - q
   less-turn s room q u pl v w after x e f d (not-of m o) n = absurd (n o)
   less-turn s room q u pl v w after x e f d (is-read i c m o) n =
-      let (l, inside) = operand-ends j s w i c after m in
+      let (l, inside) = operand-ends (usual-in u) j s w i c after m in
       let (l', inside') = place-ahead s q (sign-of j) v pl (sign-some j) e f in
       omega (arith, skip-ahead s v)
 
 pub less-bracket : (s : List ℕ) (at k t : ℕ) → at < length s → k ≡ skip s (at + 1) → left-at s 1 at ≡ t → left-at s 9 k < t
 less-bracket s at k t lt e f = omega (arith, skip-ahead s (at + 1))
 
-pub less-led : (s : List ℕ) (at b code amount end t : ℕ) (c0 : Led) (c : Row) (bd : Bounded) → c0 ≡ led-told (connective connectives b)
-    → c0 ≡ By c → b ≡ byte-at s at → bd ≡ bound-by (c .bound) s (at + 1) → bd ≡ B.Read code amount end → left-at s 5 at ≡ t
+pub less-led : (usual : ℕ) (s : List ℕ) (at b code amount end t : ℕ) (c0 : Led) (c : Row) (bd : Bounded) → c0 ≡ led-told (connective connectives b)
+    → c0 ≡ By c → b ≡ byte-at s at → bd ≡ bound-by usual (c .bound) s (at + 1) → bd ≡ B.Read code amount end → left-at s 5 at ≡ t
     → left-at s 8 end < t
-less-led s at b code amount end t c0 c bd e f i g h k = let (l, inside) = led-ahead s at b code amount end c0 c bd e f i g h in omega arith
+less-led usual s at b code amount end t c0 c bd e f i g h k = let (l, inside) = led-ahead usual s at b code amount end c0 c bd e f i g h in omega arith
 
 pub less-part : (s : List ℕ) (at k t : ℕ) → k ≡ skip s at → left-at s 8 at ≡ t → left-at s 7 k < t
 less-part s at k t e f = omega (arith, skip-ahead s at)
@@ -718,18 +706,18 @@ pub less-first : (s : List ℕ) (at p k t : ℕ) (pl : Place) → pl ≡ place-b
 less-first s at p k t pl e f d g = let (l, inside) = place-ahead s at 40 p pl (omega arith) e f in omega (arith, skip-ahead s p)
 
 pub less-rest : (s : List ℕ) (at p k inner r t : ℕ) (y x : List ℕ) (pl : Place) → pl ≡ place-behind s at 40 → pl ≡ At p → k ≡ skip s p
-    → Reads r (parse s or-level k) inner y x → (r ≡ 0 → ⊥) → left-at s 8 at ≡ t → left-at s 8 r < t
+    → Reads r (parse (usual-in y) s or-level k) inner y x → (r ≡ 0 → ⊥) → left-at s 8 at ≡ t → left-at s 8 r < t
 less-rest s at p k inner r t y x pl e f d (not-of m o) n i = absurd (n o)
 less-rest s at p k inner r t y x pl e f d (is-read i' b m o) n i =
     let (l1, in1) = place-ahead s at 40 p pl (omega arith) e f in
-    let (l2, in2) = or-ends s k i' b r m in
+    let (l2, in2) = or-ends (usual-in y) s k i' b r m in
     omega (arith, skip-ahead s p)
 
 pub less-second : (s : List ℕ) (at u l t : ℕ) (ql : Place) → ql ≡ place-behind s at 44 → ql ≡ At u → l ≡ skip s u → left-at s 8 at ≡ t
     → left-at s 9 l < t
 less-second s at u l t ql e f d g = let (m, inside) = place-ahead s at 44 u ql (omega arith) e f in omega (arith, skip-ahead s u)
 
-pub formula-read : (s : List ℕ) (at r : ℕ) (a z : List ℕ) → Reads r (parse s or-level at) 16 a z → Reads r (formula-at s at) 16 a z
+pub formula-read : (s : List ℕ) (at r : ℕ) (a z : List ℕ) → Reads r (parse (usual-in a) s or-level at) 16 a z → Reads r (formula-at (usual-in a) s at) 16 a z
 unfolding parse formula-at
 formula-read s at r a z h = h
 
@@ -748,11 +736,3 @@ letter-fits s at b v e f h l = omega (arith, letter-inside s at b v e f h)
 pub led-fits : (s : List ℕ) (at b : ℕ) (c0 : Led) (c : Row) → c0 ≡ led-told (connective connectives b) → c0 ≡ By c → b ≡ byte-at s at
     → length s < 18446744073709551616 → Fits w64 (at + 1)
 led-fits s at b c0 c e f g l = omega (arith, led-inside s at b c0 c e f g)
-
-formula-parse : (s : List ℕ) (p : ℕ) → parse s or-level p ≡ formula-at s p
-unfolding parse formula-at
-formula-parse s p = refl
-
--- A formula ends behind its beginning and inside the text.
-pub formula-ends : (s : List ℕ) (p : ℕ) (f : Formula) (b q : ℕ) → formula-at s p ≡ got f b q → (p < q) × (q ≤ length s)
-formula-ends s p f b q e = or-ends s p f b q (formula-parse s p ∙ e)

@@ -1,5 +1,5 @@
 -- What the readers of formulas answer and leave in the area.
-use Prim.Native.Nat.{ℕ, suc, _+_, _-_, _*_, _≤_, max}
+use Prim.Native.Nat.{ℕ, suc, _+_, _-_, _*_, _<_, max}
 use mathlib.Core.Path.{_≡_}
 use mathlib.Core.Bool.{Bool}
 use mathlib.Core.Option.{Option, none, some}
@@ -13,11 +13,11 @@ use Rattle.logic.specs.Time.{ticks}
 use Rattle.logic.specs.Book.{Formula, until, within}
 use Rattle.reading.specs.Tokens.{skip, mark-at}
 use Rattle.reading.specs.Grammar.{Parsed, bad, got, onward, behind, Level, or-level, and-level, unit-level, or-rest, and-rest, Connective, connective, connectives, bound-at, with-bound, two-parts, marked-unit, read-step, calls-left}
-use Rattle.book_nodes.specs.State.{State, state-of, absorb, bounded-node, and-node, or-node}
+use Rattle.book_nodes.specs.State.{State, state-of, usual-in, absorb, bounded-node, and-node, or-node}
 
 -- what one of the readers reads at a position
-unfoldable pub parse : List ℕ → Level → ℕ → Parsed
-parse s level p = run (calls-left s) (λ _. bad) (read-step s) (record { level = level; place = p })
+unfoldable pub parse : ℕ → List ℕ → Level → ℕ → Parsed
+parse usual s level p = run (calls-left s) (λ _. bad) (read-step usual s) (record { level = level; place = p })
 
 -- The answer of a reader that should read x, where there is room for so many brackets: 0 if that is not of the grammar, and then
 -- nothing is said of the area; else the position after it, and the formula is absorbed.
@@ -51,11 +51,11 @@ node-of by-and first t st = and-node first t st
 
 -- What was joined between two turns of a loop: if the area held a formula absorbed by some state where the loop began, it
 -- now holds what was joined to it, and the rest is still to be joined.
-pub record Joins (j : Joint) (s : List ℕ) (room p : ℕ) (a : List ℕ) (q : ℕ) (z : List ℕ) : Type 0 where
-  pub ahead : p ≤ q
+pub record Joins (j : Joint) (s : List ℕ) (at room p : ℕ) (a : List ℕ) (q : ℕ) (z : List ℕ) : Type 0 where
+  pub ahead : at < q
   pub long : length z ≡ length a
   pub from : (st : State) (f : Formula) (b : ℕ) → state-of a ≡ absorb room b f st
-      → (g : Formula) × (c : ℕ) × (parse s (rest-of j f b) p ≡ parse s (rest-of j g c) q) × (state-of z ≡ absorb room c g st)
+      → (g : Formula) × (c : ℕ) × (parse (st .usual) s (rest-of j f b) p ≡ parse (st .usual) s (rest-of j g c) q) × (state-of z ≡ absorb room c g st)
 
 -- the bytes left, with a level number: falls at every call
 abbrev pub left-at : List ℕ → ℕ → ℕ → ℕ
@@ -70,17 +70,17 @@ pub record Marks (r : ℕ) (wanted : Bool) (s : List ℕ) (p : ℕ) (a z : List 
   pub reads : (room : ℕ) → Reads r (marked-unit (mark-at wanted s p)) room a z
 
 -- a connective with a bound, whose letter is at p
-unfoldable pub with-connective : List ℕ → ℕ → Option Connective → Parsed
-with-connective s p none = bad
-with-connective s p (some c) = with-bound s c (bound-at (c .bound) s (p + 1)) (parse s)
+unfoldable pub with-connective : ℕ → List ℕ → ℕ → Option Connective → Parsed
+with-connective usual s p none = bad
+with-connective usual s p (some c) = with-bound s c (bound-at usual (c .bound) s (p + 1)) (parse usual s)
 
 -- what follows a connective that begins with byte b at p
-unfoldable pub led-at : List ℕ → ℕ → ℕ → Parsed
-led-at s p b = with-connective s p (connective connectives b)
+unfoldable pub led-at : ℕ → List ℕ → ℕ → ℕ → Parsed
+led-at usual s p b = with-connective usual s p (connective connectives b)
 
 -- What it answers and leaves, if the byte is neither `T` nor `F`.
-pub record Leads (r b : ℕ) (s : List ℕ) (p room : ℕ) (a z : List ℕ) : Type 0 where
-  pub reads : Reads r (led-at s p b) room a z
+pub record LetterLeads (r b : ℕ) (s : List ℕ) (p room : ℕ) (a z : List ℕ) : Type 0 where
+  pub reads : Reads r (led-at (usual-in a) s p b) room a z
 
 -- the code of the node of `A`, or of `N` with the comparison of this code
 unfoldable pub one-code : ℕ → ℕ → ℕ
@@ -93,18 +93,18 @@ pub data ReadsOne (r : ℕ) (x : Parsed) (code amount room : ℕ) (a z : List �
       → ReadsOne r x code amount room a z
 
 -- the part of `E t g` behind its bound, and the formula
-unfoldable pub within-at : List ℕ → ℕ → ℕ → Parsed
-within-at s p amount = onward (parse s unit-level (skip s p)) (λ g brackets q. got (within (ticks amount) g) brackets q)
+unfoldable pub within-at : ℕ → List ℕ → ℕ → ℕ → Parsed
+within-at usual s p amount = onward (parse usual s unit-level (skip s p)) (λ g brackets q. got (within (ticks amount) g) brackets q)
 
 -- the parts of `U` behind its bound, and the formula
-unfoldable pub until-at : List ℕ → ℕ → ℕ → Parsed
-until-at s p amount = two-parts s p (parse s) (λ f g. until (ticks amount) f g)
+unfoldable pub until-at : ℕ → List ℕ → ℕ → ℕ → Parsed
+until-at usual s p amount = two-parts s p (parse usual s) (λ f g. until (ticks amount) f g)
 
 -- from the comma of `U` on, its first part and the brackets open in that read already
-unfoldable pub second-at : List ℕ → ℕ → ℕ → Formula → ℕ → Parsed
-second-at s p amount f b =
+unfoldable pub second-at : ℕ → List ℕ → ℕ → ℕ → Formula → ℕ → Parsed
+second-at usual s p amount f b =
     behind s p (byte ",") (λ u.
-    onward (parse s or-level (skip s u)) (λ g c v. behind s v (byte ")") (λ w. got (until (ticks amount) f g) (suc (max b c)) w)))
+    onward (parse usual s or-level (skip s u)) (λ g c v. behind s v (byte ")") (λ w. got (until (ticks amount) f g) (suc (max b c)) w)))
 
 -- The answer of reading that, from the state in which the first part was absorbed.
 pub data Ended (r : ℕ) (x : Parsed) (room : ℕ) (st : State) (z : List ℕ) : Type 0 where
@@ -112,4 +112,4 @@ pub data Ended (r : ℕ) (x : Parsed) (room : ℕ) (st : State) (z : List ℕ) :
   is-ended : (f : Formula) (brackets : ℕ) → x ≡ got f (suc brackets) r → state-of z ≡ absorb room brackets f st → Ended r x room st z
 
 pub record Seconds (r : ℕ) (s : List ℕ) (p amount room : ℕ) (a z : List ℕ) : Type 0 where
-  pub from : (st : State) (f : Formula) (b : ℕ) → state-of a ≡ absorb room b f st → Ended r (second-at s p amount f b) room st z
+  pub from : (st : State) (f : Formula) (b : ℕ) → state-of a ≡ absorb room b f st → Ended r (second-at (st .usual) s p amount f b) room st z

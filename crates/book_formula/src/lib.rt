@@ -7,6 +7,7 @@ ghost use lib.ListN.{length};
 ghost use Rattle.base.specs.Bytes.{byte-at};
 ghost use Rattle.reading.specs.Tokens as Tokens;
 ghost use Rattle.reading.specs.Grammar as Grammar;
+ghost use Rattle.book_nodes.specs.State as State;
 ghost use Rattle.book_formula.specs.Parse as Parse;
 use book_tokens::Bounded;
 use book_tokens::Led;
@@ -33,7 +34,7 @@ const MARK_DIGITS: usize = 2;
 // The formula at a position, joined by `|` and `&`.
 pub fn formula(s: &[u8], at: usize, area: &mut [u8]) -> usize
     requires { ⌜ 512 ≤ length (now area) ⌝ }
-    ensures { λ r. ⌜ Parse.Reads r (Grammar.formula-at (now (s .entry)) at) 16 (now (area .entry)) (now (area .exit)) ⌝ }
+    ensures { λ r. ⌜ Parse.Reads r (Grammar.formula-at (State.usual-in (now (area .entry))) (now (s .entry)) at) 16 (now (area .entry)) (now (area .exit)) ⌝ }
 {
     or_level(s, at, MOST_BRACKETS, area)
 }
@@ -41,7 +42,7 @@ pub fn formula(s: &[u8], at: usize, area: &mut [u8]) -> usize
 // Formulas joined by `&`, joined by `|` from the left.
 fn or_level(s: &[u8], at: usize, room: usize, area: &mut [u8]) -> usize
     requires { ⌜ 512 ≤ length (now area) ⌝ }
-    ensures { λ r. ⌜ Parse.Reads r (Parse.parse (now (s .entry)) Grammar.Level.or-level at) room (now (area .entry)) (now (area .exit)) ⌝ }
+    ensures { λ r. ⌜ Parse.Reads r (Parse.parse (State.usual-in (now (area .entry))) (now (s .entry)) Grammar.Level.or-level at) room (now (area .entry)) (now (area .exit)) ⌝ }
 {
     let mut next = and_level(s, at, room, area);
     if next == 0 {
@@ -65,7 +66,7 @@ fn or_level(s: &[u8], at: usize, room: usize, area: &mut [u8]) -> usize
 // Units joined by `&` from the left.
 fn and_level(s: &[u8], at: usize, room: usize, area: &mut [u8]) -> usize
     requires { ⌜ 512 ≤ length (now area) ⌝ }
-    ensures { λ r. ⌜ Parse.Reads r (Parse.parse (now (s .entry)) Grammar.Level.and-level at) room (now (area .entry)) (now (area .exit)) ⌝ }
+    ensures { λ r. ⌜ Parse.Reads r (Parse.parse (State.usual-in (now (area .entry))) (now (s .entry)) Grammar.Level.and-level at) room (now (area .entry)) (now (area .exit)) ⌝ }
 {
     let mut next = unit(s, at, room, area);
     if next == 0 {
@@ -89,7 +90,7 @@ fn and_level(s: &[u8], at: usize, room: usize, area: &mut [u8]) -> usize
 // A unit: a formula in brackets, a mark, a constant, or what a connective leads.
 fn unit(s: &[u8], at: usize, room: usize, area: &mut [u8]) -> usize
     requires { ⌜ 512 ≤ length (now area) ⌝ }
-    ensures { λ r. ⌜ Parse.Reads r (Parse.parse (now (s .entry)) Grammar.Level.unit-level at) room (now (area .entry)) (now (area .exit)) ⌝ }
+    ensures { λ r. ⌜ Parse.Reads r (Parse.parse (State.usual-in (now (area .entry))) (now (s .entry)) Grammar.Level.unit-level at) room (now (area .entry)) (now (area .exit)) ⌝ }
 {
     let b = book_tokens::byte_at(s, at);
     if b == b'(' {
@@ -138,7 +139,7 @@ fn mark(s: &[u8], at: usize, wanted: bool, area: &mut [u8]) -> usize
 // A formula in brackets, the opening one at this position.
 fn bracketed(s: &[u8], at: usize, room: usize, area: &mut [u8]) -> usize
     requires { ⌜ (512 ≤ length (now area)) × (at < length (now s)) ⌝ }
-    ensures { λ r. ⌜ Parse.Reads r (Grammar.bracketed (now (s .entry)) at (Parse.parse (now (s .entry)))) room (now (area .entry)) (now (area .exit)) ⌝ }
+    ensures { λ r. ⌜ Parse.Reads r (Grammar.bracketed (now (s .entry)) at (Parse.parse (State.usual-in (now (area .entry))) (now (s .entry)))) room (now (area .entry)) (now (area .exit)) ⌝ }
 {
     let inner = book_nodes::open(area, room);
     let next = or_level(s, book_tokens::skip(s, at + 1), inner, area);
@@ -154,14 +155,15 @@ fn bracketed(s: &[u8], at: usize, room: usize, area: &mut [u8]) -> usize
 // What a connective with a bound leads: its letter b stands at this position.
 fn led(s: &[u8], at: usize, b: u8, room: usize, area: &mut [u8]) -> usize
     requires { ⌜ (512 ≤ length (now area)) × (b ≡ byte-at (now s) at) ⌝ }
-    ensures { λ r. ⌜ Parse.Leads r b (now (s .entry)) at room (now (area .entry)) (now (area .exit)) ⌝ }
+    ensures { λ r. ⌜ Parse.LetterLeads r b (now (s .entry)) at room (now (area .entry)) (now (area .exit)) ⌝ }
 {
     let Led::By(c) = book_tokens::connective(b) else {
         return 0;
     };
     let parts = c.parts;
     let kind = c.bound;
-    let Bounded::Read { code, amount, next } = book_tokens::bound(kind, s, at + 1) else {
+    let usual = book_nodes::usual(area);
+    let Bounded::Read { code, amount, next } = book_tokens::bound(usual, kind, s, at + 1) else {
         return 0;
     };
     if parts != 1 {
@@ -183,7 +185,7 @@ fn one_code(b: u8, code: u8) -> u8
 // The part of `N` or `A`, whose bound ends at this position, and its node.
 fn one_part(s: &[u8], at: usize, code: u8, amount: usize, room: usize, area: &mut [u8]) -> usize
     requires { ⌜ 512 ≤ length (now area) ⌝ }
-    ensures { λ r. ⌜ Parse.ReadsOne r (Parse.parse (now (s .entry)) Grammar.Level.unit-level (Tokens.skip (now (s .entry)) at)) code amount room (now (area .entry)) (now (area .exit)) ⌝ }
+    ensures { λ r. ⌜ Parse.ReadsOne r (Parse.parse (State.usual-in (now (area .entry))) (now (s .entry)) Grammar.Level.unit-level (Tokens.skip (now (s .entry)) at)) code amount room (now (area .entry)) (now (area .exit)) ⌝ }
 {
     let next = unit(s, book_tokens::skip(s, at), room, area);
     if next == 0 {
@@ -196,7 +198,7 @@ fn one_part(s: &[u8], at: usize, code: u8, amount: usize, room: usize, area: &mu
 // `E t g` means `U t (T, g)`: the node of T, the part, and the node of the until.
 fn within(s: &[u8], at: usize, amount: usize, room: usize, area: &mut [u8]) -> usize
     requires { ⌜ 512 ≤ length (now area) ⌝ }
-    ensures { λ r. ⌜ Parse.Reads r (Parse.within-at (now (s .entry)) at amount) room (now (area .entry)) (now (area .exit)) ⌝ }
+    ensures { λ r. ⌜ Parse.Reads r (Parse.within-at (State.usual-in (now (area .entry))) (now (s .entry)) at amount) room (now (area .entry)) (now (area .exit)) ⌝ }
 {
     book_nodes::leaf(area, TRUE, 0);
     let first = book_nodes::last_node(area);
@@ -211,7 +213,7 @@ fn within(s: &[u8], at: usize, amount: usize, room: usize, area: &mut [u8]) -> u
 // The two parts of `U`, `(f, g)`, behind its bound, and its node.
 fn two_parts(s: &[u8], at: usize, amount: usize, room: usize, area: &mut [u8]) -> usize
     requires { ⌜ 512 ≤ length (now area) ⌝ }
-    ensures { λ r. ⌜ Parse.Reads r (Parse.until-at (now (s .entry)) at amount) room (now (area .entry)) (now (area .exit)) ⌝ }
+    ensures { λ r. ⌜ Parse.Reads r (Parse.until-at (State.usual-in (now (area .entry))) (now (s .entry)) at amount) room (now (area .entry)) (now (area .exit)) ⌝ }
 {
     let Place::At(begin) = book_tokens::behind(s, at, b'(') else {
         return 0;

@@ -12,7 +12,7 @@ use Rattle.logic.specs.Time.{ticks}
 use Rattle.logic.specs.Book.{Comparison, Formula, constant, proposition, and, or, next, always-for, until, timed, timed-right, parts, size, first-part, second-part}
 use Rattle.reading.specs.BookReading.{most-nodes, most-ticks, over-number, over-mark}
 use Rattle.reading.specs.BookArea.{node-code, node-number, node-first, node-second, comparison-code}
-use Rattle.book_nodes.specs.State.{Nodes, State, put-bytes, stored, noted, noted-if, told-timed, last-node, leaf, mark-node, opened, and-node, or-node, bounded-node, until-node, put-one, put-all, one-if, due, fault-of, absorb}
+use Rattle.book_nodes.specs.State.{Nodes, State, state-of, usual-in, put-bytes, stored, noted, noted-if, told-timed, last-node, leaf, mark-node, opened, and-node, or-node, bounded-node, until-node, put-one, put-all, one-if, due, fault-of, absorb}
 
 -- ---- nodes
 
@@ -147,11 +147,11 @@ unfolding due
 due-known true k h = omega arith
 due-known false k h = h
 
-due-true : (k : ℕ) → due true k ≡ k
+pub due-true : (k : ℕ) → due true k ≡ k
 unfolding due
 due-true k = refl
 
-due-false : (k : ℕ) → due false k ≡ 255
+pub due-false : (k : ℕ) → due false k ≡ 255
 unfolding due
 due-false k = refl
 
@@ -180,26 +180,18 @@ fault-at-most : (marks room b : ℕ) (f : Formula) → fault-of marks room b f �
 unfolding fault-of
 fault-at-most marks room b f = omega (arith, due-at-most (over-number f) 7 (omega arith))
 
-noted-fault : (b : Bool) (k : ℕ) (st : State) → st .fault ≤ 255 → noted-if b k st .fault ≡ min (due b k) (st .fault)
+same-state : {m n : Nodes} {x y t u k w : ℕ} → m ≡ n → x ≡ y → t ≡ u
+    → _≡_ {A = State} (record { nodes = m; fault = x; is-timed = t; marks = k; usual = w }) (record { nodes = n; fault = y; is-timed = u; marks = k; usual = w })
+same-state e f g = rw (e, f, g)
+
+-- A note changes the fault alone.
+noted-as : (b : Bool) (k : ℕ) (st : State) → st .fault ≤ 255
+    → noted-if b k st ≡ record { nodes = st .nodes; fault = min (due b k) (st .fault); is-timed = st .is-timed; marks = st .marks; usual = st .usual }
 unfolding noted-if noted due
-noted-fault true k st h = refl
-noted-fault false k st h = omega arith
-
-noted-nodes : (b : Bool) (k : ℕ) (st : State) → noted-if b k st .nodes ≡ st .nodes
-unfolding noted-if noted
-noted-nodes true k st = refl
-noted-nodes false k st = refl
-
-noted-marks : (b : Bool) (k : ℕ) (st : State) → noted-if b k st .marks ≡ st .marks
-unfolding noted-if noted
-noted-marks true k st = refl
-noted-marks false k st = refl
+noted-as true k st h = refl
+noted-as false k st h = same-state {m = st .nodes} {t = st .is-timed} refl (omega arith) refl
 
 -- ---- formulas
-
-same-state : {m n : Nodes} {x y t u k : ℕ} → m ≡ n → x ≡ y → t ≡ u
-    → _≡_ {A = State} (record { nodes = m; fault = x; is-timed = t; marks = k }) (record { nodes = n; fault = y; is-timed = u; marks = k })
-same-state e f g = rw (e, f, g)
 
 -- A constant.
 pub absorb-constant : (room : ℕ) (b : Bool) (st : State) → st .fault ≤ 255 → leaf (one-if b) 0 st ≡ absorb room 0 (constant b) st
@@ -215,8 +207,7 @@ pub absorb-mark : (room k : ℕ) (wanted : Bool) (st : State) → st .fault ≤ 
 unfolding leaf mark-node stored told-timed absorb put-all put-one fault-of over-number over-mark timed timed-right parts node-code node-number node-first node-second one-if
 absorb-mark room k wanted st h =
     let z = le-ltb room 0 (omega arith) in
-    let a = noted-fault (leb (st .marks) k) 8 st h in
-    rw (z, noted-nodes (leb (st .marks) k) 8 st, noted-marks (leb (st .marks) k) 8 st)
+    rw (z, noted-as (leb (st .marks) k) 8 st h)
     (same-state refl (omega (arith, due-false 7, due-false 9, due-false 10, due-at-most (leb (st .marks) k) 8 (omega arith))) refl)
 
 min-assoc : (a b c : ℕ) → min (min a b) c ≡ min a (min b c)
@@ -329,7 +320,7 @@ unfolding stored
 stored-fault bytes st = refl
 
 stored-fields : (bytes : List ℕ) (st : State)
-    → stored bytes st ≡ record { nodes = put-bytes bytes (st .nodes); fault = st .fault; is-timed = st .is-timed; marks = st .marks }
+    → stored bytes st ≡ record { nodes = put-bytes bytes (st .nodes); fault = st .fault; is-timed = st .is-timed; marks = st .marks; usual = st .usual }
 unfolding stored
 stored-fields bytes st = refl
 
@@ -345,17 +336,13 @@ or-node-timed : (first : ℕ) (st : State) → st .fault ≤ 255
       fault = min (due (not (eqb (st .is-timed) 0)) 10) (st .fault);
       is-timed = 1;
       marks = st .marks;
+      usual = st .usual;
     }
 unfolding or-node told-timed
 or-node-timed first st h =
     let bytes : List ℕ = 5 ∷ 0 ∷ first ∷ last-node st ∷ [] in
     let after : State = stored bytes st in
-    rw (
-      noted-fault (not (eqb (st .is-timed) 0)) 10 after (rw (stored-fault bytes st) h),
-      noted-nodes (not (eqb (st .is-timed) 0)) 10 after,
-      noted-marks (not (eqb (st .is-timed) 0)) 10 after,
-      stored-fields bytes st,
-    )
+    rw (noted-as (not (eqb (st .is-timed) 0)) 10 after (rw (stored-fault bytes st) h), stored-fields bytes st)
 
 or-node-untimed : (first : ℕ) (st : State)
     → or-node first 0 st
@@ -364,6 +351,7 @@ or-node-untimed : (first : ℕ) (st : State)
       fault = st .fault;
       is-timed = st .is-timed;
       marks = st .marks;
+      usual = st .usual;
     }
 unfolding or-node stored
 or-node-untimed first st = refl
@@ -417,10 +405,11 @@ bounded-fields : (code amount first : ℕ) (st : State) → st .fault ≤ 255
       fault = min (due (ltb 254 amount) 7) (st .fault);
       is-timed = 1;
       marks = st .marks;
+      usual = st .usual;
     }
 unfolding bounded-node told-timed stored most-ticks
 bounded-fields code amount first st h =
-    rw (noted-fault (ltb 254 amount) 7 st h, noted-nodes (ltb 254 amount) 7 st, noted-marks (ltb 254 amount) 7 st)
+    rw (noted-as (ltb 254 amount) 7 st h)
 
 bounded-absorbed : (room b amount : ℕ) (g h : Formula) (st : State) → parts h ≡ parts g ++ (h ∷ []) → ((k : ℕ) → node-first k h ≡ 0)
     → ((k : ℕ) → node-second k h ≡ second-part k) → node-number h ≡ amount
@@ -431,6 +420,7 @@ bounded-absorbed : (room b amount : ℕ) (g h : Formula) (st : State) → parts 
       fault = min (due (ltb 254 amount) 7) (absorb room b g st .fault);
       is-timed = 1;
       marks = absorb room b g st .marks;
+      usual = absorb room b g st .usual;
     }
     ≡ absorb room b h st
 unfolding absorb last-node one-if
@@ -504,6 +494,7 @@ until-whole : (room b c amount : ℕ) (f g : Formula) (st : State)
           (min (due (not (eqb (absorb room c g (absorb room b f st) .is-timed) 0)) 10) (absorb room c g (absorb room b f st) .fault));
       is-timed = 1;
       marks = absorb room c g (absorb room b f st) .marks;
+      usual = absorb room c g (absorb room b f st) .usual;
     }
     ≡ absorb room (max b c) (until (ticks amount) f g) st
 unfolding absorb timed one-if
@@ -521,15 +512,12 @@ until-absorbed : (room b c amount : ℕ) (f g : Formula) (st : State)
           (noted-if (not (eqb (absorb room c g (absorb room b f st) .is-timed) 0)) 10 (absorb room c g (absorb room b f st)) .fault);
       is-timed = 1;
       marks = noted-if (not (eqb (absorb room c g (absorb room b f st) .is-timed) 0)) 10 (absorb room c g (absorb room b f st)) .marks;
+      usual = noted-if (not (eqb (absorb room c g (absorb room b f st) .is-timed) 0)) 10 (absorb room c g (absorb room b f st)) .usual;
     }
     ≡ absorb room (max b c) (until (ticks amount) f g) st
 unfolding last-node
 until-absorbed room b c amount f g st =
-    rw (
-      noted-fault (not (eqb (absorb room c g (absorb room b f st) .is-timed) 0)) 10 (absorb room c g (absorb room b f st)) (absorbed-fault room c g (absorb room b f st)),
-      noted-nodes (not (eqb (absorb room c g (absorb room b f st) .is-timed) 0)) 10 (absorb room c g (absorb room b f st)),
-      noted-marks (not (eqb (absorb room c g (absorb room b f st) .is-timed) 0)) 10 (absorb room c g (absorb room b f st)),
-    )
+    rw (noted-as (not (eqb (absorb room c g (absorb room b f st) .is-timed) 0)) 10 (absorb room c g (absorb room b f st)) (absorbed-fault room c g (absorb room b f st)))
     (until-whole room b c amount f g st)
 
 -- `U` of two formulas.
@@ -540,7 +528,7 @@ unfolding until-node
 absorb-until room b c amount f g st =
     bounded-fields 12 amount (last-node (absorb room b f st))
     (noted-if (not (eqb (absorb room c g (absorb room b f st) .is-timed) 0)) 10 (absorb room c g (absorb room b f st)))
-    (rw (noted-fault (not (eqb (absorb room c g (absorb room b f st) .is-timed) 0)) 10 (absorb room c g (absorb room b f st)) (absorbed-fault room c g (absorb room b f st)))
+    (rw (noted-as (not (eqb (absorb room c g (absorb room b f st) .is-timed) 0)) 10 (absorb room c g (absorb room b f st)) (absorbed-fault room c g (absorb room b f st)))
     (omega (arith, absorbed-fault room c g (absorb room b f st))))
     ∙ until-absorbed room b c amount f g st
 
@@ -548,5 +536,10 @@ absorb-until room b c amount f g st =
 pub absorb-open : (room b : ℕ) (f : Formula) (st : State) → st .fault ≤ 255 → absorb (room - 1) b f (opened room st) ≡ absorb room (suc b) f st
 unfolding absorb opened
 absorb-open room b f st h =
-    rw (noted-nodes (eqb room 0) 9 st, noted-marks (eqb room 0) 9 st, noted-fault (eqb room 0) 9 st h)
+    rw (noted-as (eqb room 0) 9 st h)
     (same-state refl (fault-open room b f st) refl)
+
+-- A formula that is absorbed leaves the bound that is meant where a number is left out.
+pub absorb-usual : (z : List ℕ) (room b : ℕ) (f : Formula) (st : State) → state-of z ≡ absorb room b f st → usual-in z ≡ st .usual
+unfolding absorb
+absorb-usual z room b f st e = ap (λ (x : State). x .usual) e

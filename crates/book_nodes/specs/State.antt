@@ -1,4 +1,4 @@
--- What the book reader keeps in its lent area while it reads: nodes and lines (reading/specs/BookArea), and behind them four bytes of its own.
+-- What the book reader keeps in its lent area while it reads: nodes and lines (reading/specs/BookArea), and behind them bytes of its own.
 use Prim.Native.Nat.{ℕ, _+_, _-_, _*_, _%_, min}
 use mathlib.Core.Path.{_≡_}
 use mathlib.Core.Bool.{Bool, not}
@@ -9,30 +9,50 @@ use lib.Dec.{eqb, leb, ltb}
 use Rattle.base.specs.Choice.{pick}
 use Rattle.base.specs.Bytes.{byte-at}
 use Rattle.logic.specs.Book.{Formula, timed, timed-right, parts}
-use Rattle.reading.specs.BookArea.{node-size, node-code, node-number, node-first, node-second}
+use Rattle.reading.specs.BookArea.{node-size, node-count-at, node-code, node-number, node-first, node-second}
 use Rattle.reading.specs.BookReading.{most-nodes, most-ticks, over-number, over-mark}
+
+-- where the reader's own bytes stand, behind the numbers of nodes and lines
+abbrev pub fault-at : ℕ
+fault-at = 482
+
+abbrev pub timed-at : ℕ
+timed-at = 483
+
+abbrev pub marks-at : ℕ
+marks-at = 484
+
+abbrev pub usual-at : ℕ
+usual-at = 485
 
 -- The bytes of nodes and lines, and how many nodes were read; 61 stands for more than there may be.
 pub record Nodes : Type 0 where
   pub kept : List ℕ
   pub count : ℕ
 
--- Beside them the least number of a refusal met so far, whether the formula read last is timed, and how many marks there are.
+-- Beside them the least number of a refusal met so far, whether the formula read last is timed, how many marks there are, and the bound
+-- where a number is left out.
 pub record State : Type 0 where
   pub nodes : Nodes
   pub fault : ℕ
   pub is-timed : ℕ
   pub marks : ℕ
+  pub usual : ℕ
 
 -- the state that an area holds
 unfoldable pub state-of : List ℕ → State
 state-of a =
     record {
-      nodes = record { kept = take 360 a; count = byte-at a 360 };
-      fault = byte-at a 361;
-      is-timed = byte-at a 362;
-      marks = byte-at a 363;
+      nodes = record { kept = take node-count-at a; count = byte-at a node-count-at };
+      fault = byte-at a fault-at;
+      is-timed = byte-at a timed-at;
+      marks = byte-at a marks-at;
+      usual = byte-at a usual-at;
     }
+
+-- the bound that an area says is meant where a number is left out
+abbrev pub usual-in : List ℕ → ℕ
+usual-in area = state-of area .usual
 
 -- one more node, of these bytes; where there is no room it is only counted
 unfoldable pub put-bytes : List ℕ → Nodes → Nodes
@@ -42,18 +62,18 @@ put-bytes bytes n =
     (λ _. record { kept = n .kept; count = most-nodes + 1 })
 
 unfoldable pub stored : List ℕ → State → State
-stored bytes st = record { nodes = put-bytes bytes (st .nodes); fault = st .fault; is-timed = st .is-timed; marks = st .marks }
+stored bytes st = record { nodes = put-bytes bytes (st .nodes); fault = st .fault; is-timed = st .is-timed; marks = st .marks; usual = st .usual }
 
 -- the number of a refusal noted, if it is less than what was noted before
 unfoldable pub noted : ℕ → State → State
-noted k st = record { nodes = st .nodes; fault = min k (st .fault); is-timed = st .is-timed; marks = st .marks }
+noted k st = record { nodes = st .nodes; fault = min k (st .fault); is-timed = st .is-timed; marks = st .marks; usual = st .usual }
 
 unfoldable pub noted-if : Bool → ℕ → State → State
 noted-if b k st = pick b (λ _. noted k st) (λ _. st)
 
 -- said of the formula read last: 1 if it is timed, and else 0
 unfoldable pub told-timed : ℕ → State → State
-told-timed t st = record { nodes = st .nodes; fault = st .fault; is-timed = t; marks = st .marks }
+told-timed t st = record { nodes = st .nodes; fault = st .fault; is-timed = t; marks = st .marks; usual = st .usual }
 
 -- the number of the node read last
 unfoldable pub last-node : State → ℕ
@@ -123,6 +143,7 @@ absorb room brackets f st =
       fault = min (fault-of (st .marks) room brackets f) (st .fault);
       is-timed = one-if (timed f);
       marks = st .marks;
+      usual = st .usual;
     }
 
 -- What opening a bracket answers and does: the room that is left, and the note.

@@ -1,4 +1,4 @@
-// What the book reader keeps in its lent area while it reads: the nodes, and behind nodes and lines four bytes of its own.
+// What the book reader keeps in its lent area while it reads: the nodes, and behind nodes and lines some bytes of its own.
 ghost use mathlib.Core.Path.{_≡_};
 ghost use mathlib.Core.List.{[], _∷_};
 ghost use Prim.Native.Nat.{_≤_};
@@ -12,15 +12,27 @@ pub const MOST_NODES: u8 = 60;
 
 pub const MOST_TICKS: usize = 254;
 
-// Where the reader's own bytes stand: the number of nodes, the least number of a refusal met, whether the formula
-// read last is timed, and the number of marks.
-pub const COUNT: usize = 360;
+// The bytes of a node and of a line, where the lines begin, and where the numbers of nodes and of lines stand
+// (reading/specs/BookArea).
+pub const NODE_SIZE: usize = 4;
 
-pub const FAULT: usize = 361;
+pub const LINE_SIZE: usize = 4;
 
-pub const TIMED: usize = 362;
+pub const LINES_AT: usize = 240;
 
-pub const MARKS: usize = 363;
+pub const NODE_COUNT: usize = 480;
+
+pub const LINE_COUNT: usize = 481;
+
+// Where the reader's own bytes stand (specs/State): the least number of a refusal met, whether the formula read last
+// is timed, the number of marks, and the bound where a number is left out.
+pub const FAULT: usize = 482;
+
+pub const TIMED: usize = 483;
+
+pub const MARKS: usize = 484;
+
+pub const USUAL: usize = 485;
 
 // The codes of nodes (reading/specs/BookArea).
 pub const AND: u8 = 4;
@@ -36,17 +48,17 @@ fn put(area: &mut [u8], code: u8, number: u8, first: u8, second: u8)
     requires { ⌜ 512 ≤ length (now area) ⌝ }
     ensures { λ _. ⌜ State.state-of (now (area .exit)) ≡ State.stored (code ∷ number ∷ first ∷ second ∷ []) (State.state-of (now (area .entry))) ⌝ }
 {
-    let n = area[COUNT];
+    let n = area[NODE_COUNT];
     if MOST_NODES <= n {
-        area[COUNT] = MOST_NODES + 1;
+        area[NODE_COUNT] = MOST_NODES + 1;
         return;
     }
-    let at = 4 * wide(n);
+    let at = NODE_SIZE * wide(n);
     area[at] = code;
     area[at + 1] = number;
     area[at + 2] = first;
     area[at + 3] = second;
-    area[COUNT] = n + 1;
+    area[NODE_COUNT] = n + 1;
 }
 
 fn wide(n: u8) -> usize
@@ -81,12 +93,20 @@ pub fn is_timed(area: &[u8]) -> u8
     area[TIMED]
 }
 
+// The bound where a number is left out.
+pub fn usual(area: &[u8]) -> usize
+    requires { ⌜ 512 ≤ length (now area) ⌝ }
+    ensures { λ r. ⌜ r ≡ State.usual-in (now (area .entry)) ⌝ }
+{
+    wide(area[USUAL])
+}
+
 // The number of the node read last.
 pub fn last_node(area: &[u8]) -> u8
     requires { ⌜ 512 ≤ length (now area) ⌝ }
     ensures { λ r. ⌜ r ≡ State.last-node (State.state-of (now (area .entry))) ⌝ }
 {
-    let n = area[COUNT];
+    let n = area[NODE_COUNT];
     if n == 0 { 0 } else { n - 1 }
 }
 

@@ -78,5 +78,5 @@ module _ (area : List ℕ) (from to n : ℕ) (after : List ℕ) (parts : Parts (
       there = part-length after from n (omega (arith, parts .from-fits, beside .size))
 
 -- The area may have changed meanwhile.
-pub parts-still : (size n from to now : ℕ) → Parts size n from to → now ≡ size → Parts now n from to
-parts-still size n from to now was same = rw same was
+pub parts-still : (size n from to now m : ℕ) → m ≡ n → Parts size n from to → now ≡ size → Parts now m from to
+parts-still size n from to now m all was same = rw (same, all) was

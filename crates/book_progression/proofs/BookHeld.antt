@@ -1,7 +1,7 @@
 -- A book that an area holds: every node is stored, and every line is the rule that it stands for.
 use Prim.Native.Nat.{ℕ, zero, suc, _+_, _*_, _≤_, _<_}
 use native.Mathlib.Omega.{arith}
-use mathlib.Core.Path.{_≡_, refl, sym, _∙_, ap}
+use mathlib.Core.Path.{_≡_, refl, sym, _∙_, ap, ap₂}
 use mathlib.Core.Bool.{false, _||_}
 use mathlib.Core.Logic.{_⊎_, inl, inr}
 use mathlib.Core.List.{List, [], _∷_, _++_, append-nil, List·Memᴰ, List·Memᴰ·head, List·Memᴰ·tail, List·Memᴰ·append-cases, List·Memᴰ·eq-of-singleton, List·Memᴰ·not-nil}
@@ -14,10 +14,10 @@ use Rattle.base.proofs.Lists.{or-fails-left, or-fails-right, mem-getD}
 use Rattle.logic.specs.Tower.{most-marks}
 use Rattle.logic.specs.Book.{Formula, constant, proposition, and, or, next, always-for, until, parts, size, nodes, root, first-part, second-part, at-start, Rule, Book}
 use Rattle.pending.proofs.Nodes.{Stand, stand-left, stand-right, Sits, sits-within, sits-node, sits-first, sits-second, sits-only, sits-root, AllSit, book-sits}
-use Rattle.reading.specs.BookArea.{node-size, line-size, lines-at, node-code, node-number, node-first, node-second, node-bytes, nodes-bytes, form-code, lines-bytes}
+use Rattle.reading.specs.BookArea.{node-code, node-number, node-first, node-second, node-bytes, nodes-bytes, line-bytes, lines-bytes, nodes-in, lines-in}
 use Rattle.reading.specs.BookReading.{over-number, over-mark, most-ticks}
-use Rattle.book_progression.specs.NodeBytes.{NodeIs, Stored, Held, IsHeld}
-use Rattle.book_progression.specs.Contracts.{Nodes, HasNodes, LineIs, IsLine}
+use Rattle.book_progression.specs.NodeBytes.{NodeIs, Stored, HeldBook, IsHeld}
+use Rattle.book_progression.specs.Contracts.{AreNodes, HasNodes, LineIs, IsLine}
 use Rattle.book_progression.proofs.Nodes.{comparison-low, is-node}
 
 -- ---- the bytes of the nodes
@@ -218,30 +218,26 @@ sits-at all [] k i n sit low e = absurd (omega arith)
 sits-at all (f ∷ fs) k zero n sit low e = let same : n ≡ k = omega arith in rw same (sit .0 .0)
 sits-at all (f ∷ fs) k (suc i) n sit low e = sits-at all fs (suc k) i n (sit .1) (omega arith) (omega arith)
 
-module _ (bytes : List ℕ) (lines count : ℕ) (book : Book) (held : Held bytes lines count book) where
+module _ (bytes : List ℕ) (book : Book) (held : HeldBook bytes book) where
   rules-low : (rule : Rule) → List·Memᴰ rule book → Low (rule .formula)
   rules-low rule m = record { numbers = held .numbers rule m; marks = held .marks rule m }
 
-  node-part : take (4 * length (nodes book)) bytes ≡ nodes-bytes 0 (nodes book)
-  unfolding node-size
-  node-part = held .holds .node-part
-
   -- The book's nodes are those that the bytes hold.
-  pub held-nodes : Nodes bytes count (nodes book)
-  held-nodes =
+  pub held-nodes : (count : ℕ) → count ≡ nodes-in bytes → AreNodes bytes count (nodes book)
+  held-nodes count all =
       record {
-        all = sym (held .all-nodes);
-        stored = λ k low. let within : k < length (nodes book) = omega (arith, held .all-nodes) in
-            stored-at bytes (nodes book) node-part (getD (nodes book) k (constant false)) k
+        all = sym (all ∙ held .holds .node-count);
+        stored = λ k low. let within : k < length (nodes book) = omega (arith, all ∙ held .holds .node-count) in
+            stored-at bytes (nodes book) (held .holds .node-part) (getD (nodes book) k (constant false)) k
             (sits-at (nodes book) (nodes book) 0 k k (book-sits book (held .fit)) within (omega arith))
             (nodes-low (getD (nodes book) k (constant false)) book rules-low (mem-getD (nodes book) k (constant false) within));
       }
 
 -- The bytes hold so many nodes.
-pub has-nodes : (bytes : List ℕ) (lines count : ℕ) → IsHeld bytes lines count → HasNodes bytes count
-has-nodes bytes lines count is =
+pub has-nodes : (bytes : List ℕ) (count : ℕ) → count ≡ nodes-in bytes → IsHeld bytes → HasNodes bytes count
+has-nodes bytes count all is =
     record {
-      nodes = λ k low. is-node bytes k (getD (nodes (is .book)) k (constant false)) ((held-nodes bytes lines count (is .book) (is .held)) .stored k low);
+      nodes = λ k low. is-node bytes k (getD (nodes (is .book)) k (constant false)) ((held-nodes bytes (is .book) (is .held) count all) .stored k low);
     }
 
 -- ---- every line is its rule
@@ -262,30 +258,28 @@ nodes-before-next [] i low = absurd (omega arith)
 nodes-before-next (rule ∷ rules) zero low = omega arith
 nodes-before-next (rule ∷ rules) (suc i) low = omega (arith, nodes-before-next rules i (omega arith))
 
-lines-length : (n : ℕ) (book : Book) → length (lines-bytes n book) ≡ 2 * length book
-unfolding lines-bytes
-lines-length n [] = refl
-lines-length n (rule ∷ rules) = omega (arith, lines-length (n + size (rule .formula)) rules)
+lines-length : (k n : ℕ) (book : Book) → length (lines-bytes k n book) ≡ 4 * length book
+unfolding lines-bytes line-bytes
+lines-length k n [] = refl
+lines-length k n (rule ∷ rules) = omega (arith, lines-length (suc k) (n + size (rule .formula)) rules)
 
-form-at : (book : Book) (n i m : ℕ) → i < length book → m ≡ 2 * i → getD (lines-bytes n book) m 0 ≡ form-code (rule-at book i .form)
-unfolding lines-bytes rule-at
-form-at [] n i m low e = absurd (omega arith)
-form-at (rule ∷ rules) n zero m low e = let here : m ≡ 0 = omega arith in ap (λ x. getD (lines-bytes n (rule ∷ rules)) x 0) here
-form-at (rule ∷ rules) n (suc i) m low e =
-    let on : m ≡ suc (suc (2 * i)) = omega arith in
-    ap (λ x. getD (lines-bytes n (rule ∷ rules)) x 0) on ∙ form-at rules (n + size (rule .formula)) i (2 * i) (omega arith) refl
-
-root-at : (book : Book) (n i m s : ℕ) → i < length book → m ≡ 2 * i + 1 → s ≡ n + nodes-before book i
-    → getD (lines-bytes n book) m 0 ≡ root s (rule-at book i .formula)
-unfolding lines-bytes rule-at nodes-before
-root-at [] n i m s low e at = absurd (omega arith)
-root-at (rule ∷ rules) n zero m s low e at =
-    let here : m ≡ 1 = omega arith in
-    let same : n ≡ s = omega arith in
-    ap (λ x. getD (lines-bytes n (rule ∷ rules)) x 0) here ∙ ap (λ x. root x (rule .formula)) same
-root-at (rule ∷ rules) n (suc i) m s low e at =
-    let on : m ≡ suc (suc (2 * i + 1)) = omega arith in
-    ap (λ x. getD (lines-bytes n (rule ∷ rules)) x 0) on ∙ root-at rules (n + size (rule .formula)) i (2 * i + 1) s (omega arith) refl (omega arith)
+-- byte j of line i
+lines-byte : (book : Book) (k n i j m t s : ℕ) → i < length book → j < 4 → m ≡ 4 * i + j → t ≡ k + i → s ≡ n + nodes-before book i
+    → getD (lines-bytes k n book) m 0 ≡ getD (line-bytes t s (rule-at book i)) j 0
+unfolding lines-bytes line-bytes rule-at nodes-before
+lines-byte [] k n i j m t s low byte e at begins = absurd (omega arith)
+lines-byte (rule ∷ rules) k n zero j m t s low byte e at begins =
+    let here : m ≡ j = omega arith in
+    let same : k ≡ t = omega arith in
+    let first : n ≡ s = omega arith in
+    ap (λ x. getD (lines-bytes k n (rule ∷ rules)) x 0) here
+    ∙ List·getD-append (line-bytes k n rule) (lines-bytes (suc k) (n + size (rule .formula)) rules) 0 j byte
+    ∙ ap₂ (λ x y. getD (line-bytes x y rule) j 0) same first
+lines-byte (rule ∷ rules) k n (suc i) j m t s low byte e at begins =
+    let on : m ≡ 4 + (4 * i + j) = omega arith in
+    ap (λ x. getD (lines-bytes k n (rule ∷ rules)) x 0) on
+    ∙ getD-append-add (line-bytes k n rule) (lines-bytes (suc k) (n + size (rule .formula)) rules) (4 * i + j) 0
+    ∙ lines-byte rules (suc k) (n + size (rule .formula)) i j (4 * i + j) t s (omega arith) byte refl (omega arith) (omega arith)
 
 rule-stands : (all : List Formula) (rules : Book) (n i m : ℕ) → Stand all n (nodes rules) → i < length rules → m ≡ n + nodes-before rules i
     → Stand all m (parts (rule-at rules i .formula))
@@ -297,40 +291,33 @@ rule-stands all (rule ∷ rules) n zero m s low e =
 rule-stands all (rule ∷ rules) n (suc i) m s low e =
     rule-stands all rules (n + length (parts (rule .formula))) i m (stand-right all n (parts (rule .formula)) (nodes rules) s) (omega arith) (omega arith)
 
-module _ (bytes : List ℕ) (lines count : ℕ) (book : Book) (held : Held bytes lines count book) where
-  line-part : take (2 * length book) (drop 240 bytes) ≡ lines-bytes 0 book
-  unfolding line-size lines-at
-  line-part = held .holds .line-part
-
-  line-byte : (m n : ℕ) → m < 2 * length book → n ≡ 240 + m → getD bytes n 0 ≡ getD (lines-bytes 0 book) m 0
-  line-byte m n low e =
-      ap (λ x. getD bytes x 0) e ∙ sym (getD-drop 240 bytes m 0) ∙ sym (getD-take (2 * length book) (drop 240 bytes) m 0 low)
-      ∙ ap (λ l. getD l m 0) line-part
+module _ (bytes : List ℕ) (book : Book) (held : HeldBook bytes book) where
+  line-byte : (i j m n : ℕ) → i < length book → j < 4 → m ≡ 4 * i + j → n ≡ 240 + m
+      → getD bytes n 0 ≡ getD (line-bytes i (nodes-before book i) (rule-at book i)) j 0
+  line-byte i j m n low byte at e =
+      ap (λ x. getD bytes x 0) e ∙ sym (getD-drop 240 bytes m 0) ∙ sym (getD-take (4 * length book) (drop 240 bytes) m 0 (omega arith))
+      ∙ ap (λ l. getD l m 0) (held .holds .line-part)
+      ∙ lines-byte book 0 0 i j m i (nodes-before book i) low byte at (omega arith) (omega arith)
 
   -- Line i is the book's rule i.
-  pub held-line : (i : ℕ) → i < lines → LineIs bytes i count (rule-at book i) (nodes-before book i)
-  unfolding rule-at
+  pub held-line : (i : ℕ) → i < lines-in bytes → LineIs bytes i (rule-at book i) (nodes-before book i)
+  unfolding rule-at line-bytes
   held-line i low =
-      let within : i < length book = omega (arith, held .all-lines) in
+      let within : i < length book = omega (arith, held .holds .line-count) in
       let sits = sits-root (nodes book) (rule-at book i .formula) (nodes-before book i)
       (rule-stands (nodes book) book 0 i (nodes-before book i) (record { behind = []; here = sym (append-nil (nodes book)) }) within (omega arith)) in
       record {
-        room = omega (arith, sym (length-take (2 * length book) (drop 240 bytes)) ∙ ap length line-part ∙ lines-length 0 book, length-drop 240 bytes);
-        form = line-byte (2 * i) (240 + 2 * i) (omega arith) refl ∙ form-at book 0 i (2 * i) within refl;
-        place = line-byte (2 * i + 1) (240 + 2 * i + 1) (omega arith) (omega arith)
-            ∙ root-at book 0 i (2 * i + 1) (nodes-before book i) within refl (omega arith);
-        low = omega (arith, held .all-nodes, sits-within (nodes book) (rule-at book i .formula) (root (nodes-before book i) (rule-at book i .formula)) sits);
-        stored = stored-at bytes (nodes book) (node-part bytes lines count book held) (rule-at book i .formula)
+        room = omega (arith, sym (length-take (4 * length book) (drop 240 bytes)) ∙ ap length (held .holds .line-part) ∙ lines-length 0 0 book, length-drop 240 bytes);
+        form = line-byte i 0 (4 * i) (240 + 4 * i) within (omega arith) (omega arith) refl;
+        place = line-byte i 1 (4 * i + 1) (240 + 4 * i + 1) within (omega arith) refl (omega arith);
+        low = omega (arith, held .holds .node-count, sits-within (nodes book) (rule-at book i .formula) (root (nodes-before book i) (rule-at book i .formula)) sits);
+        stored = stored-at bytes (nodes book) (held .holds .node-part) (rule-at book i .formula)
             (root (nodes-before book i) (rule-at book i .formula)) sits
-            (rules-low bytes lines count book held (rule-at book i) (mem-getD book i (record { form = at-start; formula = constant false }) within));
+            (rules-low bytes book held (rule-at book i) (mem-getD book i (record { form = at-start; formula = constant false }) within));
       }
 
 -- Every line is some rule.
-pub is-line : (bytes : List ℕ) (lines count n : ℕ) (i : ℕ) → IsHeld bytes lines count → i < lines → n ≡ count → IsLine bytes i n
-is-line bytes lines count n i held low same =
-    rw same (record {
-      rule = rule-at (held .book) i;
-      first = nodes-before (held .book) i;
-      room = held-line bytes lines count (held .book) (held .held) i low .room;
-      is = held-line bytes lines count (held .book) (held .held) i low;
-    })
+pub is-line : (bytes : List ℕ) (i lines : ℕ) → lines ≡ lines-in bytes → IsHeld bytes → i < lines → IsLine bytes i
+is-line bytes i lines all held low =
+    let line = held-line bytes (held .book) (held .held) i (omega arith) in
+    record { rule = rule-at (held .book) i; first = nodes-before (held .book) i; room = line .room; is = line }

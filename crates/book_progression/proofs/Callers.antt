@@ -1,22 +1,18 @@
--- What callers need: a book that was read is held within its limits, a state of a tower file has the marks of its mask, and what the answers
--- of `progressed` and `begin` then say.
+-- What callers need: a book that was read is held within its limits, and a state of a tower file has the marks of its mask.
 use Prim.Native.Nat.{ℕ, _-_, _≤_}
 use native.Mathlib.Omega.{arith}
 use mathlib.Core.Path.{_≡_, refl}
 use mathlib.Core.Bool.{false}
 use mathlib.Core.List.{List, List·Memᴰ}
-use lib.ListN.{length}
 use borrow.Author.Tests.{leb-false, lt-leb}
-use Rattle.base.specs.Recursion.{to-depth}
-use Rattle.base.specs.Answers.{give, _then_}
+use Rattle.base.specs.Answers.{give}
 use Rattle.base.proofs.Lists.{or-fails-left, or-fails-right, or-neither}
 use Rattle.logic.specs.Tower.{tower-of, mask-of, most-marks}
-use Rattle.logic.specs.Book.{Formula, constant, proposition, and, or, next, always-for, until, nodes, Rule, Book}
-use Rattle.pending.specs.Pending.{progressed}
+use Rattle.logic.specs.Book.{Formula, constant, proposition, and, or, next, always-for, until, Rule, Book}
 use Rattle.reading.specs.BookArea.{HoldsBook}
 use Rattle.reading.specs.BookReading.{over-mark, read-book}
 use Rattle.reading.proofs.BookLines.{each-rule, book-fit}
-use Rattle.book_progression.specs.NodeBytes.{Held, Marked}
+use Rattle.book_progression.specs.NodeBytes.{HeldBook, MarkedState}
 use Rattle.book_progression.proofs.BookHeld.{Low}
 
 -- ---- a book that was read
@@ -47,12 +43,10 @@ book-low marks few text book e =
 
 -- An area that holds a book which was read holds it within the limits.
 pub held-read : (marks : ℕ) (text area : List ℕ) (book : Book) → marks ≤ most-marks → read-book marks text ≡ give book → HoldsBook area book
-    → Held area (length book) (length (nodes book)) book
+    → HeldBook area book
 held-read marks text area book few e holds =
     record {
       holds = holds;
-      all-lines = refl;
-      all-nodes = refl;
       fit = book-fit marks text book e;
       numbers = λ rule m. book-low marks few text book e rule m .numbers;
       marks = λ rule m. book-low marks few text book e rule m .marks;
@@ -61,6 +55,6 @@ held-read marks text area book few e holds =
 -- ---- a state of a tower file
 
 -- A state's marks are the bits of its mask.
-unfoldable pub mask-marks : (tower : List ℕ) (x : ℕ) → Marked (mask-of tower x)
+unfoldable pub mask-marks : (tower : List ℕ) (x : ℕ) → MarkedState (mask-of tower x)
 unfolding tower-of
 mask-marks tower x = record { tower = tower-of tower; state = x; marks = λ k. refl }

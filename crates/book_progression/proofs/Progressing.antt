@@ -14,8 +14,8 @@ use Rattle.logic.specs.declared.Tick.{Tick}
 use Rattle.pending.specs.Pending.{holds, fresh, provided, progress}
 use Rattle.reading.specs.BookArea.{node-code, node-first, node-second}
 use Rattle.book_progression.specs.PendingBytes.{pending-of, outcome}
-use Rattle.book_progression.specs.NodeBytes.{code-of, first-of, second-of, fresh-of, Stored, IsNode, Marked}
-use Rattle.book_progression.specs.Contracts.{Holds, Ready, NextReady, Nexts, Stays, Progresses}
+use Rattle.book_progression.specs.NodeBytes.{code-of, first-of, second-of, fresh-of, Stored, IsNode, MarkedState}
+use Rattle.book_progression.specs.Contracts.{HoldsAt, NodeReady, NextReady, Nexts, Stays, Progresses}
 use Rattle.book_progression.proofs.Nodes.{by-kind, by-always, by-until, by-and, by-or, and-first, and-second, or-first, or-second, until-first, until-second, always-part, first-below, until-below, second-below, fresh-low, fresh-is}
 
 -- a test that alone decides
@@ -36,16 +36,16 @@ first-untimed false e = refl
 module _ (bytes : List ℕ) (mask : ℕ) (d : Tick) where
   -- A part that starts anew, at the place where the formula has it
   pub child : (p n : ℕ) (q : Tick) (a : Bool) (cells after : List ℕ) (g : Formula) → p ≡ n → Stored bytes g p → q ≡ ticks (fresh-of bytes p)
-      → Progresses a bytes p q mask d cells after → (at : Marked mask)
+      → Progresses a bytes p q mask d cells after → (at : MarkedState mask)
       → progress (at .tower) (at .state) d g n (fresh g) (pending-of cells) ≡ outcome a after
   child p n q a cells after g same stored new call at = rw (← same, ← fresh-is bytes p g stored, ← new) (call .says g stored at)
 
 module _ (bytes : List ℕ) (k : ℕ) (r : Tick) (mask : ℕ) (d : Tick) (cells : List ℕ) (code : ℕ) (e : code ≡ code-of bytes k) where
   -- the statement at a formula
-  abbrev At : Bool → List ℕ → Marked mask → Formula → Type 0
+  abbrev At : Bool → List ℕ → MarkedState mask → Formula → Type 0
   At b after at f = progress (at .tower) (at .state) d f k r (pending-of cells) ≡ outcome b after
 
-  pub progress-leaf : (b : Bool) → code ≤ 3 → Holds b bytes k mask → Progresses b bytes k r mask d cells cells
+  pub progress-leaf : (b : Bool) → code ≤ 3 → HoldsAt b bytes k mask → Progresses b bytes k r mask d cells cells
   unfolding progress
   progress-leaf b low held =
       record {
@@ -62,7 +62,7 @@ module _ (bytes : List ℕ) (k : ℕ) (r : Tick) (mask : ℕ) (d : Tick) (cells 
   -- the only part of an always comes first
   module _ (eleven : code ≡ 11) (p : ℕ) (q : Tick) (a : Bool) (mid : List ℕ) (part : p ≡ second-of bytes k) (new : q ≡ ticks (fresh-of bytes p))
       (call : Progresses a bytes p q mask d cells mid) where
-    always-child : (t : Tick) (g : Formula) → Stored bytes (always-for t g) k → (at : Marked mask)
+    always-child : (t : Tick) (g : Formula) → Stored bytes (always-for t g) k → (at : MarkedState mask)
         → progress (at .tower) (at .state) d g (second-part k) (fresh g) (pending-of cells) ≡ outcome a mid
     unfolding Stored node-second
     always-child t g s at = child bytes mask d p (second-part k) q a cells mid g (part ∙ s .0 .second) (always-part bytes k p t g s part) new call at
@@ -84,8 +84,8 @@ module _ (bytes : List ℕ) (k : ℕ) (r : Tick) (mask : ℕ) (d : Tick) (cells 
         }
 
   -- the second part of an until ends it
-  module _ (twelve : code ≡ 12) (p : ℕ) (h : Bool) (second : p ≡ second-of bytes k) (held : Holds h bytes p mask) where
-    ended : (t : Tick) (f g : Formula) → Stored bytes (until t f g) k → (at : Marked mask) → holds (at .tower) (at .state) g ≡ h
+  module _ (twelve : code ≡ 12) (p : ℕ) (h : Bool) (second : p ≡ second-of bytes k) (held : HoldsAt h bytes p mask) where
+    ended : (t : Tick) (f g : Formula) → Stored bytes (until t f g) k → (at : MarkedState mask) → holds (at .tower) (at .state) g ≡ h
     ended t f g s at = sym (held .says g (until-second bytes k p t f g s second) at)
 
     pub progress-until-ends : h ≡ true → Progresses true bytes k r mask d cells cells
@@ -105,7 +105,7 @@ module _ (bytes : List ℕ) (k : ℕ) (r : Tick) (mask : ℕ) (d : Tick) (cells 
 
     module _ (fails : h ≡ false) (early : d .0 ≤ r .0) (n : ℕ) (q : Tick) (a : Bool) (mid : List ℕ) (first : n ≡ first-of bytes k)
         (new : q ≡ ticks (fresh-of bytes n)) (call : Progresses a bytes n q mask d cells mid) where
-      until-child : (t : Tick) (f g : Formula) → Stored bytes (until t f g) k → (at : Marked mask)
+      until-child : (t : Tick) (f g : Formula) → Stored bytes (until t f g) k → (at : MarkedState mask)
           → progress (at .tower) (at .state) d f (first-part k g) (fresh f) (pending-of cells) ≡ outcome a mid
       unfolding Stored node-first
       until-child t f g s at =
@@ -126,7 +126,7 @@ module _ (bytes : List ℕ) (k : ℕ) (r : Tick) (mask : ℕ) (d : Tick) (cells 
             says = λ f s at. by-until bytes k (λ f. At true after at f) f s (omega arith) (λ t f g s. go t f g s at);
           }
         where
-          go : (t : Tick) (f g : Formula) → Stored bytes (until t f g) k → (at : Marked mask) → At true after at (until t f g)
+          go : (t : Tick) (f g : Formula) → Stored bytes (until t f g) k → (at : MarkedState mask) → At true after at (until t f g)
           go t f g s at =
               rw (ended t f g s at, fails, le-leb (d .0) (r .0) early, until-child t f g s at, not-false a passes)
               (ap (λ l. some l) (sym (stays .says (until t f g) s ∙ rw (le-leb (d .0) (r .0) early))))
@@ -134,7 +134,7 @@ module _ (bytes : List ℕ) (k : ℕ) (r : Tick) (mask : ℕ) (d : Tick) (cells 
   -- both parts of an and, the first before the second
   module _ (four : code ≡ 4) (p : ℕ) (q : Tick) (a : Bool) (mid : List ℕ) (first : p ≡ first-of bytes k) (new : q ≡ ticks (fresh-of bytes p))
       (call : Progresses a bytes p q mask d cells mid) where
-    and-child : (f g : Formula) → Stored bytes (and f g) k → (at : Marked mask)
+    and-child : (f g : Formula) → Stored bytes (and f g) k → (at : MarkedState mask)
         → progress (at .tower) (at .state) d f (first-part k g) (fresh f) (pending-of cells) ≡ outcome a mid
     unfolding Stored node-first
     and-child f g s at =
@@ -158,7 +158,7 @@ module _ (bytes : List ℕ) (k : ℕ) (r : Tick) (mask : ℕ) (d : Tick) (cells 
         }
 
   -- the untimed side of an or, and then the other: the second is tested where the first is timed,
-  module _ (five : code ≡ 5) (p : ℕ) (h : Bool) (second : p ≡ second-of bytes k) (held : Holds h bytes p mask) where
+  module _ (five : code ≡ 5) (p : ℕ) (h : Bool) (second : p ≡ second-of bytes k) (held : HoldsAt h bytes p mask) where
     pub progress-or-second-holds : h ≡ true → Progresses true bytes k r mask d cells cells
     unfolding progress outcome Stored node-code
     progress-or-second-holds passes =
@@ -179,7 +179,7 @@ module _ (bytes : List ℕ) (k : ℕ) (r : Tick) (mask : ℕ) (d : Tick) (cells 
 
   -- and else the first.
   module _ (low : 3 < code) (high : code < 7) (not-four : code ≡ 4 → ⊥) (not-five : code ≡ 5 → ⊥) (p : ℕ) (h : Bool) (first : p ≡ first-of bytes k)
-      (held : Holds h bytes p mask) where
+      (held : HoldsAt h bytes p mask) where
     pub progress-or-first-holds : h ≡ true → Progresses true bytes k r mask d cells cells
     unfolding progress outcome Stored node-code
     progress-or-first-holds passes =
@@ -200,30 +200,30 @@ module _ (bytes : List ℕ) (k : ℕ) (r : Tick) (mask : ℕ) (d : Tick) (cells 
 
 -- What is asked of a part before it progresses, t being the number that falls.
 module _ (bytes : List ℕ) (k p code : ℕ) (q : Tick) (cells : List ℕ) where
-  ready : (t : ℕ) → k ≡ t → (p < t) × IsNode bytes p → q ≡ ticks (fresh-of bytes p) → k < length cells → (p < t) × Ready bytes p q cells
+  ready : (t : ℕ) → k ≡ t → (p < t) × IsNode bytes p → q ≡ ticks (fresh-of bytes p) → k < length cells → (p < t) × NodeReady bytes p q cells
   ready t is below new room =
       (below .0, record { node = below .1; cell = omega (arith, below .0); left = rw new (fresh-low bytes p (below .1)) })
 
   pub first-ready : p ≡ first-of bytes k → code ≡ code-of bytes k → 3 < code → code < 7 → IsNode bytes k → q ≡ ticks (fresh-of bytes p)
-      → k < length cells → (t : ℕ) → k ≡ t → (p < t) × Ready bytes p q cells
+      → k < length cells → (t : ℕ) → k ≡ t → (p < t) × NodeReady bytes p q cells
   first-ready e same low high node new room t is = ready t is (first-below bytes k p code e same low high node t is) new room
 
   pub until-ready : p ≡ first-of bytes k → code ≡ code-of bytes k → code ≡ 12 → IsNode bytes k → q ≡ ticks (fresh-of bytes p)
-      → k < length cells → (t : ℕ) → k ≡ t → (p < t) × Ready bytes p q cells
+      → k < length cells → (t : ℕ) → k ≡ t → (p < t) × NodeReady bytes p q cells
   until-ready e same twelve node new room t is = ready t is (until-below bytes k p code e same twelve node t is) new room
 
   pub second-ready : p ≡ second-of bytes k → code ≡ code-of bytes k → 3 < code → IsNode bytes k → q ≡ ticks (fresh-of bytes p)
-      → k < length cells → (t : ℕ) → k ≡ t → (p < t) × Ready bytes p q cells
+      → k < length cells → (t : ℕ) → k ≡ t → (p < t) × NodeReady bytes p q cells
   second-ready e same low node new room t is = ready t is (second-below bytes k p code e same low node t is) new room
 
 -- The cells may have changed meanwhile.
-pub still-ready : (bytes : List ℕ) (k : ℕ) (r : Tick) (cells after : List ℕ) → Ready bytes k r cells → length after ≡ length cells
-    → Ready bytes k r after
+pub still-ready : (bytes : List ℕ) (k : ℕ) (r : Tick) (cells after : List ℕ) → NodeReady bytes k r cells → length after ≡ length cells
+    → NodeReady bytes k r after
 still-ready bytes k r cells after was same = record { node = was .node; cell = omega (arith, was .cell); left = was .left }
 
 -- A node of any other code is a next.
 pub is-next : (bytes : List ℕ) (k code : ℕ) (r : Tick) (cells : List ℕ) → code ≡ code-of bytes k → 7 ≤ code → (code ≡ 11 → ⊥) → (code ≡ 12 → ⊥)
-    → Ready bytes k r cells → NextReady bytes k cells
+    → NodeReady bytes k r cells → NextReady bytes k cells
 is-next bytes k code r cells e low not-always not-until was =
     record {
       node = was .node;

@@ -15,7 +15,7 @@ use Rattle.pending.specs.Pending.{merge, coming, put, fresh, provided, progress
 use Rattle.reading.specs.BookArea.{comparison-code, node-code, node-number, node-second}
 use Rattle.book_progression.specs.PendingBytes.{cell-of, pending-of, outcome}
 use Rattle.book_progression.specs.NodeBytes.{code-of, number-of, second-of, fresh-of, Stored, IsNode}
-use Rattle.book_progression.specs.Contracts.{Merged, Ready, Puts, Compares, NextReady, Nexts, Stays}
+use Rattle.book_progression.specs.Contracts.{Merged, NodeReady, PutsNode, Compares, NextReady, Nexts, Stays}
 use Rattle.book_progression.proofs.Cells.{cell-there, cell-one-more, pending-at, pending-set}
 use Rattle.book_progression.proofs.Nodes.{by-kind, by-next, by-always, by-until, next-part, second-node, second-below, fresh-low, fresh-is}
 
@@ -74,7 +74,7 @@ module _ (bytes : List ℕ) (k : ℕ) (r : Tick) (cell : ℕ) where
 
 -- The byte of what came of the merge is stored.
 pub put-stored : (bytes : List ℕ) (k : ℕ) (r m : Tick) (cells : List ℕ) → Merged m bytes k r (getD cells k 0)
-    → Puts bytes k r cells (set cells k (m .0 + 1))
+    → PutsNode bytes k r cells (set cells k (m .0 + 1))
 unfolding put
 put-stored bytes k r m cells merged =
     record {
@@ -134,7 +134,7 @@ module _ (bytes : List ℕ) (k : ℕ) (d : Tick) (cells : List ℕ) (ready : Nex
       }
 
   pub next-put : (code n p : ℕ) (a : Bool) (q : Tick) (after : List ℕ) → code ≡ code-of bytes k → n ≡ number-of bytes k
-      → Compares a code d (ticks n) → not a ≡ false → p ≡ second-of bytes k → q ≡ ticks (fresh-of bytes p) → Puts bytes p q cells after
+      → Compares a code d (ticks n) → not a ≡ false → p ≡ second-of bytes k → q ≡ ticks (fresh-of bytes p) → PutsNode bytes p q cells after
       → Nexts true bytes k d cells after
   unfolding progress provided outcome Stored node-code node-number node-second
   next-put code n p a q after e num compared passes part new done =
@@ -155,7 +155,7 @@ module _ (bytes : List ℕ) (k : ℕ) (d : Tick) (cells : List ℕ) (ready : Nex
   pub next-node : (p : ℕ) → p ≡ second-of bytes k → IsNode bytes p
   next-node p part = second-node bytes k p (code-of bytes k) part refl (omega (arith, ready .low)) (ready .node)
 
-  pub next-ready : (p : ℕ) (q : Tick) → p ≡ second-of bytes k → q ≡ ticks (fresh-of bytes p) → Ready bytes p q cells
+  pub next-ready : (p : ℕ) (q : Tick) → p ≡ second-of bytes k → q ≡ ticks (fresh-of bytes p) → NodeReady bytes p q cells
   next-ready p q part new =
       record {
         node = next-node p part;
@@ -168,9 +168,9 @@ module _ (bytes : List ℕ) (k : ℕ) (r d : Tick) (cells : List ℕ) where
   unfolding at-most
   stay-off lt = record { says = λ f s. rw (lt-leb (d .0) (r .0) lt) }
 
-  pub stay-on : (after : List ℕ) → d .0 ≤ r .0 → Puts bytes k (ticks (r .0 - d .0)) cells after → Stays bytes k r d cells after
+  pub stay-on : (after : List ℕ) → d .0 ≤ r .0 → PutsNode bytes k (ticks (r .0 - d .0)) cells after → Stays bytes k r d cells after
   unfolding at-most minus
   stay-on after le done = record { says = λ f s. rw (le-leb (d .0) (r .0) le) (done .says f s) }
 
-  pub less-ready : Ready bytes k r cells → Ready bytes k (ticks (r .0 - d .0)) cells
+  pub less-ready : NodeReady bytes k r cells → NodeReady bytes k (ticks (r .0 - d .0)) cells
   less-ready ready = record { node = ready .node; cell = ready .cell; left = omega (arith, ready .left) }

@@ -12,14 +12,14 @@ use Rattle.logic.specs.Time.{at-most, minus}
 use Rattle.logic.specs.Tower.{Tower}
 use Rattle.logic.specs.Book.{Formula, constant, Comparison, compares, root, Rule, Book}
 use Rattle.logic.specs.declared.Tick.{Tick}
-use Rattle.pending.specs.Pending.{Pending, holds, coming, put, progress, progress-nodes, progress-rule, progress-rules, progressed, begin-rule, begin-rules, first-pending}
-use Rattle.reading.specs.BookArea.{comparison-code, form-code}
+use Rattle.pending.specs.Pending.{Pending, holds, coming, put, progress, progress-nodes, progress-rule, progress-rules, none-pending, progressed, begin-rule, begin-rules, first-pending}
+use Rattle.reading.specs.BookArea.{lines-at, line-size, nodes-in, comparison-code, form-code}
 use Rattle.book_progression.specs.PendingBytes.{cell-of, pending-of, part, outcome}
-use Rattle.book_progression.specs.NodeBytes.{code-of, Stored, IsNode, Held, Marked}
+use Rattle.book_progression.specs.NodeBytes.{code-of, form-of, formula-of, Stored, IsNode, HeldBook, MarkedState}
 
 -- The answer says whether node k holds at a state with these marks.
-pub record Holds (answer : Bool) (bytes : List ℕ) (k mask : ℕ) : Type 0 where
-  pub says : (f : Formula) → Stored bytes f k → (at : Marked mask) → answer ≡ holds (at .tower) (at .state) f
+pub record HoldsAt (answer : Bool) (bytes : List ℕ) (k mask : ℕ) : Type 0 where
+  pub says : (f : Formula) → Stored bytes f k → (at : MarkedState mask) → answer ≡ holds (at .tower) (at .state) f
 
 -- The ticks are those that node k has, where it comes up with r and its cell is this.
 pub record Merged (result : Tick) (bytes : List ℕ) (k : ℕ) (r : Tick) (cell : ℕ) : Type 0 where
@@ -31,7 +31,7 @@ pub record Compares (answer : Bool) (code : ℕ) (d t : Tick) : Type 0 where
   pub says : (c : Comparison) → code ≡ comparison-code c → answer ≡ compares c d t
 
 -- Node k is put among the cells with r ticks.
-pub record Puts (bytes : List ℕ) (k : ℕ) (r : Tick) (cells after : List ℕ) : Type 0 where
+pub record PutsNode (bytes : List ℕ) (k : ℕ) (r : Tick) (cells after : List ℕ) : Type 0 where
   pub says : (f : Formula) → Stored bytes f k → pending-of after ≡ put f k r (pending-of cells)
 
 -- Node k stays among the cells with r - d ticks if d is at most r.
@@ -40,7 +40,7 @@ pub record Stays (bytes : List ℕ) (k : ℕ) (r d : Tick) (cells after : List �
       → pending-of after ≡ pick (at-most d r) (λ _. put f k (minus r d) (pending-of cells)) (λ _. pending-of cells)
 
 -- What is asked before node k with r ticks is put among the cells or progresses.
-pub record Ready (bytes : List ℕ) (k : ℕ) (r : Tick) (cells : List ℕ) : Type 0 where
+pub record NodeReady (bytes : List ℕ) (k : ℕ) (r : Tick) (cells : List ℕ) : Type 0 where
   pub node : IsNode bytes k
   pub cell : k < length cells
   pub left : r .0 ≤ 254
@@ -59,7 +59,7 @@ pub record Nexts (answer : Bool) (bytes : List ℕ) (k : ℕ) (d : Tick) (cells 
 
 -- Node k with r ticks left progresses, as a state with these marks is left by a step of length d.
 pub record Progresses (answer : Bool) (bytes : List ℕ) (k : ℕ) (r : Tick) (mask : ℕ) (d : Tick) (cells after : List ℕ) : Type 0 where
-  pub says : (f : Formula) → Stored bytes f k → (at : Marked mask)
+  pub says : (f : Formula) → Stored bytes f k → (at : MarkedState mask)
       → progress (at .tower) (at .state) d f k r (pending-of cells) ≡ outcome answer after
 
 -- ---- all nodes
@@ -71,11 +71,11 @@ cell-step tower x d f k (some r) p = progress tower x d f k r p
 
 -- Node k progresses if its cell says that it is pending.
 pub record CellSteps (answer : Bool) (bytes : List ℕ) (k cell mask : ℕ) (d : Tick) (cells after : List ℕ) : Type 0 where
-  pub says : (f : Formula) → Stored bytes f k → (at : Marked mask)
+  pub says : (f : Formula) → Stored bytes f k → (at : MarkedState mask)
       → cell-step (at .tower) (at .state) d f k (cell-of cell) (pending-of cells) ≡ outcome answer after
 
 -- The formulas are the nodes that the bytes hold.
-pub record Nodes (bytes : List ℕ) (count : ℕ) (fs : List Formula) : Type 0 where
+pub record AreNodes (bytes : List ℕ) (count : ℕ) (fs : List Formula) : Type 0 where
   pub all : length fs ≡ count
   pub stored : (k : ℕ) → k < count → Stored bytes (getD fs k (constant false)) k
 
@@ -95,59 +95,70 @@ pub record Beside (area : List ℕ) (to n : ℕ) (after : List ℕ) : Type 0 whe
   pub before : take to after ≡ take to area
   pub behind : drop (to + n) after ≡ drop (to + n) area
 
+-- The cells from number k to r are empty, in the part that starts at `from`.
+pub record EmptyTo (area : List ℕ) (from count k r : ℕ) : Type 0 where
+  pub least : k ≤ r
+  pub most : r ≤ count
+  pub empty : (j : ℕ) → k ≤ j → j < r → byte-at area (from + j) ≡ 0
+
 -- Every pending node of one part progresses into the other.
 pub record NodesProgress (answer : Bool) (bytes : List ℕ) (count mask : ℕ) (d : Tick) (area : List ℕ) (from to : ℕ) (after : List ℕ) : Type 0 where
   pub beside : Beside area to count after
-  pub says : (fs : List Formula) → Nodes bytes count fs → (at : Marked mask)
+  pub says : (fs : List Formula) → AreNodes bytes count fs → (at : MarkedState mask)
       → progress-nodes (at .tower) (at .state) d fs 0 (pending-of (part area from count)) (pending-of (part area to count))
       ≡ outcome answer (part after to count)
 
 -- ---- all lines
 
 -- Line i is this rule, and its nodes begin with number n.
-pub record LineIs (bytes : List ℕ) (i count : ℕ) (rule : Rule) (n : ℕ) : Type 0 where
-  pub room : 240 + 2 * i + 1 < length bytes
-  pub form : byte-at bytes (240 + 2 * i) ≡ form-code (rule .form)
-  pub place : byte-at bytes (240 + 2 * i + 1) ≡ root n (rule .formula)
-  pub low : root n (rule .formula) < count
+pub record LineIs (bytes : List ℕ) (i : ℕ) (rule : Rule) (n : ℕ) : Type 0 where
+  pub room : lines-at + line-size * i + 1 < length bytes
+  pub form : form-of bytes i ≡ form-code (rule .form)
+  pub place : formula-of bytes i ≡ root n (rule .formula)
+  pub low : root n (rule .formula) < nodes-in bytes
   pub stored : Stored bytes (rule .formula) (root n (rule .formula))
 
 -- Line i is some rule.
-pub record IsLine (bytes : List ℕ) (i count : ℕ) : Type 0 where
+pub record IsLine (bytes : List ℕ) (i : ℕ) : Type 0 where
   pub rule : Rule
   pub first : ℕ
-  pub room : 240 + 2 * i + 1 < length bytes
-  pub is : LineIs bytes i count rule first
+  pub room : lines-at + line-size * i + 1 < length bytes
+  pub is : LineIs bytes i rule first
 
 -- Line i progresses if it is an `always` line.
 pub record LineSteps (answer : Bool) (bytes : List ℕ) (i mask : ℕ) (d : Tick) (cells after : List ℕ) : Type 0 where
-  pub says : (rule : Rule) (n : ℕ) → LineIs bytes i (length cells) rule n → (at : Marked mask)
+  pub says : (rule : Rule) (n : ℕ) → LineIs bytes i rule n → (at : MarkedState mask)
       → progress-rule (at .tower) (at .state) d (rule .form) (rule .formula) (root n (rule .formula)) (pending-of cells) ≡ outcome answer after
 
 -- Every line progresses in turn.
-pub record LinesProgress (answer : Bool) (bytes : List ℕ) (lines mask : ℕ) (d : Tick) (cells after : List ℕ) : Type 0 where
-  pub says : (book : Book) → Held bytes lines (length cells) book → (at : Marked mask)
+pub record LinesProgress (answer : Bool) (bytes : List ℕ) (mask : ℕ) (d : Tick) (cells after : List ℕ) : Type 0 where
+  pub says : (book : Book) → HeldBook bytes book → (at : MarkedState mask)
       → progress-rules (at .tower) (at .state) d book 0 (pending-of cells) ≡ outcome answer after
 
 -- Line i begins: it is pending if it is a `start` line.
 pub record LineBegins (bytes : List ℕ) (i : ℕ) (cells after : List ℕ) : Type 0 where
-  pub says : (rule : Rule) (n : ℕ) → LineIs bytes i (length cells) rule n
+  pub says : (rule : Rule) (n : ℕ) → LineIs bytes i rule n
       → pending-of after ≡ begin-rule (rule .form) (rule .formula) (root n (rule .formula)) (pending-of cells)
 
 -- Every line begins in turn.
-pub record LinesBegin (bytes : List ℕ) (lines : ℕ) (cells after : List ℕ) : Type 0 where
-  pub says : (book : Book) → Held bytes lines (length cells) book → pending-of after ≡ begin-rules book 0 (pending-of cells)
+pub record LinesBegin (bytes cells after : List ℕ) : Type 0 where
+  pub says : (book : Book) → HeldBook bytes book → pending-of after ≡ begin-rules book 0 (pending-of cells)
 
 -- ---- the whole step
 
+-- Nothing is pending in the part. Every other byte of the area stays.
+pub record Emptied (bytes area : List ℕ) (to : ℕ) (after : List ℕ) : Type 0 where
+  pub beside : Beside area to (nodes-in bytes) after
+  pub says : (book : Book) → HeldBook bytes book → pending-of (part after to (nodes-in bytes)) ≡ none-pending book
+
 -- A state with these marks is left by a step of length d: what is pending in one part progresses into the other. Every other byte of the
 -- area stays. Where the answer is false nothing is said of the part that is written.
-pub record Progressed (answer : Bool) (bytes : List ℕ) (lines count mask : ℕ) (d : Tick) (area : List ℕ) (from to : ℕ) (after : List ℕ) : Type 0 where
-  pub beside : Beside area to count after
-  pub says : (book : Book) → Held bytes lines count book → (at : Marked mask)
-      → progressed (at .tower) book (at .state) d (pending-of (part area from count)) ≡ outcome answer (part after to count)
+pub record Progressed (answer : Bool) (bytes : List ℕ) (mask : ℕ) (d : Tick) (area : List ℕ) (from to : ℕ) (after : List ℕ) : Type 0 where
+  pub beside : Beside area to (nodes-in bytes) after
+  pub says : (book : Book) → HeldBook bytes book → (at : MarkedState mask)
+      → progressed (at .tower) book (at .state) d (pending-of (part area from (nodes-in bytes))) ≡ outcome answer (part after to (nodes-in bytes))
 
 -- The run begins.
-pub record Begun (bytes : List ℕ) (lines count : ℕ) (area : List ℕ) (to : ℕ) (after : List ℕ) : Type 0 where
-  pub beside : Beside area to count after
-  pub says : (book : Book) → Held bytes lines count book → pending-of (part after to count) ≡ first-pending book
+pub record PendingBegun (bytes area : List ℕ) (to : ℕ) (after : List ℕ) : Type 0 where
+  pub beside : Beside area to (nodes-in bytes) after
+  pub says : (book : Book) → HeldBook bytes book → pending-of (part after to (nodes-in bytes)) ≡ first-pending book

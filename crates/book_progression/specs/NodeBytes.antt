@@ -8,8 +8,8 @@ use lib.Dec.{ltb}
 use Rattle.base.specs.Choice.{pick}
 use Rattle.base.specs.Bytes.{byte-at}
 use Rattle.logic.specs.Tower.{Tower, most-marks, bit}
-use Rattle.logic.specs.Book.{Formula, constant, proposition, and, or, next, always-for, until, nodes, first-part, second-part, FitBook, Rule, Book}
-use Rattle.reading.specs.BookArea.{node-code, node-number, node-first, node-second, HoldsBook}
+use Rattle.logic.specs.Book.{Formula, constant, proposition, and, or, next, always-for, until, first-part, second-part, FitBook, Rule, Book}
+use Rattle.reading.specs.BookArea.{lines-at, line-size, line-count-at, node-code, node-number, node-first, node-second, nodes-in, HoldsBook}
 use Rattle.reading.specs.BookReading.{over-number, over-mark}
 
 -- the four bytes of node k
@@ -24,6 +24,13 @@ first-of bytes k = byte-at bytes (4 * k + 2)
 
 abbrev pub second-of : List ℕ → ℕ → ℕ
 second-of bytes k = byte-at bytes (4 * k + 3)
+
+-- the form of line i, and the node of its formula
+abbrev pub form-of : List ℕ → ℕ → ℕ
+form-of bytes i = byte-at bytes (lines-at + line-size * i)
+
+abbrev pub formula-of : List ℕ → ℕ → ℕ
+formula-of bytes i = byte-at bytes (lines-at + line-size * i + 1)
 
 -- the ticks that node k starts with: its bound, if it has one
 unfoldable pub fresh-of : List ℕ → ℕ → ℕ
@@ -58,22 +65,22 @@ pub record IsNode (bytes : List ℕ) (k : ℕ) : Type 0 where
   pub formula : Formula
   pub stored : Stored bytes formula k
 
--- The area holds the book, of so many lines and nodes, within the limits that a book is read under.
-pub record Held (bytes : List ℕ) (lines count : ℕ) (book : Book) : Type 0 where
+-- The area holds the book, within the limits that a book is read under.
+pub record HeldBook (bytes : List ℕ) (book : Book) : Type 0 where
   pub holds : HoldsBook bytes book
-  pub all-lines : lines ≡ length book
-  pub all-nodes : count ≡ length (nodes book)
   pub fit : FitBook book
   pub numbers : (rule : Rule) → List·Memᴰ rule book → over-number (rule .formula) ≡ false
   pub marks : (rule : Rule) → List·Memᴰ rule book → over-mark most-marks (rule .formula) ≡ false
 
--- The area holds a book.
-pub record IsHeld (bytes : List ℕ) (lines count : ℕ) : Type 0 where
+-- The area holds a book, with the numbers of its nodes and lines, and at most 60 nodes.
+pub record IsHeld (bytes : List ℕ) : Type 0 where
   pub book : Book
-  pub held : Held bytes lines count book
+  pub held : HeldBook bytes book
+  pub room : line-count-at < length bytes
+  pub few : nodes-in bytes ≤ 60
 
 -- A state of a tower whose marks are the bits of the mask.
-pub record Marked (mask : ℕ) : Type 0 where
+pub record MarkedState (mask : ℕ) : Type 0 where
   pub tower : Tower
   pub state : ℕ
   pub marks : (k : ℕ) → tower .marked state k ≡ bit k mask

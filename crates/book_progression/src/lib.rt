@@ -1,4 +1,5 @@
 // One step of progression (01, 'What is pending') over a book that lies as bytes in a lent area.
+mod line;
 mod node;
 
 use logic::Tick;
@@ -6,15 +7,20 @@ ghost use Prim.Native.Nat.{_+_, _<_, _≤_};
 ghost use mathlib.Core.Path.{_≡_};
 ghost use lib.ListN.{length};
 ghost use Rattle.logic.specs.Tower.{bit};
+ghost use Rattle.reading.specs.BookArea.{nodes-in, lines-in};
 ghost use Rattle.book_progression.specs.NodeBytes.{IsNode, IsHeld};
-ghost use Rattle.book_progression.specs.Contracts.{Holds, Merged, Ready, Puts, Compares, NextReady, Nexts, Stays, Progresses, CellSteps, HasNodes, Parts, NodesProgress, IsLine, LineSteps, LinesProgress, LineBegins, LinesBegin, Progressed, Begun};
+ghost use Rattle.book_progression.specs.Contracts.{HoldsAt, Merged, NodeReady, PutsNode, Compares, NextReady, Nexts, Stays, Progresses, CellSteps, HasNodes, Parts, EmptyTo, NodesProgress, IsLine, LineSteps, LinesProgress, LineBegins, LinesBegin, Emptied, Progressed, PendingBegun};
 
-// Where the lines of a book begin, the bytes of a line, and what an `always` line begins with.
-const LINES_AT: usize = 240;
+// Where the number of the book's nodes stands.
+const NODE_COUNT: usize = 480;
 
-const LINE_SIZE: usize = 2;
-
-const ALWAYS_LINE: u8 = 1;
+// How many nodes the book has.
+pub fn node_count(book: &[u8]) -> usize
+    requires { ⌜ IsHeld (now book) ⌝ }
+    ensures { λ r. ⌜ r ≡ nodes-in (now (book .entry)) ⌝ }
+{
+    book[NODE_COUNT] as usize
+}
 
 // A state with this mask has the mark: its bit is set.
 fn marked(mark: u8, mask: usize) -> bool
@@ -28,7 +34,7 @@ fn marked(mark: u8, mask: usize) -> bool
 // asked.
 pub fn holds(book: &[u8], k: usize, mask: usize) -> bool
     requires { ⌜ IsNode (now book) k ⌝ }
-    ensures { λ r. ⌜ Holds r (now (book .entry)) k mask ⌝ }
+    ensures { λ r. ⌜ HoldsAt r (now (book .entry)) k mask ⌝ }
 {
     let code = node::code(book, k);
     if code <= node::TRUE {
@@ -84,8 +90,8 @@ fn merged(book: &[u8], k: usize, r: Tick, cell: u8) -> Tick
 
 // Node k becomes pending with r ticks.
 fn put(book: &[u8], k: usize, r: Tick, cells: &mut [u8])
-    requires { ⌜ Ready (now book) k r (now cells) ⌝ }
-    ensures { λ _. ⌜ Puts (now (book .entry)) k r (now (cells .entry)) (now (cells .exit)) ⌝ }
+    requires { ⌜ NodeReady (now book) k r (now cells) ⌝ }
+    ensures { λ _. ⌜ PutsNode (now (book .entry)) k r (now (cells .entry)) (now (cells .exit)) ⌝ }
 {
     let left = merged(book, k, r, cells[k]);
     cells[k] = (left.0 + 1) as u8;
@@ -123,7 +129,7 @@ fn progress_next(book: &[u8], k: usize, d: Tick, cells: &mut [u8]) -> bool
 
 // Node k, with so many ticks left, stays pending with d fewer if there are as many.
 fn stay(book: &[u8], k: usize, left: Tick, d: Tick, cells: &mut [u8])
-    requires { ⌜ Ready (now book) k left (now cells) ⌝ }
+    requires { ⌜ NodeReady (now book) k left (now cells) ⌝ }
     ensures { λ _. ⌜ Stays (now (book .entry)) k left d (now (cells .entry)) (now (cells .exit)) ⌝ }
 {
     if left.0 < d.0 {
@@ -136,7 +142,7 @@ fn stay(book: &[u8], k: usize, left: Tick, d: Tick, cells: &mut [u8])
 // what becomes pending is added to the cells. False if the step is broken; then the cells are of no
 // use.
 pub fn progress(book: &[u8], k: usize, r: Tick, mask: usize, d: Tick, cells: &mut [u8]) -> bool
-    requires { ⌜ Ready (now book) k r (now cells) ⌝ }
+    requires { ⌜ NodeReady (now book) k r (now cells) ⌝ }
     ensures { λ b. ⌜ Progresses b (now (book .entry)) k r mask d (now (cells .entry)) (now (cells .exit)) ⌝ }
 {
     let code = node::code(book, k);
@@ -198,6 +204,39 @@ fn progress_cell(book: &[u8], k: usize, cell: u8, mask: usize, d: Tick, cells: &
     progress(book, k, Tick(cell as u64 - 1), mask, d, cells)
 }
 
+// Passes over empty cells, four at a time, in the part of the area that starts at `from`: those from k
+// to the answer are empty.
+fn past_fours(area: &[u8], from: usize, count: usize, k: usize) -> usize
+    requires { ⌜ from + count ≤ length (now area) ⌝ }
+    requires { ⌜ k ≤ count ⌝ }
+    ensures { λ r. ⌜ EmptyTo (now (area .entry)) from count k r ⌝ }
+{
+    let mut i = k;
+    while 4 <= count - i {
+        if area_bytes::four_bytes(area, from + i) != 0 {
+            return i;
+        }
+        i += 4;
+    }
+    i
+}
+
+// Passes over empty cells to the next that is not, or to the end.
+fn past_empty(area: &[u8], from: usize, count: usize, k: usize) -> usize
+    requires { ⌜ from + count ≤ length (now area) ⌝ }
+    requires { ⌜ k ≤ count ⌝ }
+    ensures { λ r. ⌜ EmptyTo (now (area .entry)) from count k r ⌝ }
+{
+    let mut i = past_fours(area, from, count, k);
+    while i < count {
+        if area[from + i] != 0 {
+            return i;
+        }
+        i += 1;
+    }
+    i
+}
+
 // Every pending node progresses in turn: those of the part of the area that starts at `from`, into
 // the part that starts at `to`.
 fn progress_nodes(
@@ -219,27 +258,31 @@ fn progress_nodes(
         if !progress_cell(book, k, cell, mask, d, &mut area[to..to + count]) {
             return false;
         }
-        k += 1;
+        k = past_empty(area, from, count, k + 1);
     }
     true
 }
 
 // The formula of line i progresses if it is an `always` line.
 fn progress_line(book: &[u8], i: usize, mask: usize, d: Tick, cells: &mut [u8]) -> bool
-    requires { ⌜ IsLine (now book) i (length (now cells)) ⌝ }
+    requires { ⌜ IsLine (now book) i ⌝ }
+    requires { ⌜ length (now cells) ≡ nodes-in (now book) ⌝ }
     ensures { λ b. ⌜ LineSteps b (now (book .entry)) i mask d (now (cells .entry)) (now (cells .exit)) ⌝ }
 {
-    if book[LINES_AT + LINE_SIZE * i] != ALWAYS_LINE {
+    let at = line::LINES_AT + line::LINE_SIZE * i;
+    if book[at] != line::ALWAYS {
         return true;
     }
-    let k = book[LINES_AT + LINE_SIZE * i + 1] as usize;
+    let k = book[at + line::FORMULA] as usize;
     progress(book, k, node::fresh(book, k), mask, d, cells)
 }
 
-// Every line progresses in turn.
+// Each of the lines progresses in turn.
 fn progress_lines(book: &[u8], lines: usize, mask: usize, d: Tick, cells: &mut [u8]) -> bool
-    requires { ⌜ IsHeld (now book) lines (length (now cells)) ⌝ }
-    ensures { λ b. ⌜ LinesProgress b (now (book .entry)) lines mask d (now (cells .entry)) (now (cells .exit)) ⌝ }
+    requires { ⌜ IsHeld (now book) ⌝ }
+    requires { ⌜ lines ≡ lines-in (now book) ⌝ }
+    requires { ⌜ length (now cells) ≡ nodes-in (now book) ⌝ }
+    ensures { λ b. ⌜ LinesProgress b (now (book .entry)) mask d (now (cells .entry)) (now (cells .exit)) ⌝ }
 {
     let mut i = 0;
     while i < lines {
@@ -251,24 +294,34 @@ fn progress_lines(book: &[u8], lines: usize, mask: usize, d: Tick, cells: &mut [
     true
 }
 
+// Nothing is pending in the part of the area that starts at `to`.
+fn empty(book: &[u8], area: &mut [u8], to: usize)
+    requires { ⌜ IsHeld (now book) ⌝ }
+    requires { ⌜ to + nodes-in (now book) ≤ length (now area) ⌝ }
+    ensures { λ _. ⌜ Emptied (now (book .entry)) (now (area .entry)) to (now (area .exit)) ⌝ }
+{
+    let count = node_count(book);
+    area_bytes::clear(&mut area[to..to + count]);
+}
+
 // A state with these marks is left by a step of length d: what is pending in the part of the area
 // that starts at `from` progresses into the part that starts at `to`, a byte for each node. False
 // if the step is broken. Every other byte of the area stays as it is.
 pub fn progressed(
     book: &[u8],
-    lines: usize,
-    count: usize,
     mask: usize,
     d: Tick,
     area: &mut [u8],
     from: usize,
     to: usize,
 ) -> bool
-    requires { ⌜ IsHeld (now book) lines count ⌝ }
-    requires { ⌜ Parts (length (now area)) count from to ⌝ }
-    ensures { λ b. ⌜ Progressed b (now (book .entry)) lines count mask d (now (area .entry)) from to (now (area .exit)) ⌝ }
+    requires { ⌜ IsHeld (now book) ⌝ }
+    requires { ⌜ Parts (length (now area)) (nodes-in (now book)) from to ⌝ }
+    ensures { λ b. ⌜ Progressed b (now (book .entry)) mask d (now (area .entry)) from to (now (area .exit)) ⌝ }
 {
-    area_bytes::clear(&mut area[to..to + count]);
+    empty(book, area, to);
+    let count = node_count(book);
+    let lines = line::count(book);
     if !progress_nodes(book, count, mask, d, area, from, to) {
         return false;
     }
@@ -277,35 +330,39 @@ pub fn progressed(
 
 // The formula of line i becomes pending if it is a `start` line.
 fn begin_line(book: &[u8], i: usize, cells: &mut [u8])
-    requires { ⌜ IsLine (now book) i (length (now cells)) ⌝ }
+    requires { ⌜ IsLine (now book) i ⌝ }
+    requires { ⌜ length (now cells) ≡ nodes-in (now book) ⌝ }
     ensures { λ _. ⌜ LineBegins (now (book .entry)) i (now (cells .entry)) (now (cells .exit)) ⌝ }
 {
-    if book[LINES_AT + LINE_SIZE * i] == ALWAYS_LINE {
+    if line::form(book, i) == line::ALWAYS {
         return;
     }
-    let k = book[LINES_AT + LINE_SIZE * i + 1] as usize;
+    let k = line::formula(book, i);
     put(book, k, node::fresh(book, k), cells);
 }
 
 // Every line begins in turn.
-fn begin_lines(book: &[u8], lines: usize, cells: &mut [u8])
-    requires { ⌜ IsHeld (now book) lines (length (now cells)) ⌝ }
-    ensures { λ _. ⌜ LinesBegin (now (book .entry)) lines (now (cells .entry)) (now (cells .exit)) ⌝ }
+fn begin_lines(book: &[u8], cells: &mut [u8])
+    requires { ⌜ IsHeld (now book) ⌝ }
+    requires { ⌜ length (now cells) ≡ nodes-in (now book) ⌝ }
+    ensures { λ _. ⌜ LinesBegin (now (book .entry)) (now (cells .entry)) (now (cells .exit)) ⌝ }
 {
-    let mut i = 0;
-    while i < lines {
-        begin_line(book, i, cells);
-        i += 1;
+    let lines = line::count(book);
+    let mut at = 0;
+    while at < lines {
+        begin_line(book, at, cells);
+        at += 1;
     }
 }
 
 // At first the `start` formulas are pending: they are written to the part of the area that starts
 // at `to`. Every other byte of the area stays as it is.
-pub fn begin(book: &[u8], lines: usize, count: usize, area: &mut [u8], to: usize)
-    requires { ⌜ IsHeld (now book) lines count ⌝ }
-    requires { ⌜ to + count ≤ length (now area) ⌝ }
-    ensures { λ _. ⌜ Begun (now (book .entry)) lines count (now (area .entry)) to (now (area .exit)) ⌝ }
+pub fn begin(book: &[u8], area: &mut [u8], to: usize)
+    requires { ⌜ IsHeld (now book) ⌝ }
+    requires { ⌜ to + nodes-in (now book) ≤ length (now area) ⌝ }
+    ensures { λ _. ⌜ PendingBegun (now (book .entry)) (now (area .entry)) to (now (area .exit)) ⌝ }
 {
-    area_bytes::clear(&mut area[to..to + count]);
-    begin_lines(book, lines, &mut area[to..to + count]);
+    empty(book, area, to);
+    let count = node_count(book);
+    begin_lines(book, &mut area[to..to + count]);
 }

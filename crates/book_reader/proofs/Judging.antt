@@ -13,14 +13,15 @@ use Rattle.base.specs.declared.Refusal.{Refusal}
 use Rattle.base.specs.declared.Refusal.the-variants.{Number, Mark, Limit, Timed}
 use Rattle.base.proofs.Lists.{or-fails-left, or-fails-right}
 use Rattle.logic.specs.Book.{Formula, constant, proposition, and, or, next, always-for, until, timed-right, parts, size, nodes, Form, Rule, Book}
-use Rattle.reading.specs.BookArea.{node-number, form-code, lines-at, line-size}
+use Rattle.reading.specs.BookArea.{node-count-at, node-number, form-code, traits-code}
 use Rattle.reading.specs.BookReading as Reading
 use Rattle.reading.specs.BookReading.{most-ticks, most-nodes, most-brackets, over-number, over-mark, over-limit, judge-line}
-use Rattle.book_nodes.specs.State.{Nodes, State, state-of, put-all, absorb, fault-of, due, last-node}
+use Rattle.book_nodes.specs.State.{Nodes, State, state-of, put-all, absorb, one-if, fault-of, due, last-node}
+use Rattle.book_nodes.proofs.Absorb.{absorb-usual, due-true, due-false}
 use Rattle.book_reader.specs.declared.Turn.{Turn}
 use Rattle.book_reader.specs.declared.Turn.the-variants as T
-use Rattle.book_reader.specs.Lines.{judged, put-line, PutsLine, Held}
-use Rattle.book_reader.proofs.Kept.{AllSmall, count-exact, count-over, holds-more, nodes-append, length-more}
+use Rattle.book_reader.specs.Lines.{judged, put-line, PutsLine, HeldSoFar}
+use Rattle.book_reader.proofs.Kept.{AllSmall, count-exact, count-over, keeps-more, nodes-append, length-more}
 
 -- ---- numbers of nodes
 
@@ -77,14 +78,6 @@ size-some (until t f g) = omega (arith, length-append (parts f) (parts g ++ (unt
 
 -- ---- the least number
 
-due-true : (k : ℕ) → due true k ≡ k
-unfolding due
-due-true k = refl
-
-due-false : (k : ℕ) → due false k ≡ 255
-unfolding due
-due-false k = refl
-
 due-least : (b : Bool) (k : ℕ) → k ≤ 255 → k ≤ due b k
 unfolding due
 due-least true k h = omega arith
@@ -127,10 +120,10 @@ least-none : least false false false false ≡ 255
 unfolding least due
 least-none = refl
 
--- What an area keeps of nodes and lines is 360 bytes.
-kept-360 : (a : List ℕ) → 512 ≤ length a → length (state-of a .nodes .kept) ≡ 360
+-- What an area keeps of nodes and lines ends where their numbers stand.
+kept-all : (a : List ℕ) → 512 ≤ length a → length (state-of a .nodes .kept) ≡ node-count-at
 unfolding state-of
-kept-360 a le = length-take-le 360 a (omega arith)
+kept-all a le = length-take-le node-count-at a (omega arith)
 
 -- ---- a line
 
@@ -141,7 +134,7 @@ pub data Verdict (r : Turn) (marks : ℕ) (rules : Book) (form : Form) (f : Form
       → r ≡ T.Next q → over-number f ≡ false → over-mark marks f ≡ false → length (nodes rules) + size f ≤ 60 → state-of y .fault ≡ 255
       → Verdict r marks rules form f b q y
 
-module _ (marks : ℕ) (rules : Book) (line : ℕ) (a : List ℕ) (held : Held marks rules line a) (form : Form) (f : Formula) (b : ℕ) (y : List ℕ)
+module _ (marks : ℕ) (rules : Book) (line : ℕ) (a : List ℕ) (held : HeldSoFar marks rules line a) (form : Form) (f : Formula) (b : ℕ) (y : List ℕ)
     (absorbed : state-of y ≡ absorb 16 b f (state-of a)) where
   fault-after : state-of y .fault ≡ least (over-number f) (over-mark marks f) (ltb 16 b) (not (timed-right f))
   unfolding absorb fault-of least
@@ -156,6 +149,10 @@ module _ (marks : ℕ) (rules : Book) (line : ℕ) (a : List ℕ) (held : Held m
   marks-after : state-of y .marks ≡ marks
   unfolding absorb
   marks-after = ap (λ (st : State). st .marks) absorbed ∙ held .known-marks
+
+  timed-after : state-of y .is-timed ≡ traits-code f
+  unfolding absorb one-if traits-code
+  timed-after = ap (λ (st : State). st .is-timed) absorbed
 
   -- The count tells whether the book has more than 60 nodes.
   count-after : ltb 60 (state-of y .nodes .count) ≡ ltb 60 (length (nodes rules) + size f)
@@ -174,105 +171,37 @@ module _ (marks : ℕ) (rules : Book) (line : ℕ) (a : List ℕ) (held : Held m
           let exact = count-exact (parts f) (state-of a .nodes) (omega (arith, held .counted, ltb-false 60 (length (nodes rules) + length (parts f)) e)) in
           le-ltb 60 (state-of y .nodes .count) (omega (arith, held .counted, ltb-false 60 (length (nodes rules) + length (parts f)) e)) ∙ sym e
 
-  judge-number : over-number f ≡ true → (q : ℕ) → judge-line marks rules (Reading.line form f b q) ≡ refuse (Number line)
-  unfolding judge-line _if_else_
-  judge-number e1 q = rw (e1, held .count-lines)
-
-  judge-mark : over-number f ≡ false → over-mark marks f ≡ true → (q : ℕ) → judge-line marks rules (Reading.line form f b q) ≡ refuse (Mark line)
-  unfolding judge-line _if_else_
-  judge-mark e1 e2 q = rw (e1, e2, held .count-lines)
-
-  judge-limit : over-number f ≡ false → over-mark marks f ≡ false → (ltb 60 (length (nodes rules) + size f) || ltb 16 b) ≡ true → (q : ℕ)
-      → judge-line marks rules (Reading.line form f b q) ≡ refuse (Limit line)
-  unfolding judge-line _if_else_ over-limit most-nodes most-brackets
-  judge-limit e1 e2 e3 q = rw (e1, e2, e3, held .count-lines)
-
-  judge-timed : over-number f ≡ false → over-mark marks f ≡ false → ltb 60 (length (nodes rules) + size f) ≡ false → ltb 16 b ≡ false
-      → timed-right f ≡ false → (q : ℕ) → judge-line marks rules (Reading.line form f b q) ≡ refuse (Timed line)
-  unfolding judge-line _if_else_ over-limit most-nodes most-brackets
-  judge-timed e1 e2 e3 e4 e5 q = rw (e1, e2, e3, e4, e5, held .count-lines)
-
-  judge-fine : over-number f ≡ false → over-mark marks f ≡ false → ltb 60 (length (nodes rules) + size f) ≡ false → ltb 16 b ≡ false
-      → timed-right f ≡ true → (q : ℕ)
-      → judge-line marks rules (Reading.line form f b q) ≡ give (record { rules = rules ++ (record { form = form; formula = f } ∷ []); place = q })
-  unfolding judge-line _if_else_ over-limit most-nodes most-brackets
-  judge-fine e1 e2 e3 e4 e5 q = rw (e1, e2, e3, e4, e5)
-
-  judged-number : (x2 x3 x4 : Bool) → state-of y .fault ≡ least true x2 x3 x4 → (q : ℕ) → judged line q (state-of y) ≡ T.Refused (Number line)
-  unfolding judged
-  judged-number x2 x3 x4 e q = rw (e, least-7 true x2 x3 x4)
-
-  judged-mark : (x3 x4 : Bool) → state-of y .fault ≡ least false true x3 x4 → (q : ℕ) → judged line q (state-of y) ≡ T.Refused (Mark line)
-  unfolding judged
-  judged-mark x3 x4 e q = rw (e, least-7 false true x3 x4, least-8 true x3 x4)
-
-  judged-nodes : (x3 x4 : Bool) → state-of y .fault ≡ least false false x3 x4 → ltb 60 (state-of y .nodes .count) ≡ true → (q : ℕ)
-      → judged line q (state-of y) ≡ T.Refused (Limit line)
-  unfolding judged
-  judged-nodes x3 x4 e g q = rw (e, least-7 false false x3 x4, least-8 false x3 x4, g)
-
-  judged-brackets : (x4 : Bool) → state-of y .fault ≡ least false false true x4 → ltb 60 (state-of y .nodes .count) ≡ false → (q : ℕ)
-      → judged line q (state-of y) ≡ T.Refused (Limit line)
-  unfolding judged
-  judged-brackets x4 e g q = rw (e, least-7 false false true x4, least-8 false true x4, g, least-9 true x4)
-
-  judged-timed : state-of y .fault ≡ least false false false true → ltb 60 (state-of y .nodes .count) ≡ false → (q : ℕ)
-      → judged line q (state-of y) ≡ T.Refused (Timed line)
-  unfolding judged
-  judged-timed e g q = rw (e, least-7 false false false true, least-8 false false true, g, least-9 false true, least-10 true)
-
-  judged-fine : state-of y .fault ≡ 255 → ltb 60 (state-of y .nodes .count) ≡ false → (q : ℕ) → judged line q (state-of y) ≡ T.Next q
-  unfolding judged
-  judged-fine e g q = rw (e, g)
-
   -- The line is judged alike.
+  verdict : (q : ℕ) (r : Turn) → r ≡ judged line q (state-of y) → (x1 x2 x3 x4 x5 : Bool) → over-number f ≡ x1 → over-mark marks f ≡ x2
+      → ltb 60 (length (nodes rules) + size f) ≡ x3 → ltb 16 b ≡ x4 → timed-right f ≡ x5 → Verdict r marks rules form f b q y
+  unfolding judge-line _if_else_ over-limit most-nodes most-brackets judged
+  verdict q r e true x2 x3 x4 x5 e1 e2 e3 e4 e5 =
+      down (Number line) (rw (e1, held .count-lines)) (e ∙ rw (fault-after, e1, least-7 true (over-mark marks f) (ltb 16 b) (not (timed-right f))))
+  verdict q r e false true x3 x4 x5 e1 e2 e3 e4 e5 =
+      down (Mark line) (rw (e1, e2, held .count-lines))
+      (e ∙ rw (fault-after, e1, e2, least-7 false true (ltb 16 b) (not (timed-right f)), least-8 true (ltb 16 b) (not (timed-right f))))
+  verdict q r e false false true x4 x5 e1 e2 e3 e4 e5 =
+      down (Limit line) (rw (e1, e2, e3, held .count-lines))
+      (e ∙ rw (fault-after, e1, e2, least-7 false false (ltb 16 b) (not (timed-right f)), least-8 false (ltb 16 b) (not (timed-right f)), count-after, e3))
+  verdict q r e false false false true x5 e1 e2 e3 e4 e5 =
+      down (Limit line) (rw (e1, e2, e3, e4, held .count-lines))
+      (e ∙ rw (fault-after, e1, e2, e4, least-7 false false true (not (timed-right f)), least-8 false true (not (timed-right f)), count-after, e3, least-9 true (not (timed-right f))))
+  verdict q r e false false false false false e1 e2 e3 e4 e5 =
+      down (Timed line) (rw (e1, e2, e3, e4, e5, held .count-lines))
+      (e ∙ rw (fault-after, e1, e2, e4, e5, least-7 false false false true, least-8 false false true, count-after, e3, least-9 false true, least-10 true))
+  verdict q r e false false false false true e1 e2 e3 e4 e5 =
+      let fault : state-of y .fault ≡ 255 = fault-after ∙ rw (e1, e2, e4, e5) least-none in
+      fine (rw (e1, e2, e3, e4, e5)) (e ∙ rw (fault, count-after, e3)) e1 e2 (omega (arith, ltb-false 60 (length (nodes rules) + size f) e3)) fault
+
   pub line-judged : (q : ℕ) (r : Turn) → r ≡ judged line q (state-of y) → Verdict r marks rules form f b q y
-  line-judged q r e = by-number (over-number f) refl
-    where
-      numbers : length rules ≡ line
-      numbers = held .count-lines
-
-      by-timed : (t : Bool) → timed-right f ≡ t → over-number f ≡ false → over-mark marks f ≡ false
-          → ltb 60 (length (nodes rules) + size f) ≡ false → ltb 16 b ≡ false → Verdict r marks rules form f b q y
-      by-timed true e5 e1 e2 e3 e4 =
-          let fault : state-of y .fault ≡ 255 = fault-after ∙ rw (e1, e2, e4, e5) least-none in
-          fine (judge-fine e1 e2 e3 e4 e5 q) (e ∙ judged-fine fault (count-after ∙ e3) q) e1 e2
-          (omega (arith, ltb-false 60 (length (nodes rules) + size f) e3)) fault
-      by-timed false e5 e1 e2 e3 e4 =
-          let fault : state-of y .fault ≡ least false false false true = fault-after ∙ rw (e1, e2, e4, e5) in
-          down (Timed line) (judge-timed e1 e2 e3 e4 e5 q) (e ∙ judged-timed fault (count-after ∙ e3) q)
-
-      by-brackets : (t : Bool) → ltb 16 b ≡ t → over-number f ≡ false → over-mark marks f ≡ false
-          → ltb 60 (length (nodes rules) + size f) ≡ false → Verdict r marks rules form f b q y
-      by-brackets true e4 e1 e2 e3 =
-          let fault : state-of y .fault ≡ least false false true (not (timed-right f)) = fault-after ∙ rw (e1, e2, e4) in
-          down (Limit line) (judge-limit e1 e2 (rw (e3, e4)) q) (e ∙ judged-brackets (not (timed-right f)) fault (count-after ∙ e3) q)
-      by-brackets false e4 e1 e2 e3 = by-timed (timed-right f) refl e1 e2 e3 e4
-
-      by-nodes : (t : Bool) → ltb 60 (length (nodes rules) + size f) ≡ t → over-number f ≡ false → over-mark marks f ≡ false
-          → Verdict r marks rules form f b q y
-      by-nodes true e3 e1 e2 =
-          let fault : state-of y .fault ≡ least false false (ltb 16 b) (not (timed-right f)) = fault-after ∙ rw (e1, e2) in
-          down (Limit line) (judge-limit e1 e2 (rw e3) q) (e ∙ judged-nodes (ltb 16 b) (not (timed-right f)) fault (count-after ∙ e3) q)
-      by-nodes false e3 e1 e2 = by-brackets (ltb 16 b) refl e1 e2 e3
-
-      by-mark : (t : Bool) → over-mark marks f ≡ t → over-number f ≡ false → Verdict r marks rules form f b q y
-      by-mark true e2 e1 =
-          let fault : state-of y .fault ≡ least false true (ltb 16 b) (not (timed-right f)) = fault-after ∙ rw (e1, e2) in
-          down (Mark line) (judge-mark e1 e2 q) (e ∙ judged-mark (ltb 16 b) (not (timed-right f)) fault q)
-      by-mark false e2 e1 = by-nodes (ltb 60 (length (nodes rules) + size f)) refl e1 e2
-
-      by-number : (t : Bool) → over-number f ≡ t → Verdict r marks rules form f b q y
-      by-number true e1 =
-          let fault : state-of y .fault ≡ least true (over-mark marks f) (ltb 16 b) (not (timed-right f)) = fault-after ∙ rw e1 in
-          down (Number line) (judge-number e1 q) (e ∙ judged-number (over-mark marks f) (ltb 16 b) (not (timed-right f)) fault q)
-      by-number false e1 = by-mark (over-mark marks f) refl e1
+  line-judged q r e =
+      verdict q r e (over-number f) (over-mark marks f) (ltb 60 (length (nodes rules) + size f)) (ltb 16 b) (timed-right f) refl refl refl refl refl
 
   -- One rule more is held, once its line is put down.
   pub held-more : (q : ℕ) (z : List ℕ) → marks ≤ 16 → 512 ≤ length a → over-number f ≡ false → over-mark marks f ≡ false
       → length (nodes rules) + size f ≤ 60 → state-of y .fault ≡ 255 → PutsLine line (form-code form) y z
-      → Held marks (rules ++ (record { form = form; formula = f } ∷ [])) (line + 1) z
-  unfolding put-line size last-node lines-at line-size
+      → HeldSoFar marks (rules ++ (record { form = form; formula = f } ∷ [])) (line + 1) z
+  unfolding put-line size last-node
   held-more q z le long n m few fault puts =
       let rule : Rule = record { form = form; formula = f } in
       let len : length (nodes (rules ++ (rule ∷ []))) ≡ length (nodes rules) + length (parts f) =
@@ -289,6 +218,7 @@ module _ (marks : ℕ) (rules : Book) (line : ℕ) (a : List ℕ) (held : Held m
         counted = ap (λ (st : State). st .nodes .count) put ∙ ap (λ (x : Nodes). x .count) nodes-after ∙ omega (arith, held .counted);
         faultless = ap (λ (st : State). st .fault) put ∙ fault;
         known-marks = ap (λ (st : State). st .marks) put ∙ marks-after;
-        book = rw (put, nodes-after, ← held .count-lines)
-            (holds-more rules form f (state-of a .nodes) (held .book) (held .counted) (kept-360 a long) few room (small marks f le n m));
+        known-usual = ap (λ (st : State). st .usual) put ∙ absorb-usual y 16 b f (state-of a) absorbed ∙ held .known-usual;
+        book = rw (put, timed-after, nodes-after, ← held .count-lines)
+            (keeps-more rules form f (state-of a .nodes) (held .book) (held .counted) (kept-all a long) few room (small marks f le n m));
       }

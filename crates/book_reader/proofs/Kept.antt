@@ -12,9 +12,10 @@ use lib.Dec.{ltb}
 use borrow.Author.Tests.{lt-ltb, le-ltb, ltb-true, ltb-false}
 use Rattle.base.specs.Lists.{joined}
 use Rattle.logic.specs.Book.{Formula, and, parts, size, nodes, root, Form, Rule, Book}
-use Rattle.reading.specs.BookArea.{node-size, line-size, lines-at, node-code, node-number, node-first, node-second, node-bytes, nodes-bytes, form-code, lines-bytes, HoldsBook}
+use Rattle.reading.specs.BookArea.{lines-at, node-count-at, node-code, node-number, node-first, node-second, node-bytes, nodes-bytes, form-code, traits-code, line-bytes, lines-bytes, nodes-in, lines-in, HoldsBook}
 use Rattle.reading.specs.BookReading.{most-nodes}
 use Rattle.book_nodes.specs.State.{Nodes, put-bytes, put-one, put-all}
+use Rattle.book_reader.specs.Lines.{Keeps}
 
 -- ---- runs of stores
 
@@ -66,7 +67,7 @@ small-bytes k f lt = let e : node-number f % 256 ≡ node-number f = omega arith
 
 put-one-room : (f : Formula) (n : Nodes) → n .count < 60
     → put-one f n ≡ record { kept = sets (n .kept) (4 * n .count) (one-bytes (n .count) f); count = n .count + 1 }
-unfolding put-one put-bytes most-nodes node-size one-bytes
+unfolding put-one put-bytes most-nodes one-bytes
 put-one-room f n lt = rw (lt-ltb (n .count) 60 lt)
 
 put-one-full : (f : Formula) (n : Nodes) → 60 ≤ n .count → put-one f n ≡ record { kept = n .kept; count = 61 }
@@ -86,17 +87,17 @@ unfolding put-all
 kept-length [] n = refl
 kept-length (f ∷ fs) n = kept-length fs (put-one f n) ∙ one-length f n
 
-one-drop : (f : Formula) (n : Nodes) → drop 240 (put-one f n .kept) ≡ drop 240 (n .kept)
+one-drop : (f : Formula) (n : Nodes) → drop lines-at (put-one f n .kept) ≡ drop lines-at (n .kept)
 one-drop f n = go (ltb (n .count) 60) refl
   where
-    go : (b : Bool) → ltb (n .count) 60 ≡ b → drop 240 (put-one f n .kept) ≡ drop 240 (n .kept)
+    go : (b : Bool) → ltb (n .count) 60 ≡ b → drop lines-at (put-one f n .kept) ≡ drop lines-at (n .kept)
     go true e =
         let lt = ltb-true (n .count) 60 e in
-        ap (λ (m : Nodes). drop 240 (m .kept)) (put-one-room f n lt) ∙ drop-sets-above (one-bytes (n .count) f) (n .kept) (4 * n .count) 240 (omega (arith, four f (n .count)))
-    go false e = ap (λ (m : Nodes). drop 240 (m .kept)) (put-one-full f n (ltb-false (n .count) 60 e))
+        ap (λ (m : Nodes). drop lines-at (m .kept)) (put-one-room f n lt) ∙ drop-sets-above (one-bytes (n .count) f) (n .kept) (4 * n .count) lines-at (omega (arith, four f (n .count)))
+    go false e = ap (λ (m : Nodes). drop lines-at (m .kept)) (put-one-full f n (ltb-false (n .count) 60 e))
 
 -- The lines stay as nodes are put down.
-pub kept-lines : (fs : List Formula) (n : Nodes) → drop 240 (put-all fs n .kept) ≡ drop 240 (n .kept)
+pub kept-lines : (fs : List Formula) (n : Nodes) → drop lines-at (put-all fs n .kept) ≡ drop lines-at (n .kept)
 unfolding put-all
 kept-lines [] n = refl
 kept-lines (f ∷ fs) n = kept-lines fs (put-one f n) ∙ one-drop f n
@@ -187,16 +188,16 @@ no-nodes : (n : ℕ) → n + length (nodes []) ≡ n
 unfolding nodes joined
 no-nodes n = omega arith
 
-lines-bytes-append : (n : ℕ) (rules : Book) (rule : Rule)
-    → lines-bytes n (rules ++ (rule ∷ []))
-    ≡ lines-bytes n rules ++ (form-code (rule .form) ∷ root (n + length (nodes rules)) (rule .formula) ∷ [])
-unfolding lines-bytes
-lines-bytes-append n [] rule = let e : n + length (nodes []) ≡ n = no-nodes n in rw e
-lines-bytes-append n (first ∷ rules) rule =
+lines-bytes-append : (i n : ℕ) (rules : Book) (rule : Rule)
+    → lines-bytes i n (rules ++ (rule ∷ [])) ≡ lines-bytes i n rules ++ line-bytes (i + length rules) (n + length (nodes rules)) rule
+unfolding lines-bytes line-bytes
+lines-bytes-append i n [] rule = let e : n + length (nodes []) ≡ n = no-nodes n in rw (e, add-zero i)
+lines-bytes-append i n (first ∷ rules) rule =
     let e : n + size (first .formula) + length (nodes rules) ≡ n + length (nodes (first ∷ rules)) = omega (arith, nodes-cons first rules) in
-    ap (λ (x : List ℕ). form-code (first .form) ∷ root n (first .formula) ∷ x)
-    (lines-bytes-append (n + size (first .formula)) rules rule
-    ∙ ap (λ (m : ℕ). lines-bytes (n + size (first .formula)) rules ++ (form-code (rule .form) ∷ root m (rule .formula) ∷ [])) e)
+    let f : suc i + length rules ≡ i + suc (length rules) = omega arith in
+    ap (λ (x : List ℕ). line-bytes i n first ++ x)
+    (lines-bytes-append (suc i) (n + size (first .formula)) rules rule
+    ∙ ap₂ (λ (k m : ℕ). lines-bytes (suc i) (n + size (first .formula)) rules ++ line-bytes k m rule) f e)
 
 pub length-more : (rules : Book) (rule : Rule) → length (rules ++ (rule ∷ [])) ≡ length rules + 1
 length-more rules rule = length-append rules (rule ∷ [])
@@ -206,48 +207,52 @@ root-of : (rules : Book) (f : Formula) (n : Nodes) → n .count ≡ length (node
 unfolding root size
 root-of rules f n e g = omega arith
 
--- The area holds one rule more, once its nodes and its line are put down.
-pub holds-more : (rules : Book) (form : Form) (f : Formula) (n : Nodes) → HoldsBook (n .kept) rules → n .count ≡ length (nodes rules)
-    → length (n .kept) ≡ 360 → length (nodes rules) + size f ≤ 60 → length rules < 60 → AllSmall (parts f)
-    → HoldsBook (sets (put-all (parts f) n .kept) (240 + 2 * length rules) (form-code form ∷ (put-all (parts f) n .count - 1) ∷ []))
+-- The bytes of one rule more, once its nodes and its line are put down.
+pub keeps-more : (rules : Book) (form : Form) (f : Formula) (n : Nodes) → Keeps (n .kept) rules → n .count ≡ length (nodes rules)
+    → length (n .kept) ≡ node-count-at → length (nodes rules) + size f ≤ 60 → length rules < 60 → AllSmall (parts f)
+    → Keeps
+    (sets (put-all (parts f) n .kept) (lines-at + 4 * length rules) (form-code form ∷ (put-all (parts f) n .count - 1) ∷ length rules ∷ traits-code f ∷ []))
     (rules ++ (record { form = form; formula = f } ∷ []))
-unfolding size root node-size line-size lines-at
-holds-more rules form f n h count long few lined small =
+unfolding size root line-bytes
+keeps-more rules form f n h count long few lined small =
     let rule : Rule = record { form = form; formula = f } in
-    let vs : List ℕ = form-code form ∷ (put-all (parts f) n .count - 1) ∷ [] in
+    let vs : List ℕ = form-code form ∷ (put-all (parts f) n .count - 1) ∷ length rules ∷ traits-code f ∷ [] in
     let after : List ℕ = put-all (parts f) n .kept in
     let len : length (nodes (rules ++ (rule ∷ []))) ≡ length (nodes rules) + length (parts f) =
     ap length (nodes-append rules rule) ∙ length-append (nodes rules) (parts f) in
     let exact : put-all (parts f) n .count ≡ n .count + length (parts f) = count-exact (parts f) n (omega arith) in
-    let size-after : length after ≡ 360 = kept-length (parts f) n ∙ long in
+    let size-after : length after ≡ node-count-at = kept-length (parts f) n ∙ long in
     let place : 4 * length (nodes (rules ++ (rule ∷ []))) ≡ 4 * (n .count + length (parts f)) = omega arith in
-    let lines : 2 * length (rules ++ (rule ∷ [])) ≡ 2 * length rules + length vs = omega (arith, length-more rules rule) in
+    let lines : 4 * length (rules ++ (rule ∷ [])) ≡ 4 * length rules + length vs = omega (arith, length-more rules rule) in
     record {
       node-part =
-          ap (λ (m : ℕ). take m (sets after (240 + 2 * length rules) vs)) place
-          ∙ take-sets-below vs after (240 + 2 * length rules) (4 * (n .count + length (parts f))) (omega arith)
+          ap (λ (m : ℕ). take m (sets after (lines-at + 4 * length rules) vs)) place
+          ∙ take-sets-below vs after (lines-at + 4 * length rules) (4 * (n .count + length (parts f))) (omega arith)
           ∙ kept-nodes (parts f) n (omega arith) (omega arith) small
           ∙ ap₂ (λ (x : List ℕ) (m : ℕ). x ++ nodes-bytes m (parts f)) (ap (λ (m : ℕ). take (4 * m) (n .kept)) count ∙ h .node-part) count
           ∙ sym (ap (nodes-bytes 0) (nodes-append rules rule) ∙ nodes-bytes-append 0 (nodes rules) (parts f)
           ∙ ap (λ (m : ℕ). nodes-bytes 0 (nodes rules) ++ nodes-bytes m (parts f)) (zero-add (length (nodes rules))));
       line-part =
-          ap₂ (λ (m : ℕ) (x : List ℕ). take m x) lines (drop-sets-add vs after (2 * length rules) 240)
-          ∙ take-sets-end vs (drop 240 after) (2 * length rules) (omega (arith, length-drop 240 after))
-          ∙ ap₂ (λ (x : List ℕ) (k : ℕ). x ++ (form-code form ∷ k ∷ [])) (ap (take (2 * length rules)) (kept-lines (parts f) n) ∙ h .line-part)
-          (root-of rules f n count exact)
-          ∙ sym (lines-bytes-append 0 rules rule ∙ ap (λ (m : ℕ). lines-bytes 0 rules ++ (form-code form ∷ root m f ∷ [])) (zero-add (length (nodes rules))));
+          ap₂ (λ (m : ℕ) (x : List ℕ). take m x) lines (drop-sets-add vs after (4 * length rules) lines-at)
+          ∙ take-sets-end vs (drop lines-at after) (4 * length rules) (omega (arith, length-drop lines-at after))
+          ∙ ap₂ (λ (x : List ℕ) (k : ℕ). x ++ (form-code form ∷ k ∷ length rules ∷ traits-code f ∷ []))
+          (ap (take (4 * length rules)) (kept-lines (parts f) n) ∙ h .line-part) (root-of rules f n count exact)
+          ∙ sym (lines-bytes-append 0 0 rules rule
+          ∙ ap₂ (λ (k m : ℕ). lines-bytes 0 0 rules ++ line-bytes k m rule) (zero-add (length rules)) (zero-add (length (nodes rules))));
     }
 
--- What the first bytes of an area hold, the area holds.
-pub holds-whole : (a : List ℕ) (rules : Book) → length (nodes rules) ≤ 60 → length rules ≤ 60 → HoldsBook (take 360 a) rules → HoldsBook a rules
-unfolding node-size line-size lines-at
-holds-whole a rules few lined h =
+-- An area whose first bytes are those of the rules, and that has their numbers, holds them.
+pub holds-whole : (a : List ℕ) (rules : Book) → length (nodes rules) ≤ 60 → length rules ≤ 60 → Keeps (take node-count-at a) rules
+    → nodes-in a ≡ length (nodes rules) → lines-in a ≡ length rules → HoldsBook a rules
+holds-whole a rules few lined h nodes-told lines-told =
     record {
-      node-part = sym (take-take (4 * length (nodes rules)) 360 a (omega arith)) ∙ h .node-part;
-      line-part = sym (take-drop-take (2 * length rules) 240 360 a (omega arith)) ∙ h .line-part;
+      node-part = sym (take-take (4 * length (nodes rules)) node-count-at a (omega arith)) ∙ h .node-part;
+      line-part = sym (take-drop-take (4 * length rules) lines-at node-count-at a (omega arith)) ∙ h .line-part;
+      node-count = nodes-told;
+      line-count = lines-told;
     }
 
--- No rules are held by any bytes.
-pub holds-none : (l : List ℕ) → HoldsBook l []
-unfolding nodes joined nodes-bytes lines-bytes node-size line-size lines-at
-holds-none l = record { node-part = refl; line-part = refl }
+-- Any bytes are those of no rules.
+pub keeps-none : (l : List ℕ) → Keeps l []
+unfolding nodes joined nodes-bytes lines-bytes
+keeps-none l = record { node-part = refl; line-part = refl }

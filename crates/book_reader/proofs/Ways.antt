@@ -1,16 +1,16 @@
 -- The laws of the line readers and of the entry: one for each way through the code.
 use Prim.Native.Nat.{ℕ, _+_, _-_, _*_, _%_, _≤_, _<_}
 use native.Mathlib.Omega.{arith}
-use native.Mathlib.Numerals.{add-one}
+use native.Mathlib.Numerals.{add-one, towards-suc}
 use mathlib.Core.Path.{_≡_, refl, sym, _∙_, ap}
 use mathlib.Core.Bool.{Bool, true, false, not}
 use mathlib.Core.List.{List, [], _∷_, _++_}
 use mir.Syntax.{w64}
 use mir.Val.{Fits}
 use lib.ListN.{length, getD, set, take, drop, replicate, length-set, drop-of-length-le}
-use lib.Seq.{sets, drop-cons, getD-set-same, getD-set-other}
+use lib.Seq.{sets, drop-cons, take-set-le, getD-set-same, getD-set-other}
 use lib.Dec.{eqb, leb}
-use borrow.Author.Tests.{lt-ltb, le-ltb, le-leb, lt-leb, leb-false, eqb-true, eq-eqb, ne-eqb}
+use borrow.Author.Tests.{lt-ltb, le-ltb, le-leb, lt-leb, leb-false, eq-eqb, ne-eqb}
 use Rattle.base.specs.Choice.{pick}
 use Rattle.base.specs.Text.{ascii}
 use Rattle.base.specs.Bytes.{byte-at, long-enough, cleared}
@@ -26,36 +26,37 @@ use Rattle.logic.specs.Tower.{most-marks}
 use Rattle.logic.specs.Book.{Formula, Form, at-start, everywhere, nodes}
 use Rattle.logic.specs.Book as Logic
 use Rattle.reading.specs.Tokens.{stands, skip}
-use Rattle.reading.specs.Grammar.{Parsed, bad, got, formula-at}
-use Rattle.reading.specs.BookArea.{HoldsBook, form-code, lines-at, line-size}
+use Rattle.reading.specs.Grammar.{bad, got, formula-at}
+use Rattle.reading.specs.BookArea.{lines-at, node-count-at, line-count-at, HoldsBook, form-code}
 use Rattle.reading.specs.BookReading as Reading
-use Rattle.reading.specs.BookReading.{most-bytes, ReadSoFar, judge-line, line-at, worded, ended, lines-step, read-lines, read-book}
+use Rattle.reading.specs.BookReading.{most-bytes, usual-bound, ReadSoFar, judge-line, line-at, worded, ended, lines-step, read-lines, read-book}
 use Rattle.outcome.specs.Areas.{book-areas}
 use Rattle.outcome.specs.ReadBook.{book-answer, book-under, read-outcome}
-use Rattle.book_tokens.proofs.Laws.{byte-inside, skip-ahead}
-use Rattle.book_nodes.specs.State.{state-of, last-node}
-use Rattle.book_nodes.proofs.Area.{state-sets}
+use Rattle.book_tokens.proofs.Laws.{byte-inside}
+use Rattle.book_nodes.specs.State.{fault-at, timed-at, marks-at, usual-at, state-of, usual-in, last-node}
+use Rattle.book_nodes.proofs.Area.{byte-set, state, state-sets}
 use Rattle.book_formula.specs.Parse.{Reads, not-of, is-read}
-use Rattle.book_formula.proofs.Ways.{formula-ends}
+use Rattle.reading.proofs.SpelledFormulas.{formula-ends}
+use Rattle.reading.proofs.SpelledLines.{line-ends}
 use Rattle.book_reader.specs.declared.Line.{Line}
 use Rattle.book_reader.specs.declared.Line.the-variants as L
 use Rattle.book_reader.specs.declared.Turn.{Turn}
 use Rattle.book_reader.specs.declared.Turn.the-variants as T
-use Rattle.book_reader.specs.Lines.{Comparing, LineRead, not-line, is-line, RestRead, judged, put-line, PutsLine, Held, Turned, turned-down, gone-on, Turns, lines-from, Coming, Answers, Outcome}
-use Rattle.book_reader.proofs.Kept.{holds-none, holds-whole}
+use Rattle.book_reader.specs.Lines.{ComparingWord, LineRead, not-line, is-line, RestRead, judged, put-line, PutsLine, Keeps, HeldSoFar, Turned, turned-down, gone-on, Turns, lines-from, Coming, Answers, Outcome}
+use Rattle.book_reader.proofs.Kept.{keeps-none, holds-whole}
 use Rattle.book_reader.proofs.Judging.{Verdict, down, fine, line-judged, held-more}
 
 -- ---- words
 
-pub comparing-start : (s : List ℕ) (at : ℕ) (word : List ℕ) → Comparing s at word 0 at
+pub comparing-start : (s : List ℕ) (at : ℕ) (word : List ℕ) → ComparingWord s at word 0 at
 comparing-start s at word = record { few = omega arith; here = omega arith; same = refl }
 
-pub comparing-short : (s : List ℕ) (at : ℕ) (word : List ℕ) (i p : ℕ) → Comparing s at word i p → i < length word → length s ≤ p
+pub comparing-short : (s : List ℕ) (at : ℕ) (word : List ℕ) (i p : ℕ) → ComparingWord s at word i p → i < length word → length s ≤ p
     → false ≡ begins word (drop at s)
 unfolding begins
 comparing-short s at word i p h lt le = sym (h .same ∙ rw (drop-of-length-le s le, drop-cons word i 0 lt))
 
-pub comparing-other : (s : List ℕ) (at : ℕ) (word : List ℕ) (i p : ℕ) → Comparing s at word i p → i < length word → p < length s
+pub comparing-other : (s : List ℕ) (at : ℕ) (word : List ℕ) (i p : ℕ) → ComparingWord s at word i p → i < length word → p < length s
     → (getD s p 0 ≡ getD word i 0 → ⊥) → false ≡ begins word (drop at s)
 unfolding begins
 comparing-other s at word i p h lt inside n =
@@ -67,49 +68,49 @@ unfolding begins
 next-same s word i p lt inside e =
     rw (drop-cons s p 0 inside, drop-cons word i 0 lt, eq-eqb (getD word i 0) (getD s p 0) (sym e), add-one i, add-one p)
 
-pub comparing-more : (s : List ℕ) (at : ℕ) (word : List ℕ) (i p : ℕ) → Comparing s at word i p → i < length word → p < length s
-    → getD s p 0 ≡ getD word i 0 → Comparing s at word (i + 1) (p + 1)
+pub comparing-more : (s : List ℕ) (at : ℕ) (word : List ℕ) (i p : ℕ) → ComparingWord s at word i p → i < length word → p < length s
+    → getD s p 0 ≡ getD word i 0 → ComparingWord s at word (i + 1) (p + 1)
 comparing-more s at word i p h lt inside e =
     record { few = omega arith; here = omega (arith, h .here); same = h .same ∙ next-same s word i p lt inside e }
 
-pub comparing-all : (s : List ℕ) (at : ℕ) (word : List ℕ) (i p : ℕ) → Comparing s at word i p → length word ≤ i → true ≡ begins word (drop at s)
+pub comparing-all : (s : List ℕ) (at : ℕ) (word : List ℕ) (i p : ℕ) → ComparingWord s at word i p → length word ≤ i → true ≡ begins word (drop at s)
 unfolding begins
 comparing-all s at word i p h le = sym (h .same ∙ rw (drop-of-length-le word le))
 
 -- ---- lines
 
-ended-bad : (s : List ℕ) (form : Form) (at : ℕ) → formula-at s (skip s at) ≡ bad → ended s form (formula-at s (skip s at)) ≡ Reading.no-line
+ended-bad : (usual : ℕ) (s : List ℕ) (form : Form) (at : ℕ) → formula-at usual s (skip s at) ≡ bad → ended s form (formula-at usual s (skip s at)) ≡ Reading.no-line
 unfolding ended
-ended-bad s form at e = rw e
+ended-bad usual s form at e = rw e
 
-ended-not : (s : List ℕ) (form : Form) (at : ℕ) (f : Formula) (b q : ℕ) → formula-at s (skip s at) ≡ got f b q → (byte-at s q ≡ 10 → ⊥)
-    → ended s form (formula-at s (skip s at)) ≡ Reading.no-line
+ended-not : (usual : ℕ) (s : List ℕ) (form : Form) (at : ℕ) (f : Formula) (b q : ℕ) → formula-at usual s (skip s at) ≡ got f b q → (byte-at s q ≡ 10 → ⊥)
+    → ended s form (formula-at usual s (skip s at)) ≡ Reading.no-line
 unfolding ended stands
-ended-not s form at f b q e n = rw (e, ne-eqb (byte-at s q) 10 n)
+ended-not usual s form at f b q e n = rw (e, ne-eqb (byte-at s q) 10 n)
 
-ended-read : (s : List ℕ) (form : Form) (at : ℕ) (f : Formula) (b q : ℕ) → formula-at s (skip s at) ≡ got f b q → byte-at s q ≡ 10
-    → ended s form (formula-at s (skip s at)) ≡ Reading.line form f b (q + 1)
+ended-read : (usual : ℕ) (s : List ℕ) (form : Form) (at : ℕ) (f : Formula) (b q : ℕ) → formula-at usual s (skip s at) ≡ got f b q → byte-at s q ≡ 10
+    → ended s form (formula-at usual s (skip s at)) ≡ Reading.line form f b (q + 1)
 unfolding ended stands
-ended-read s form at f b q e n = rw (e, n)
+ended-read usual s form at f b q e n = rw (e, n)
 
-pub rest-bad : (s : List ℕ) (at form k r : ℕ) (a z : List ℕ) → k ≡ skip s at → Reads r (formula-at s k) 16 a z → r ≡ 0
+pub rest-bad : (s : List ℕ) (at form k r : ℕ) (a z : List ℕ) → k ≡ skip s at → Reads r (formula-at (usual-in a) s k) 16 a z → r ≡ 0
     → RestRead L.Bad s at form a z
-rest-bad s at form k r a z e (not-of f g) h = record { reads = λ c d. not-line (ended-bad s c at (ap (formula-at s) (sym e) ∙ f)) refl }
-rest-bad s at form k r a z e (is-read f b g h) i = let (l, inside) = formula-ends s k f b r g in absurd (omega arith)
+rest-bad s at form k r a z e (not-of f g) h = record { reads = λ c d. not-line (ended-bad (usual-in a) s c at (ap (formula-at (usual-in a) s) (sym e) ∙ f)) refl }
+rest-bad s at form k r a z e (is-read f b g h) i = let (l, inside) = formula-ends (usual-in a) s k f b r g in absurd (omega arith)
 
-pub rest-unended : (s : List ℕ) (at form k r b : ℕ) (a z : List ℕ) → k ≡ skip s at → Reads r (formula-at s k) 16 a z → (r ≡ 0 → ⊥)
+pub rest-unended : (s : List ℕ) (at form k r b : ℕ) (a z : List ℕ) → k ≡ skip s at → Reads r (formula-at (usual-in a) s k) 16 a z → (r ≡ 0 → ⊥)
     → b ≡ byte-at s r → (b ≡ 10 → ⊥) → RestRead L.Bad s at form a z
 rest-unended s at form k r b a z e (not-of f g) n h m = absurd (n g)
 rest-unended s at form k r b a z e (is-read f d g i) n h m =
-    record { reads = λ c o. not-line (ended-not s c at f d r (ap (formula-at s) (sym e) ∙ g) (λ j. m (h ∙ j))) refl }
+    record { reads = λ c o. not-line (ended-not (usual-in a) s c at f d r (ap (formula-at (usual-in a) s) (sym e) ∙ g) (λ j. m (h ∙ j))) refl }
 
-pub rest-read : (s : List ℕ) (at form k r b : ℕ) (a z : List ℕ) → k ≡ skip s at → Reads r (formula-at s k) 16 a z → (r ≡ 0 → ⊥)
+pub rest-read : (s : List ℕ) (at form k r b : ℕ) (a z : List ℕ) → k ≡ skip s at → Reads r (formula-at (usual-in a) s k) 16 a z → (r ≡ 0 → ⊥)
     → b ≡ byte-at s r → b ≡ 10 → RestRead (L.Read form (r + 1)) s at form a z
 rest-read s at form k r b a z e (not-of f g) n h m = absurd (n g)
 rest-read s at form k r b a z e (is-read f d g i) n h m =
     record {
       reads = λ c o.
-          is-line c f d (r + 1) (ended-read s c at f d r (ap (formula-at s) (sym e) ∙ g) (sym h ∙ m)) (ap (λ (x : ℕ). L.Read x (r + 1)) o) i;
+          is-line c f d (r + 1) (ended-read (usual-in a) s c at f d r (ap (formula-at (usual-in a) s) (sym e) ∙ g) (sym h ∙ m)) (ap (λ (x : ℕ). L.Read x (r + 1)) o) i;
     }
 
 pub end-fits : (s : List ℕ) (r b : ℕ) → b ≡ byte-at s r → b ≡ 10 → length s < 18446744073709551616 → Fits w64 (r + 1)
@@ -123,59 +124,64 @@ start-code : 0 ≡ form-code at-start
 unfolding form-code
 start-code = refl
 
-line-first : (s : List ℕ) (at : ℕ) → begins (97 ∷ 108 ∷ 119 ∷ 97 ∷ 121 ∷ 115 ∷ 32 ∷ []) (drop at s) ≡ true
-    → line-at s at ≡ ended s everywhere (formula-at s (skip s (at + 6)))
+line-first : (usual : ℕ) (s : List ℕ) (at : ℕ) → begins (97 ∷ 108 ∷ 119 ∷ 97 ∷ 121 ∷ 115 ∷ 32 ∷ []) (drop at s) ≡ true
+    → line-at usual s at ≡ ended s everywhere (formula-at usual s (skip s (at + 6)))
 unfolding line-at worded ascii
-line-first s at e = rw e
+line-first usual s at e = rw e
 
-line-second : (s : List ℕ) (at : ℕ) → begins (97 ∷ 108 ∷ 119 ∷ 97 ∷ 121 ∷ 115 ∷ 32 ∷ []) (drop at s) ≡ false
-    → begins (115 ∷ 116 ∷ 97 ∷ 114 ∷ 116 ∷ 32 ∷ []) (drop at s) ≡ true → line-at s at ≡ ended s at-start (formula-at s (skip s (at + 5)))
+line-second : (usual : ℕ) (s : List ℕ) (at : ℕ) → begins (97 ∷ 108 ∷ 119 ∷ 97 ∷ 121 ∷ 115 ∷ 32 ∷ []) (drop at s) ≡ false
+    → begins (115 ∷ 116 ∷ 97 ∷ 114 ∷ 116 ∷ 32 ∷ []) (drop at s) ≡ true → line-at usual s at ≡ ended s at-start (formula-at usual s (skip s (at + 5)))
 unfolding line-at worded ascii
-line-second s at e f = rw (e, f)
+line-second usual s at e f = rw (e, f)
 
-line-third : (s : List ℕ) (at : ℕ) → begins (97 ∷ 108 ∷ 119 ∷ 97 ∷ 121 ∷ 115 ∷ 32 ∷ []) (drop at s) ≡ false
-    → begins (115 ∷ 116 ∷ 97 ∷ 114 ∷ 116 ∷ 32 ∷ []) (drop at s) ≡ false → line-at s at ≡ Reading.no-line
+line-third : (usual : ℕ) (s : List ℕ) (at : ℕ) → begins (97 ∷ 108 ∷ 119 ∷ 97 ∷ 121 ∷ 115 ∷ 32 ∷ []) (drop at s) ≡ false
+    → begins (115 ∷ 116 ∷ 97 ∷ 114 ∷ 116 ∷ 32 ∷ []) (drop at s) ≡ false → line-at usual s at ≡ Reading.no-line
 unfolding line-at worded ascii
-line-third s at e f = rw (e, f)
+line-third usual s at e f = rw (e, f)
 
 pub line-always : (s : List ℕ) (at : ℕ) (t : Bool) (r : Line) (a z : List ℕ) → t ≡ begins (97 ∷ 108 ∷ 119 ∷ 97 ∷ 121 ∷ 115 ∷ 32 ∷ []) (drop at s)
-    → t ≡ true → RestRead r s (at + 6) 1 a z → LineRead r (line-at s at) a z
-line-always s at t r a z e f h = rw (line-first s at (sym e ∙ f)) (h .reads everywhere always-code)
+    → t ≡ true → RestRead r s (at + 6) 1 a z → LineRead r (line-at (usual-in a) s at) a z
+line-always s at t r a z e f h = rw (line-first (usual-in a) s at (sym e ∙ f)) (h .reads everywhere always-code)
 
 pub line-start : (s : List ℕ) (at : ℕ) (t u : Bool) (r : Line) (a z : List ℕ) → t ≡ begins (97 ∷ 108 ∷ 119 ∷ 97 ∷ 121 ∷ 115 ∷ 32 ∷ []) (drop at s)
     → t ≡ false → u ≡ begins (115 ∷ 116 ∷ 97 ∷ 114 ∷ 116 ∷ 32 ∷ []) (drop at s) → u ≡ true → RestRead r s (at + 5) 0 a z
-    → LineRead r (line-at s at) a z
-line-start s at t u r a z e f g k h = rw (line-second s at (sym e ∙ f) (sym g ∙ k)) (h .reads at-start start-code)
+    → LineRead r (line-at (usual-in a) s at) a z
+line-start s at t u r a z e f g k h = rw (line-second (usual-in a) s at (sym e ∙ f) (sym g ∙ k)) (h .reads at-start start-code)
 
 pub line-none : (s : List ℕ) (at : ℕ) (t u : Bool) (a : List ℕ) → t ≡ begins (97 ∷ 108 ∷ 119 ∷ 97 ∷ 121 ∷ 115 ∷ 32 ∷ []) (drop at s)
-    → t ≡ false → u ≡ begins (115 ∷ 116 ∷ 97 ∷ 114 ∷ 116 ∷ 32 ∷ []) (drop at s) → u ≡ false → LineRead L.Bad (line-at s at) a a
-line-none s at t u a e f g k = not-line (line-third s at (sym e ∙ f) (sym g ∙ k)) refl
+    → t ≡ false → u ≡ begins (115 ∷ 116 ∷ 97 ∷ 114 ∷ 116 ∷ 32 ∷ []) (drop at s) → u ≡ false → LineRead L.Bad (line-at (usual-in a) s at) a a
+line-none s at t u a e f g k = not-line (line-third (usual-in a) s at (sym e ∙ f) (sym g ∙ k)) refl
 
 -- ---- one line
 
-pub one-bad : (s : List ℕ) (at line : ℕ) (r : Line) (a z : List ℕ) → LineRead r (line-at s at) a z → r ≡ L.Bad
+-- The line is read with the usual bound.
+usual-line : {marks : ℕ} {rules : Logic.Book} {lines : ℕ} (s : List ℕ) (at : ℕ) (a : List ℕ) → HeldSoFar marks rules lines a
+    → line-at usual-bound s at ≡ line-at (usual-in a) s at
+usual-line s at a held = ap (λ (u : ℕ). line-at u s at) (sym (held .known-usual))
+
+pub one-bad : (s : List ℕ) (at line : ℕ) (r : Line) (a z : List ℕ) → LineRead r (line-at (usual-in a) s at) a z → r ≡ L.Bad
     → Turns (T.Refused (Grammar line)) s at line a z
 unfolding judge-line
 one-bad s at line r a z (not-line e f) g =
     record {
       from = λ marks rules le inside held.
-          turned-down (Grammar line) (ap (judge-line marks rules) e ∙ ap (λ (n : ℕ). refuse (Grammar n)) (held .count-lines)) refl;
+          turned-down (Grammar line) (ap (judge-line marks rules) (usual-line s at a held ∙ e) ∙ ap (λ (n : ℕ). refuse (Grammar n)) (held .count-lines)) refl;
     }
 one-bad s at line r a z (is-line form f b q e g h) k = let x : _≡_ {A = ℕ} 0 1 = cc in absurd (omega arith)
 
-pub one-refused : (s : List ℕ) (at line code end : ℕ) (r : Line) (t : Turn) (why : Refusal) (a z : List ℕ) → LineRead r (line-at s at) a z
+pub one-refused : (s : List ℕ) (at line code end : ℕ) (r : Line) (t : Turn) (why : Refusal) (a z : List ℕ) → LineRead r (line-at (usual-in a) s at) a z
     → r ≡ L.Read code end → t ≡ judged line end (state-of z) → t ≡ T.Refused why → Turns t s at line a z
 one-refused s at line code end r t why a z (not-line e f) g h i = let x : _≡_ {A = ℕ} 0 1 = cc in absurd (omega arith)
 one-refused s at line code end r t why a z (is-line form f b q e k o) g h i =
     let same : q ≡ end = cc in
-    record { from = λ marks rules le inside held. finish marks rules (line-judged marks rules line a held form f b z o end t h) (e ∙ ap (Reading.line form f b) same) }
+    record { from = λ marks rules le inside held. finish marks rules (line-judged marks rules line a held form f b z o end t h) (usual-line s at a held ∙ e ∙ ap (Reading.line form f b) same) }
   where
-    finish : (marks : ℕ) (rules : Logic.Book) → Verdict t marks rules form f b end z → line-at s at ≡ Reading.line form f b end
-        → Turned t (judge-line marks rules (line-at s at)) marks line z
+    finish : (marks : ℕ) (rules : Logic.Book) → Verdict t marks rules form f b end z → line-at usual-bound s at ≡ Reading.line form f b end
+        → Turned t (judge-line marks rules (line-at usual-bound s at)) marks line z
     finish marks rules (down w j l) d = turned-down w (ap (judge-line marks rules) d ∙ j) l
     finish marks rules (fine j l m n p u) d = let x : _≡_ {A = ℕ} 0 1 = cc in absurd (omega arith)
 
-pub one-next : (s : List ℕ) (at line code end after : ℕ) (r : Line) (t : Turn) (a y z : List ℕ) → 512 ≤ length a → LineRead r (line-at s at) a y
+pub one-next : (s : List ℕ) (at line code end after : ℕ) (r : Line) (t : Turn) (a y z : List ℕ) → 512 ≤ length a → LineRead r (line-at (usual-in a) s at) a y
     → r ≡ L.Read code end → t ≡ judged line end (state-of y) → t ≡ T.Next after → PutsLine line code y z → Turns (T.Next after) s at line a z
 one-next s at line code end after r t a y z long (not-line e f) g h i puts = let x : _≡_ {A = ℕ} 0 1 = cc in absurd (omega arith)
 one-next s at line code end after r t a y z long (is-line form f b q e k o) g h i puts =
@@ -183,51 +189,19 @@ one-next s at line code end after r t a y z long (is-line form f b q e k o) g h 
     let coded : form-code form ≡ code = cc in
     record {
       from = λ marks rules le inside held.
-          finish marks rules le held (line-judged marks rules line a held form f b y o end t h) (e ∙ ap (Reading.line form f b) same)
+          finish marks rules le held (line-judged marks rules line a held form f b y o end t h) (usual-line s at a held ∙ e ∙ ap (Reading.line form f b) same)
           (rw (← coded) at puts);
     }
   where
-    finish : (marks : ℕ) (rules : Logic.Book) → marks ≤ 16 → Held marks rules line a → Verdict t marks rules form f b end y
-        → line-at s at ≡ Reading.line form f b end → PutsLine line (form-code form) y z
-        → Turned (T.Next after) (judge-line marks rules (line-at s at)) marks line z
+    finish : (marks : ℕ) (rules : Logic.Book) → marks ≤ 16 → HeldSoFar marks rules line a → Verdict t marks rules form f b end y
+        → line-at usual-bound s at ≡ Reading.line form f b end → PutsLine line (form-code form) y z
+        → Turned (T.Next after) (judge-line marks rules (line-at usual-bound s at)) marks line z
     finish marks rules le held (down w j l) d p = let x : _≡_ {A = ℕ} 0 1 = cc in absurd (omega arith)
     finish marks rules le held (fine j l m n u v) d p =
         gone-on (rules ++ (record { form = form; formula = f } ∷ [])) end (ap (judge-line marks rules) d ∙ j) (sym i ∙ l)
         (held-more marks rules line a held form f b y o end z le long m n u v p)
 
 -- ---- all lines
-
-ended-end : (s : List ℕ) (c : Form) (k : ℕ) (o : Parsed) (form : Form) (f : Formula) (b q : ℕ) → formula-at s k ≡ o
-    → ended s c o ≡ Reading.line form f b q → (k < q) × (q ≤ length s)
-unfolding ended stands
-ended-end s c k bad form f b q d e = let x : _≡_ {A = ℕ} 0 1 = cc in absurd (omega arith)
-ended-end s c k (got g d r) form f b q h e = split (eqb (byte-at s r) 10) refl
-  where
-    split : (t : Bool) → eqb (byte-at s r) 10 ≡ t → (k < q) × (q ≤ length s)
-    split true i =
-        let j : Reading.line c g d (r + 1) ≡ Reading.line form f b q = rw i at e in
-        let same : r + 1 ≡ q = cc in
-        let (l, inside) = formula-ends s k g d r h in
-        (omega arith, omega (arith, byte-inside s r (omega (arith, eqb-true (byte-at s r) 10 i))))
-    split false i = let j : Reading.no-line ≡ Reading.line form f b q = rw i at e in let x : _≡_ {A = ℕ} 0 1 = cc in absurd (omega arith)
-
-worded-end : (s : List ℕ) (p : ℕ) (word : List ℕ) (c : Form) (other : Reading.Line) (form : Form) (f : Formula) (b q : ℕ)
-    → worded s p word c other ≡ Reading.line form f b q → (other ≡ Reading.line form f b q → (p < q) × (q ≤ length s)) → (p < q) × (q ≤ length s)
-unfolding worded
-worded-end s p word c other form f b q e h = split (begins (word ++ (32 ∷ [])) (drop p s)) refl
-  where
-    split : (t : Bool) → begins (word ++ (32 ∷ [])) (drop p s) ≡ t → (p < q) × (q ≤ length s)
-    split true i =
-        let j : ended s c (formula-at s (skip s (p + length word))) ≡ Reading.line form f b q = rw i at e in
-        let (l, inside) = ended-end s c (skip s (p + length word)) (formula-at s (skip s (p + length word))) form f b q refl j in
-        (omega (arith, skip-ahead s (p + length word)), inside)
-    split false i = let j : other ≡ Reading.line form f b q = rw i at e in h j
-
-line-end : (s : List ℕ) (p : ℕ) (form : Form) (f : Formula) (b q : ℕ) → line-at s p ≡ Reading.line form f b q → (p < q) × (q ≤ length s)
-unfolding line-at
-line-end s p form f b q e =
-    worded-end s p (ascii "always") everywhere (worded s p (ascii "start") at-start Reading.no-line) form f b q e
-    (λ d. worded-end s p (ascii "start") at-start Reading.no-line form f b q d (λ c. let x : _≡_ {A = ℕ} 0 1 = cc in absurd (omega arith)))
 
 no-give {ℓ} : {C : Type ℓ} (marks : ℕ) (rules : Logic.Book) (pr : ReadSoFar) → judge-line marks rules Reading.no-line ≡ give pr → C
 unfolding judge-line
@@ -250,10 +224,10 @@ judge-given marks rules form f b q pr e =
     let (_, e5) = if-gives (Timed (length rules)) (not (Logic.timed-right f)) _ e4 in
     given-place rules form f q pr e5
 
-judge-place : (marks : ℕ) (rules : Logic.Book) (x : Reading.Line) (s : List ℕ) (p : ℕ) (pr : ReadSoFar) → line-at s p ≡ x
+judge-place : (marks : ℕ) (rules : Logic.Book) (x : Reading.Line) (s : List ℕ) (p : ℕ) (pr : ReadSoFar) → line-at usual-bound s p ≡ x
     → judge-line marks rules x ≡ give pr → (p < pr .place) × (pr .place ≤ length s)
 judge-place marks rules Reading.no-line s p pr e f = no-give marks rules pr f
-judge-place marks rules (Reading.line form f b q) s p pr e g = rw (judge-given marks rules form f b q pr g) at (line-end s p form f b q e)
+judge-place marks rules (Reading.line form f b q) s p pr e g = rw (judge-given marks rules form f b q pr g) at (line-ends usual-bound s p form f b q e)
 
 then-refused : (w : Refusal) (f g : ReadSoFar → Answer Logic.Book) → (refuse w then f) ≡ (refuse w then g)
 unfolding _then_
@@ -264,7 +238,7 @@ unfolding _then_
 then-given pr f g e = e
 
 lines-fall : (marks : ℕ) (s : List ℕ)
-    → Falls (λ (here : ReadSoFar). length s - here .place) (λ here. refuse (Grammar (length (here .rules)))) (lines-step marks s) (λ here r. Unit {0})
+    → Falls (λ (here : ReadSoFar). length s - here .place) (λ here. refuse (Grammar (length (here .rules)))) (lines-step usual-bound marks s) (λ here r. Unit {0})
 unfolding lines-step
 lines-fall marks s =
     record {
@@ -275,36 +249,36 @@ lines-fall marks s =
   where
     more : (x : ReadSoFar) (f g : ReadSoFar → Answer Logic.Book)
         → ((y : ReadSoFar) → length s - y .place < length s - x .place → f y ≡ g y) → x .place < length s
-        → (o : Answer ReadSoFar) → judge-line marks (x .rules) (line-at s (x .place)) ≡ o → (o then f) ≡ (o then g)
+        → (o : Answer ReadSoFar) → judge-line marks (x .rules) (line-at usual-bound s (x .place)) ≡ o → (o then f) ≡ (o then g)
     more x f g agree lt (refuse w) e = then-refused w f g
     more x f g agree lt (give pr) e =
-        let (ahead, inside) = judge-place marks (x .rules) (line-at s (x .place)) s (x .place) pr refl e in
+        let (ahead, inside) = judge-place marks (x .rules) (line-at usual-bound s (x .place)) s (x .place) pr refl e in
         then-given pr f g (agree pr (omega arith))
 
     step : (x : ReadSoFar) (f g : ReadSoFar → Answer Logic.Book)
         → ((y : ReadSoFar) → length s - y .place < length s - x .place → f y ≡ g y)
         → (t : Bool) → leb (length s) (x .place) ≡ t
-        → pick (leb (length s) (x .place)) (λ _. give (x .rules)) (λ _. judge-line marks (x .rules) (line-at s (x .place)) then f)
-        ≡ pick (leb (length s) (x .place)) (λ _. give (x .rules)) (λ _. judge-line marks (x .rules) (line-at s (x .place)) then g)
+        → pick (leb (length s) (x .place)) (λ _. give (x .rules)) (λ _. judge-line marks (x .rules) (line-at usual-bound s (x .place)) then f)
+        ≡ pick (leb (length s) (x .place)) (λ _. give (x .rules)) (λ _. judge-line marks (x .rules) (line-at usual-bound s (x .place)) then g)
     step x f g agree true e = rw e
     step x f g agree false e =
-        rw e (more x f g agree (leb-false (length s) (x .place) e) (judge-line marks (x .rules) (line-at s (x .place))) refl)
+        rw e (more x f g agree (leb-false (length s) (x .place) e) (judge-line marks (x .rules) (line-at usual-bound s (x .place))) refl)
 
-lines-eq : (marks : ℕ) (s : List ℕ) (here : ReadSoFar) → lines-from marks s here ≡ lines-step marks s here (lines-from marks s)
+lines-eq : (marks : ℕ) (s : List ℕ) (here : ReadSoFar) → lines-from marks s here ≡ lines-step usual-bound marks s here (lines-from marks s)
 unfolding lines-from
 lines-eq marks s here =
-    run-eq (λ (h : ReadSoFar). length s - h .place) (λ h. refuse (Grammar (length (h .rules)))) (lines-step marks s) (λ h r. Unit {0}) (lines-fall marks s) here
+    run-eq (λ (h : ReadSoFar). length s - h .place) (λ h. refuse (Grammar (length (h .rules)))) (lines-step usual-bound marks s) (λ h r. Unit {0}) (lines-fall marks s) here
 
 lines-over : (marks : ℕ) (s : List ℕ) (rules : Logic.Book) (at : ℕ) → length s ≤ at → lines-from marks s (record { rules = rules; place = at }) ≡ give rules
 unfolding lines-step
 lines-over marks s rules at le = lines-eq marks s (record { rules = rules; place = at }) ∙ rw (le-leb (length s) at le)
 
 lines-on : (marks : ℕ) (s : List ℕ) (rules : Logic.Book) (at : ℕ) → at < length s
-    → lines-from marks s (record { rules = rules; place = at }) ≡ (judge-line marks rules (line-at s at) then lines-from marks s)
+    → lines-from marks s (record { rules = rules; place = at }) ≡ (judge-line marks rules (line-at usual-bound s at) then lines-from marks s)
 unfolding lines-step
 lines-on marks s rules at lt = lines-eq marks s (record { rules = rules; place = at }) ∙ rw (lt-leb (length s) at lt)
 
-pub coming-start : (marks : ℕ) (s a : List ℕ) → Held marks [] 0 a → Coming marks s 0 0 a a
+pub coming-start : (marks : ℕ) (s a : List ℕ) → HeldSoFar marks [] 0 a → Coming marks s 0 0 a a
 unfolding lines-from read-lines
 coming-start marks s a h = record { long = refl; rules = []; held = h; same = refl }
 
@@ -312,7 +286,7 @@ pub coming-on : (marks : ℕ) (s : List ℕ) (at lines next : ℕ) (l a z : List
     → Turns t s at lines a z → t ≡ T.Next next → length z ≡ length a → Coming marks s next (lines + 1) l z
 coming-on marks s at lines next l a z t le h lt turns e len = finish (turns .from marks (h .rules) le lt (h .held))
   where
-    finish : Turned t (judge-line marks (h .rules) (line-at s at)) marks lines z → Coming marks s next (lines + 1) l z
+    finish : Turned t (judge-line marks (h .rules) (line-at usual-bound s at)) marks lines z → Coming marks s next (lines + 1) l z
     finish (turned-down why f g) = let x : _≡_ {A = ℕ} 0 1 = cc in absurd (omega arith)
     finish (gone-on rules q f g held) =
         let same : q ≡ next = cc in
@@ -328,14 +302,14 @@ pub coming-less : (marks : ℕ) (s : List ℕ) (at lines next : ℕ) (l a z : Li
     → Turns t s at lines a z → t ≡ T.Next next → length s - next < length s - at
 coming-less marks s at lines next l a z t le h lt turns e = finish (turns .from marks (h .rules) le lt (h .held))
   where
-    finish : Turned t (judge-line marks (h .rules) (line-at s at)) marks lines z → length s - next < length s - at
+    finish : Turned t (judge-line marks (h .rules) (line-at usual-bound s at)) marks lines z → length s - next < length s - at
     finish (turned-down why f g) = let x : _≡_ {A = ℕ} 0 1 = cc in absurd (omega arith)
     finish (gone-on rules q f g held) =
         let same : q ≡ next = cc in
-        let (ahead, inside) = judge-place marks (h .rules) (line-at s at) s at (record { rules = rules; place = q }) refl f in
+        let (ahead, inside) = judge-place marks (h .rules) (line-at usual-bound s at) s at (record { rules = rules; place = q }) refl f in
         omega arith
 
-read-whole : (marks : ℕ) (s : List ℕ) → length s ≤ 4096 → read-book marks s ≡ read-lines marks s
+read-whole : (marks : ℕ) (s : List ℕ) → length s ≤ 4096 → read-book marks s ≡ read-lines usual-bound marks s
 unfolding read-book _if_else_ most-bytes
 read-whole marks s le = rw (le-ltb 4096 (length s) le)
 
@@ -353,11 +327,11 @@ answers-read marks s z rules e f g h =
       area = λ book k. let same : rules ≡ book = give-same (sym e ∙ k) in rw same at h;
     }
 
-count-byte : (a : List ℕ) → getD a 360 0 ≡ state-of a .nodes .count
+count-byte : (a : List ℕ) → byte-at a node-count-at ≡ state-of a .nodes .count
 unfolding state-of
 count-byte a = refl
 
-kept-book : (a : List ℕ) (rules : Logic.Book) → HoldsBook (state-of a .nodes .kept) rules → HoldsBook (take 360 a) rules
+kept-book : (a : List ℕ) (rules : Logic.Book) → Keeps (state-of a .nodes .kept) rules → Keeps (take node-count-at a) rules
 unfolding state-of
 kept-book a rules h = h
 
@@ -365,18 +339,25 @@ pub lines-refused : (marks : ℕ) (s : List ℕ) (at lines : ℕ) (l a z : List 
     → Coming marks s at lines l a → at < length s → Turns t s at lines a z → t ≡ T.Refused why → Answers (Book.Refused why) marks s z
 lines-refused marks s at lines l a z t why le few h lt turns e = finish (turns .from marks (h .rules) le lt (h .held))
   where
-    finish : Turned t (judge-line marks (h .rules) (line-at s at)) marks lines z → Answers (Book.Refused why) marks s z
+    finish : Turned t (judge-line marks (h .rules) (line-at usual-bound s at)) marks lines z → Answers (Book.Refused why) marks s z
     finish (turned-down w f g) =
         let same : w ≡ why = cc in
         answers-refused marks s z why
         (read-whole marks s few ∙ sym (h .same) ∙ lines-on marks s (h .rules) at lt ∙ then-stays (lines-from marks s) (f ∙ ap (λ (x : Refusal). refuse x) same))
     finish (gone-on rules q f g held) = let x : _≡_ {A = ℕ} 0 1 = cc in absurd (omega arith)
 
-pub lines-read : (marks : ℕ) (s : List ℕ) (at lines n : ℕ) (l a : List ℕ) → length s ≤ 4096 → Coming marks s at lines l a → length s ≤ at
-    → n ≡ getD a 360 0 → Answers (Book.Read lines n) marks s a
-lines-read marks s at lines n l a few h le e =
-    answers-read marks s a (h .rules) (read-whole marks s few ∙ sym (h .same) ∙ lines-over marks s (h .rules) at le) (h .held .count-lines)
-    (e ∙ count-byte a ∙ h .held .counted) (holds-whole a (h .rules) (h .held .few) (omega (arith, h .held .lined, h .held .few)) (kept-book a (h .rules) (h .held .book)))
+pub lines-read : (marks : ℕ) (s : List ℕ) (at lines m n : ℕ) (l a : List ℕ) → 512 ≤ length l → length s ≤ 4096 → Coming marks s at lines l a
+    → length s ≤ at → m ≡ lines → n ≡ byte-at (set a line-count-at (m % 256)) node-count-at
+    → Answers (Book.Read lines n) marks s (set a line-count-at (m % 256))
+lines-read marks s at lines m n l a room few h le told e =
+    let small : m % 256 ≡ lines = omega (arith, told, h .held .count-lines, h .held .lined, h .held .few) in
+    let counted : byte-at (set a line-count-at (m % 256)) node-count-at ≡ length (nodes (h .rules)) =
+    getD-set-other a line-count-at node-count-at (m % 256) 0 (λ x. omega arith) ∙ count-byte a ∙ h .held .counted in
+    answers-read marks s (set a line-count-at (m % 256)) (h .rules) (read-whole marks s few ∙ sym (h .same) ∙ lines-over marks s (h .rules) at le)
+    (h .held .count-lines) (e ∙ counted)
+    (holds-whole (set a line-count-at (m % 256)) (h .rules) (h .held .few) (omega (arith, h .held .lined, h .held .few))
+    (rw (take-set-le node-count-at a line-count-at (m % 256) (omega arith)) (kept-book a (h .rules) (h .held .book))) counted
+    (getD-set-same a line-count-at (m % 256) 0 (omega (arith, h .long)) ∙ small ∙ sym (h .held .count-lines)))
 
 pub lines-few : (marks : ℕ) (s : List ℕ) (at lines : ℕ) (l a : List ℕ) → Coming marks s at lines l a → lines ≤ 60
 lines-few marks s at lines l a h = omega (arith, h .held .count-lines, h .held .lined, h .held .few)
@@ -416,71 +397,90 @@ outcome-whole marks s a y z r le e len f =
 
 -- ---- stores
 
-line-kept : (a : List ℕ) (line form root : ℕ) → root ≡ last-node (state-of a)
-    → record {
-      nodes = record { kept = sets (take 360 a) (240 + 2 * line) (form ∷ root ∷ []); count = byte-at a 360 };
-      fault = byte-at a 361;
-      is-timed = byte-at a 362;
-      marks = byte-at a 363;
-    }
+line-kept : (a : List ℕ) (line form root t : ℕ) → root ≡ last-node (state-of a) → t ≡ state-of a .is-timed
+    → state (sets (take node-count-at a) (lines-at + 4 * line) (form ∷ root ∷ line ∷ t ∷ [])) (byte-at a node-count-at) (byte-at a fault-at)
+    (byte-at a timed-at) (byte-at a marks-at) (byte-at a usual-at)
     ≡ put-line line form (state-of a)
-unfolding put-line state-of lines-at line-size
-line-kept a line form root e = rw e
+unfolding put-line state-of
+line-kept a line form root t e f = rw (e, f)
 
-pub line-put : (a : List ℕ) (line form root : ℕ) → root ≡ last-node (state-of a)
-    → PutsLine line form a (set (set a (240 + 2 * line) form) (240 + 2 * line + 1) root)
-line-put a line form root e =
-    record { put = λ lt. rw (add-one (240 + 2 * line)) (state-sets (form ∷ root ∷ []) (240 + 2 * line) a (omega arith) ∙ line-kept a line form root e) }
+pub line-put : (a : List ℕ) (line form root t : ℕ) → root ≡ last-node (state-of a) → t ≡ state-of a .is-timed
+    → PutsLine line form a
+    (set (set (set (set a (lines-at + 4 * line) form) (lines-at + 4 * line + 1) root) (lines-at + 4 * line + 2) (line % 256)) (lines-at + 4 * line + 3) t)
+line-put a line form root t e f = record { put = λ lt. go (lines-at + 4 * line) refl lt }
+  where
+    go : (at : ℕ) → at ≡ lines-at + 4 * line → line < 60
+        → state-of (set (set (set (set a at form) (at + 1) root) (at + 2) (line % 256)) (at + 3) t) ≡ put-line line form (state-of a)
+    go at is lt =
+        let vs : List ℕ = form ∷ root ∷ line ∷ t ∷ [] in
+        let small : line % 256 ≡ line = omega arith in
+        let inner : set (set (set (set a at form) (at + 1) root) (at + 2) line) (at + 3) t ≡ sets a at vs = simp towards-suc in
+        rw (small, inner) (state-sets vs at a (omega arith) ∙ rw is (line-kept a line form root t e f))
 
-pub started : (a : List ℕ) (marks : ℕ) → 512 ≤ length a → marks ≤ 16
-    → Held marks [] 0 (set (set (set a 360 0) 361 255) 363 (marks % 256))
+-- The reader's own bytes before the first line.
+started-bytes : (a : List ℕ) (m u j : ℕ) → 512 ≤ length a
+    → byte-at (set (set (set (set a node-count-at 0) fault-at 255) marks-at m) usual-at u) j
+    ≡ pick (eqb usual-at j) (λ _. u) (λ _.
+    pick (eqb marks-at j) (λ _. m) (λ _. pick (eqb fault-at j) (λ _. 255) (λ _. pick (eqb node-count-at j) (λ _. 0) (λ _. byte-at a j))))
+started-bytes a m u j long =
+    let one : List ℕ = set a node-count-at 0 in
+    let two : List ℕ = set one fault-at 255 in
+    let three : List ℕ = set two marks-at m in
+    let l1 = length-set a node-count-at 0 in
+    let l2 = length-set one fault-at 255 in
+    let l3 = length-set two marks-at m in
+    rw (
+      byte-set three usual-at j u (omega arith),
+      byte-set two marks-at j m (omega arith),
+      byte-set one fault-at j 255 (omega arith),
+      byte-set a node-count-at j 0 (omega arith),
+    )
+
+pub started : (a : List ℕ) (marks u : ℕ) → 512 ≤ length a → marks ≤ 16 → u ≡ usual-bound
+    → HeldSoFar marks [] 0 (set (set (set (set a node-count-at 0) fault-at 255) marks-at (marks % 256)) usual-at u)
 unfolding state-of nodes joined
-started a marks long le =
+started a marks u long le e =
     let small : marks % 256 ≡ marks = omega arith in
     record {
       count-lines = refl;
       few = omega arith;
       lined = omega arith;
-      counted =
-          getD-set-other (set (set a 360 0) 361 255) 363 360 (marks % 256) 0 (λ e. omega arith)
-          ∙ getD-set-other (set a 360 0) 361 360 255 0 (λ e. omega arith) ∙ getD-set-same a 360 0 0 (omega arith);
-      faultless =
-          getD-set-other (set (set a 360 0) 361 255) 363 361 (marks % 256) 0 (λ e. omega arith)
-          ∙ getD-set-same (set a 360 0) 361 255 0 (omega (arith, length-set a 360 0));
-      known-marks =
-          getD-set-same (set (set a 360 0) 361 255) 363 (marks % 256) 0 (omega (arith, length-set a 360 0, length-set (set a 360 0) 361 255)) ∙ small;
-      book = holds-none (take 360 (set (set (set a 360 0) 361 255) 363 (marks % 256)));
+      counted = started-bytes a (marks % 256) u node-count-at long;
+      faultless = started-bytes a (marks % 256) u fault-at long;
+      known-marks = started-bytes a (marks % 256) u marks-at long ∙ small;
+      known-usual = started-bytes a (marks % 256) u usual-at long ∙ e;
+      book = keeps-none _;
     }
 
-pub judge-7 : (a : List ℕ) (line end : ℕ) → getD a 361 0 ≡ 7 → T.Refused (Number line) ≡ judged line end (state-of a)
+pub judge-7 : (a : List ℕ) (line end : ℕ) → byte-at a fault-at ≡ 7 → T.Refused (Number line) ≡ judged line end (state-of a)
 unfolding judged state-of
 judge-7 a line end e = rw e
 
-pub judge-8 : (a : List ℕ) (line end : ℕ) → getD a 361 0 ≡ 8 → T.Refused (Mark line) ≡ judged line end (state-of a)
+pub judge-8 : (a : List ℕ) (line end : ℕ) → byte-at a fault-at ≡ 8 → T.Refused (Mark line) ≡ judged line end (state-of a)
 unfolding judged state-of
 judge-8 a line end e = rw e
 
-pub judge-9 : (a : List ℕ) (line end : ℕ) → (getD a 361 0 ≡ 7 → ⊥) → (getD a 361 0 ≡ 8 → ⊥) → 60 < getD a 360 0
+pub judge-9 : (a : List ℕ) (line end : ℕ) → (byte-at a fault-at ≡ 7 → ⊥) → (byte-at a fault-at ≡ 8 → ⊥) → 60 < byte-at a node-count-at
     → T.Refused (Limit line) ≡ judged line end (state-of a)
 unfolding judged state-of
-judge-9 a line end n m lt = rw (ne-eqb (getD a 361 0) 7 n, ne-eqb (getD a 361 0) 8 m, lt-ltb 60 (getD a 360 0) lt)
+judge-9 a line end n m lt = rw (ne-eqb (byte-at a fault-at) 7 n, ne-eqb (byte-at a fault-at) 8 m, lt-ltb 60 (byte-at a node-count-at) lt)
 
-pub judge-brackets : (a : List ℕ) (line end : ℕ) → getD a 360 0 ≤ 60 → getD a 361 0 ≡ 9 → T.Refused (Limit line) ≡ judged line end (state-of a)
+pub judge-brackets : (a : List ℕ) (line end : ℕ) → byte-at a node-count-at ≤ 60 → byte-at a fault-at ≡ 9 → T.Refused (Limit line) ≡ judged line end (state-of a)
 unfolding judged state-of
-judge-brackets a line end le e = rw (e, le-ltb 60 (getD a 360 0) le)
+judge-brackets a line end le e = rw (e, le-ltb 60 (byte-at a node-count-at) le)
 
-pub judge-10 : (a : List ℕ) (line end : ℕ) → getD a 360 0 ≤ 60 → getD a 361 0 ≡ 10 → T.Refused (Timed line) ≡ judged line end (state-of a)
+pub judge-10 : (a : List ℕ) (line end : ℕ) → byte-at a node-count-at ≤ 60 → byte-at a fault-at ≡ 10 → T.Refused (Timed line) ≡ judged line end (state-of a)
 unfolding judged state-of
-judge-10 a line end le e = rw (e, le-ltb 60 (getD a 360 0) le)
+judge-10 a line end le e = rw (e, le-ltb 60 (byte-at a node-count-at) le)
 
-pub judge-none : (a : List ℕ) (line end : ℕ) → (getD a 361 0 ≡ 7 → ⊥) → (getD a 361 0 ≡ 8 → ⊥) → getD a 360 0 ≤ 60 → (getD a 361 0 ≡ 9 → ⊥)
-    → (getD a 361 0 ≡ 10 → ⊥) → T.Next end ≡ judged line end (state-of a)
+pub judge-none : (a : List ℕ) (line end : ℕ) → (byte-at a fault-at ≡ 7 → ⊥) → (byte-at a fault-at ≡ 8 → ⊥) → byte-at a node-count-at ≤ 60 → (byte-at a fault-at ≡ 9 → ⊥)
+    → (byte-at a fault-at ≡ 10 → ⊥) → T.Next end ≡ judged line end (state-of a)
 unfolding judged state-of
 judge-none a line end n m le o p =
     rw (
-      ne-eqb (getD a 361 0) 7 n,
-      ne-eqb (getD a 361 0) 8 m,
-      le-ltb 60 (getD a 360 0) le,
-      ne-eqb (getD a 361 0) 9 o,
-      ne-eqb (getD a 361 0) 10 p,
+      ne-eqb (byte-at a fault-at) 7 n,
+      ne-eqb (byte-at a fault-at) 8 m,
+      le-ltb 60 (byte-at a node-count-at) le,
+      ne-eqb (byte-at a fault-at) 9 o,
+      ne-eqb (byte-at a fault-at) 10 p,
     )

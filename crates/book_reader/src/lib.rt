@@ -18,13 +18,14 @@ const MOST_BYTES: usize = 4096;
 
 const MOST_NODES: u8 = 60;
 
-// The length of the lent area (docs/WORK-AREAS.md), and where the lines stand in it.
+// The length of the lent area (docs/WORK-AREAS.md).
 const BOOK_AREA: usize = 512;
-
-const LINES_AT: usize = 240;
 
 // Nothing is at fault.
 const NO_FAULT: u8 = 255;
+
+// A number left out after A, E or U.
+const USUAL_BOUND: u8 = 20;
 
 // A line that was read: 1 for `always` and 0 for `start`, and the position after its byte 10.
 pub enum Line {
@@ -60,7 +61,7 @@ fn begins_with(s: &[u8], at: usize, word: &[u8]) -> bool
 // The line at a position, of one of the forms that a book may have.
 fn read_line(s: &[u8], at: usize, area: &mut [u8]) -> Line
     requires { ⌜ (512 ≤ length (now area)) × ((length (now s) ≤ 4096) × (at ≤ length (now s))) ⌝ }
-    ensures { λ r. ⌜ Lines.LineRead r (Reading.line-at (now (s .entry)) at) (now (area .entry)) (now (area .exit)) ⌝ }
+    ensures { λ r. ⌜ Lines.LineRead r (Reading.line-at (State.usual-in (now (area .entry))) (now (s .entry)) at) (now (area .entry)) (now (area .exit)) ⌝ }
 {
     if begins_with(s, at, b"always ") {
         return line_rest(s, at + 6, 1, area);
@@ -95,8 +96,8 @@ fn judge(line: usize, next: usize, area: &[u8]) -> Turn
     requires { ⌜ 512 ≤ length (now area) ⌝ }
     ensures { λ r. ⌜ r ≡ Lines.judged line next (State.state-of (now (area .entry))) ⌝ }
 {
-    let fault = area[361];
-    let count = area[360];
+    let fault = area[book_nodes::FAULT];
+    let count = area[book_nodes::NODE_COUNT];
     if fault == 7 {
         return Turn::Refused(Refusal::Number(line));
     }
@@ -115,15 +116,18 @@ fn judge(line: usize, next: usize, area: &[u8]) -> Turn
     Turn::Next(next)
 }
 
-// Puts down a line of this form, whose formula is the node read last.
+// Puts down a line of this form and number, whose formula is the node read last.
 fn put_line(area: &mut [u8], line: usize, form: u8)
     requires { ⌜ (512 ≤ length (now area)) × (line ≤ 60) ⌝ }
     ensures { λ _. ⌜ Lines.PutsLine line form (now (area .entry)) (now (area .exit)) ⌝ }
 {
     let root = book_nodes::last_node(area);
-    let at = LINES_AT + 2 * line;
+    let timed = book_nodes::is_timed(area);
+    let at = book_nodes::LINES_AT + book_nodes::LINE_SIZE * line;
     area[at] = form;
     area[at + 1] = root;
+    area[at + 2] = (line % 256) as u8;
+    area[at + 3] = timed;
 }
 
 // The next line, read and judged, and put down where nothing is at fault.
@@ -145,14 +149,15 @@ fn one_line(s: &[u8], at: usize, line: usize, area: &mut [u8]) -> Turn
 // The reader's own bytes before the first line.
 fn start(marks: usize, area: &mut [u8])
     requires { ⌜ (512 ≤ length (now area)) × (marks ≤ 16) ⌝ }
-    ensures { λ _. ⌜ Lines.Held marks [] 0 (now (area .exit)) ⌝ }
+    ensures { λ _. ⌜ Lines.HeldSoFar marks [] 0 (now (area .exit)) ⌝ }
 {
-    area[360] = 0;
-    area[361] = NO_FAULT;
-    area[363] = (marks % 256) as u8;
+    area[book_nodes::NODE_COUNT] = 0;
+    area[book_nodes::FAULT] = NO_FAULT;
+    area[book_nodes::MARKS] = (marks % 256) as u8;
+    area[book_nodes::USUAL] = USUAL_BOUND;
 }
 
-// Reads a book under P marks into a lent area: nodes from 0 on, lines from 240 on (reading/specs/BookArea).
+// Reads a book under P marks into a lent area: nodes, lines and the numbers of both (reading/specs/BookArea).
 pub fn read_lines(marks: usize, text: &[u8], area: &mut [u8]) -> BookAnswer
     requires { ⌜ (512 ≤ length (now area)) × (marks ≤ 16) ⌝ }
     ensures { λ r. ⌜ Lines.Answers r marks (now (text .entry)) (now (area .exit)) ⌝ }
@@ -166,7 +171,7 @@ pub fn read_lines(marks: usize, text: &[u8], area: &mut [u8]) -> BookAnswer
 
 // The lines one after the other, to the end of the text.
 fn all_lines(marks: usize, text: &[u8], area: &mut [u8]) -> BookAnswer
-    requires { ⌜ (512 ≤ length (now area)) × ((marks ≤ 16) × ((length (now text) ≤ 4096) × Lines.Held marks [] 0 (now area))) ⌝ }
+    requires { ⌜ (512 ≤ length (now area)) × ((marks ≤ 16) × ((length (now text) ≤ 4096) × Lines.HeldSoFar marks [] 0 (now area))) ⌝ }
     ensures { λ r. ⌜ Lines.Answers r marks (now (text .entry)) (now (area .exit)) ⌝ }
 {
     let mut lines = 0;
@@ -183,9 +188,10 @@ fn all_lines(marks: usize, text: &[u8], area: &mut [u8]) -> BookAnswer
             }
         }
     }
+    area[book_nodes::LINE_COUNT] = (lines % 256) as u8;
     BookAnswer::Read {
         lines,
-        nodes: wide(area[360]),
+        nodes: wide(area[book_nodes::NODE_COUNT]),
     }
 }
 

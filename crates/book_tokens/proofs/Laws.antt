@@ -20,7 +20,7 @@ use Rattle.base.proofs.Lists.{and-left, leading-le}
 use Rattle.logic.specs.Book.{no-more, less, no-less, more}
 use Rattle.logic.specs.Book as Logic
 use Rattle.reading.specs.Tokens.{stands, skip, is-digit, digits, value, Token, numeral, number-token, with-equals, comparison-token}
-use Rattle.reading.specs.Grammar.{compared, optional, Connective, connective, connectives, bounded, compared-with, number-or-usual, bound-at, usual-bound}
+use Rattle.reading.specs.Grammar.{optional, Connective, connective, connectives, bounded, compared-with, number-or-usual, bound-at}
 use Rattle.reading.specs.BookArea.{comparison-code}
 use Rattle.book_tokens.specs.Told.{place-behind, numeral-told, token-told, comparison-told, bound-told, bound-code, row-told, led-told, spelled, longer-told, bound-by, Spelling}
 use Rattle.book_tokens.specs.declared.Place.the-variants.{At, Nowhere}
@@ -261,7 +261,7 @@ above-inside s p b e f = byte-inside s p (omega arith)
 -- ---- the table
 
 -- The rows from i on are still to be looked at.
-pub record Scanning (b i : ℕ) : Type 0 where
+pub record ScanningBytes (b i : ℕ) : Type 0 where
   pub few : i ≤ 9
   pub same : connective (drop i connectives) b ≡ connective connectives b
 
@@ -298,22 +298,22 @@ no-rows : (b : ℕ) → Nothing ≡ led-told (connective (drop 9 connectives) b)
 unfolding connectives connective led-told
 no-rows b = refl
 
-pub scanning-start : (b : ℕ) → Scanning b 0
+pub scanning-start : (b : ℕ) → ScanningBytes b 0
 scanning-start b = record { few = omega arith; same = refl }
 
-pub scanning-on : (b i : ℕ) (d : Row) → Scanning b i → i < 9 → (getD rows i d .letter ≡ b → ⊥) → Scanning b (i + 1)
+pub scanning-on : (b i : ℕ) (d : Row) → ScanningBytes b i → i < 9 → (getD rows i d .letter ≡ b → ⊥) → ScanningBytes b (i + 1)
 scanning-on b i d h lt n =
     record {
       few = omega arith;
       same = rw (add-one i) (row-passed connectives i b d (omega (arith, nine)) (λ f. n (ap (λ (l : List Row). getD l i d .letter) rows-told ∙ f)) ∙ h .same);
     }
 
-pub connective-found : (b i : ℕ) (d : Row) → Scanning b i → i < 9 → getD rows i d .letter ≡ b → By (getD rows i d) ≡ led-told (connective connectives b)
+pub connective-found : (b i : ℕ) (d : Row) → ScanningBytes b i → i < 9 → getD rows i d .letter ≡ b → By (getD rows i d) ≡ led-told (connective connectives b)
 connective-found b i d h lt e =
     let f : getD (map row-told connectives) i d .letter ≡ b = sym (ap (λ (l : List Row). getD l i d .letter) rows-told) ∙ e in
     ap (λ (l : List Row). By (getD l i d)) rows-told ∙ row-found connectives i b d (omega (arith, nine)) f ∙ ap led-told (h .same)
 
-pub connective-none : (b i : ℕ) → Scanning b i → 9 ≤ i → Nothing ≡ led-told (connective connectives b)
+pub connective-none : (b i : ℕ) → ScanningBytes b i → 9 ≤ i → Nothing ≡ led-told (connective connectives b)
 connective-none b i h le =
     let e : i ≡ 9 = omega arith in no-rows b ∙ ap led-told (rw e at (h .same))
 
@@ -329,15 +329,15 @@ unfolding numeral-told
 numeral-read none r v q e f = let z : _≡_ {A = ℕ} 0 1 = cc in absurd (omega arith)
 numeral-read (some t) r v q e f = let a : t .said ≡ v = cc in let b : t .next ≡ q = cc in rw (← a, ← b)
 
-pub optional-missing : (s : List ℕ) (at q : ℕ) (r : Number) → q ≡ skip s at → r ≡ numeral-told (numeral 3 s q) → r ≡ N.Missing
-    → B.Read 7 20 at ≡ bound-told (bound-at optional s at)
-unfolding bound-at number-token number-or-usual bound-told comparison-code usual-bound
-optional-missing s at q r e f g = rw (← e, numeral-missing (numeral 3 s q) r f g)
+pub optional-missing : (usual : ℕ) (s : List ℕ) (at q : ℕ) (r : Number) → q ≡ skip s at → r ≡ numeral-told (numeral 3 s q) → r ≡ N.Missing
+    → B.Read 7 usual at ≡ bound-told (bound-at usual optional s at)
+unfolding bound-at number-token number-or-usual bound-told comparison-code
+optional-missing usual s at q r e f g = rw (← e, numeral-missing (numeral 3 s q) r f g)
 
-pub optional-read : (s : List ℕ) (at q v n : ℕ) (r : Number) → q ≡ skip s at → r ≡ numeral-told (numeral 3 s q) → r ≡ N.Read v n
-    → B.Read 7 v n ≡ bound-told (bound-at optional s at)
+pub optional-read : (usual : ℕ) (s : List ℕ) (at q v n : ℕ) (r : Number) → q ≡ skip s at → r ≡ numeral-told (numeral 3 s q) → r ≡ N.Read v n
+    → B.Read 7 v n ≡ bound-told (bound-at usual optional s at)
 unfolding bound-at number-token number-or-usual bounded bound-told comparison-code
-optional-read s at q v n r e f g = rw (← e, numeral-read (numeral 3 s q) r v n f g)
+optional-read usual s at q v n r e f g = rw (← e, numeral-read (numeral 3 s q) r v n f g)
 
 comparison-missing : (o : Option (Token Logic.Comparison)) (r : Compared) → r ≡ comparison-told o → r ≡ C.Missing → o ≡ none
 unfolding comparison-told token-told
@@ -345,14 +345,14 @@ comparison-missing none r e f = refl
 comparison-missing (some t) r e f = let z : _≡_ {A = ℕ} 0 1 = cc in absurd (omega arith)
 
 pub compared-missing : (s : List ℕ) (at q : ℕ) (r : Compared) → q ≡ skip s at → r ≡ comparison-told (comparison-token s q) → r ≡ C.Missing
-    → B.Missing ≡ bound-told (bound-at compared s at)
-unfolding bound-at compared-with bound-told
+    → B.Missing ≡ bound-told (compared-with s (comparison-token s (skip s at)))
+unfolding compared-with bound-told
 compared-missing s at q r e f g = rw (← e, comparison-missing (comparison-token s q) r f g)
 
 compared-behind : (s : List ℕ) (at q code next : ℕ) (r : Compared) (o : Option (Token Logic.Comparison)) → q ≡ skip s at → comparison-token s q ≡ o
     → r ≡ comparison-told o → r ≡ C.Read code next
-    → (c : Logic.Comparison) × (comparison-code c ≡ code) × (bound-at compared s at ≡ bounded c (number-token s (skip s next)))
-unfolding bound-at compared-with comparison-told token-told
+    → (c : Logic.Comparison) × (comparison-code c ≡ code) × (compared-with s (comparison-token s (skip s at)) ≡ bounded c (number-token s (skip s next)))
+unfolding compared-with comparison-told token-told
 compared-behind s at q code next r none e k f g = let z : _≡_ {A = ℕ} 0 1 = cc in absurd (omega arith)
 compared-behind s at q code next r (some t) e k f g =
     let a : t .next ≡ next = cc in
@@ -360,7 +360,7 @@ compared-behind s at q code next r (some t) e k f g =
 
 pub compared-short : (s : List ℕ) (at q code next u : ℕ) (r : Compared) (n : Number) → q ≡ skip s at
     → r ≡ comparison-told (comparison-token s q) → r ≡ C.Read code next → u ≡ skip s next → n ≡ numeral-told (numeral 3 s u) → n ≡ N.Missing
-    → B.Missing ≡ bound-told (bound-at compared s at)
+    → B.Missing ≡ bound-told (compared-with s (comparison-token s (skip s at)))
 unfolding bounded bound-told number-token
 compared-short s at q code next u r n e f g h k l =
     let found = compared-behind s at q code next r (comparison-token s q) e refl f g in
@@ -371,7 +371,7 @@ compared-short s at q code next u r n e f g h k l =
 
 pub compared-read : (s : List ℕ) (at q code next u v w : ℕ) (r : Compared) (n : Number) → q ≡ skip s at
     → r ≡ comparison-told (comparison-token s q) → r ≡ C.Read code next → u ≡ skip s next → n ≡ numeral-told (numeral 3 s u) → n ≡ N.Read v w
-    → B.Read code v w ≡ bound-told (bound-at compared s at)
+    → B.Read code v w ≡ bound-told (compared-with s (comparison-token s (skip s at)))
 unfolding bounded bound-told number-token
 compared-read s at q code next u v w r n e f g h k l =
     let found = compared-behind s at q code next r (comparison-token s q) e refl f g in
@@ -380,15 +380,15 @@ compared-read s at q code next u v w r n e f g h k l =
     go : (c : Logic.Comparison) → comparison-code c ≡ code → bound-told (bounded c (numeral 3 s (skip s next))) ≡ B.Read code v w
     go c d = rw (← h, numeral-read (numeral 3 s u) n v w k l, d)
 
-pub bound-first : (kind : ℕ) (s : List ℕ) (at : ℕ) (r : Bounded) → kind ≡ 1 → r ≡ bound-told (bound-at compared s at) → r ≡ bound-by kind s at
-unfolding bound-by
-bound-first kind s at r e f = rw e f
+pub bound-first : (usual kind : ℕ) (s : List ℕ) (at : ℕ) (r : Bounded) → kind ≡ 1 → r ≡ bound-told (compared-with s (comparison-token s (skip s at))) → r ≡ bound-by usual kind s at
+unfolding bound-by bound-at
+bound-first usual kind s at r e f = rw e f
 
-pub bound-second : (kind : ℕ) (s : List ℕ) (at : ℕ) (r : Bounded) → (kind ≡ 1 → ⊥) → kind ≡ 2 → r ≡ bound-told (bound-at optional s at)
-    → r ≡ bound-by kind s at
+pub bound-second : (usual kind : ℕ) (s : List ℕ) (at : ℕ) (r : Bounded) → (kind ≡ 1 → ⊥) → kind ≡ 2 → r ≡ bound-told (bound-at usual optional s at)
+    → r ≡ bound-by usual kind s at
 unfolding bound-by
-bound-second kind s at r n e f = rw e f
+bound-second usual kind s at r n e f = rw e f
 
-pub bound-neither : (kind : ℕ) (s : List ℕ) (at : ℕ) → (kind ≡ 1 → ⊥) → (kind ≡ 2 → ⊥) → B.Missing ≡ bound-by kind s at
+pub bound-neither : (usual kind : ℕ) (s : List ℕ) (at : ℕ) → (kind ≡ 1 → ⊥) → (kind ≡ 2 → ⊥) → B.Missing ≡ bound-by usual kind s at
 unfolding bound-by
-bound-neither kind s at n m = rw (ne-eqb kind 1 n, ne-eqb kind 2 m)
+bound-neither usual kind s at n m = rw (ne-eqb kind 1 n, ne-eqb kind 2 m)

@@ -65,10 +65,10 @@ unfoldable pub longer-told : List ℕ → ℕ → ℕ → ℕ → Compared
 longer-told s p long short = pick (stands s (p + 1) (byte "=")) (λ _. C.Read long (p + 1 + 1)) (λ _. C.Read short (p + 1))
 
 -- the bound of a connective by the number of its kind
-unfoldable pub bound-by : ℕ → List ℕ → ℕ → Bounded
-bound-by kind s p =
-    pick (eqb kind 1) (λ _. bound-told (bound-at compared s p)) (λ _.
-    pick (eqb kind 2) (λ _. bound-told (bound-at optional s p)) (λ _. B.Missing))
+unfoldable pub bound-by : ℕ → ℕ → List ℕ → ℕ → Bounded
+bound-by usual kind s p =
+    pick (eqb kind 1) (λ _. bound-told (bound-at usual compared s p)) (λ _.
+    pick (eqb kind 2) (λ _. bound-told (bound-at usual optional s p)) (λ _. B.Missing))
 
 -- The digits of a number as far as they were read: n of at most so many, from p on.
 pub record Spelling (s : List ℕ) (p most n said next : ℕ) : Type 0 where

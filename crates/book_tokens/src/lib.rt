@@ -113,9 +113,6 @@ const NO_LESS: u8 = 9;
 
 const MORE: u8 = 10;
 
-// A number left out after A, E or U.
-const USUAL_BOUND: usize = 20;
-
 // The most digits of a number.
 const MOST_DIGITS: usize = 3;
 
@@ -240,22 +237,22 @@ pub fn connective(b: u8) -> Led
     Led::Nothing
 }
 
-// The bound behind a connective's letter, which ends at this position.
-pub fn bound(kind: u8, s: &[u8], at: usize) -> Bounded
-    ensures { λ r. ⌜ r ≡ Told.bound-by kind (now (s .entry)) at ⌝ }
+// The bound behind a connective's letter, which ends at this position; the usual one where a number may be left out and is.
+pub fn bound(usual: usize, kind: u8, s: &[u8], at: usize) -> Bounded
+    ensures { λ r. ⌜ r ≡ Told.bound-by usual kind (now (s .entry)) at ⌝ }
 {
     if kind == COMPARED {
         return bound_compared(s, at);
     }
     if kind == OPTIONAL {
-        return bound_optional(s, at);
+        return bound_optional(usual, s, at);
     }
     Bounded::Missing
 }
 
 // A comparison and its number.
 fn bound_compared(s: &[u8], at: usize) -> Bounded
-    ensures { λ r. ⌜ r ≡ Told.bound-told (Grammar.bound-at Grammar.Bound.compared (now (s .entry)) at) ⌝ }
+    ensures { λ r. ⌜ r ≡ Told.bound-told (Grammar.compared-with (now (s .entry)) (Tokens.comparison-token (now (s .entry)) (Tokens.skip (now (s .entry)) at))) ⌝ }
 {
     let Compared::Read { code, next } = comparison(s, skip(s, at)) else {
         return Bounded::Missing;
@@ -271,13 +268,13 @@ fn bound_compared(s: &[u8], at: usize) -> Bounded
 }
 
 // A number that may be left out.
-fn bound_optional(s: &[u8], at: usize) -> Bounded
-    ensures { λ r. ⌜ r ≡ Told.bound-told (Grammar.bound-at Grammar.Bound.optional (now (s .entry)) at) ⌝ }
+fn bound_optional(usual: usize, s: &[u8], at: usize) -> Bounded
+    ensures { λ r. ⌜ r ≡ Told.bound-told (Grammar.bound-at usual Grammar.Bound.optional (now (s .entry)) at) ⌝ }
 {
     let Number::Read { said, next } = numeral(s, skip(s, at), MOST_DIGITS) else {
         return Bounded::Read {
             code: NO_MORE,
-            amount: USUAL_BOUND,
+            amount: usual,
             next: at,
         };
     };

@@ -2,7 +2,6 @@
 // letter inside a 14 (docs/PROGRAMS.md). Without names they are tower.bin, book.txt and table.bin.
 ghost use mathlib.Core.Path.{_≡_};
 ghost use Rattle.outcome.specs.Check.{verdict, checked-file};
-use base::Refusal;
 use base::Verdict;
 use program_files::Contents;
 
@@ -21,15 +20,7 @@ fn tell(
             program_files::print(b"good\n");
         }
         Verdict::NotGood(reason) => {
-            words_refusal::refuse(
-                Refusal::NotGood(reason),
-                tower,
-                book,
-                table,
-                tower_bytes,
-                text,
-                table_bytes,
-            );
+            words_refusal::not_good(reason, table, tower_bytes, table_bytes);
         }
         Verdict::Refused(why) => {
             words_refusal::refuse(why, tower, book, table, tower_bytes, text, table_bytes);

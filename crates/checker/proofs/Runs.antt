@@ -12,7 +12,7 @@ use Rattle.base.specs.Lists.{some-of, below, count-from}
 use Rattle.base.specs.Bytes.{number-at}
 use Rattle.base.specs.Answers.{_if_else_}
 use Rattle.base.specs.declared.Reason.the-variants as Why
-use Rattle.base.specs.declared.Refusal.the-variants.{Pairs, NotGood}
+use Rattle.base.specs.declared.Refusal.the-variants.{Pairs}
 use Rattle.base.specs.declared.Verdict.the-variants as Check
 use Rattle.base.proofs.Lists.{same-truth, some-at, some-of-mem, some-below, below-some, mem-getD, mem-index, is-there-in, there-not}
 use Rattle.logic.specs.Tower.{Tower, tower-of}
@@ -21,13 +21,13 @@ use Rattle.logic.specs.Book.{Book}
 use Rattle.reading.specs.TableReading.{table-of}
 use Rattle.pending.specs.Pairs.{first-pair, pairs, over-pairs}
 use Rattle.pending.proofs.Steps.{pair-step-out}
-use Rattle.outcome.specs.Check.{over-items, broken-step, breaks, some-broken, turned-down, verdict}
+use Rattle.outcome.specs.Check.{over-items, broken-step, breaks, some-broken, _found-if_else_, verdict}
 use Rattle.book_progression.specs.NodeBytes.{IsHeld}
 use Rattle.pair_entries.specs.PendingEntries.{TowerWithBook}
 use Rattle.pair_graph.specs.Graph.{Move}
-use Rattle.pair_graph.specs.Steps.{cell, move-of, move-at, graph-of}
+use Rattle.pair_graph.specs.Steps.{graph-size, cell, move-of, move-at, graph-of}
 use Rattle.pair_graph.specs.GraphOf.{numbered, SaysStep, says-not-enabled, says-broken, says-to, GraphOf}
-use Rattle.checker_rows.specs.RowVerdict.{Judgeable}
+use Rattle.checker_rows.specs.RowVerdict.{RowsJudgeable}
 use Rattle.pair_search.specs.Walked.{walked, Walkable}
 use Rattle.pair_search.specs.Explored.{found, Explored}
 use Rattle.pair_search.specs.declared.Found.{Found}
@@ -95,9 +95,9 @@ module _ (tower : Tower) (book : Book) (n : ℕ) (graph : List ℕ) (of : GraphO
 -- ---- check_runs
 
 -- The rows of the table can be searched.
-pub runs-walkable : (tower table nodes : List ℕ) (lines count : ℕ) → TowerWithBook tower nodes lines count → Judgeable tower table
-    → Walkable tower table true nodes lines count
-runs-walkable tower table nodes lines count world ok = rows-walkable tower table nodes lines count world (ok .layout) (ok .states)
+pub runs-walkable : (tower table nodes : List ℕ) → TowerWithBook tower nodes → RowsJudgeable tower table
+    → Walkable tower table true nodes
+runs-walkable tower table nodes world ok = rows-walkable tower table nodes world (ok .layout) (ok .states)
 
 -- how the search ends
 found-many : (tower : Tower) (book : Book) → TooMany ≡ found tower book → over-pairs tower book ≡ true
@@ -116,19 +116,19 @@ found-few tower book n e = go (over-pairs tower book) e
     go true f = let z : _≡_ {A = ℕ} 0 1 = cc in absurd (omega arith)
     go false f = refl
 
-module _ (tower table nodes : List ℕ) (lines count : ℕ) (graph : List ℕ) (r : Found)
-    (explored : Explored r (walked tower table true) nodes lines count graph) where
+module _ (tower table nodes graph : List ℕ) (r : Found)
+    (explored : Explored r (walked tower table true) nodes graph) where
   -- 11.
-  pub runs-many : r ≡ TooMany → RunsChecked (Check.Refused Pairs) tower table nodes lines count
-  unfolding runs-answer over-items walked verdict turned-down _if_else_
+  pub runs-many : r ≡ TooMany → RunsChecked (Check.Refused Pairs) tower table nodes
+  unfolding runs-answer over-items walked verdict _if_else_
   runs-many e = record { says = λ h. sym (rw (many h)) }
     where
-      many : (h : IsHeld nodes lines count) → over-pairs (rows-tower (tower-of tower) (table-of table)) (h .book) ≡ true
+      many : (h : IsHeld nodes) → over-pairs (rows-tower (tower-of tower) (table-of table)) (h .book) ≡ true
       many h = found-many (rows-tower (tower-of tower) (table-of table)) (h .book) (sym e ∙ unfold walked in (explored .says h))
 
   module _ (n actions : ℕ) (is : r ≡ Met n) where
     -- The graph holds n pairs, with the tower's actions.
-    pub runs-room : 34000 ≤ length graph
+    pub runs-room : graph-size ≤ length graph
     runs-room = explored .pairs-held n is .holds .room
 
     pub runs-pairs : n ≤ 1000
@@ -137,22 +137,22 @@ module _ (tower table nodes : List ℕ) (lines count : ℕ) (graph : List ℕ) (
     pub runs-actions : actions ≡ tower-of tower .actions → actions ≤ 16
     runs-actions e = omega (arith, walked-actions tower table true, explored .pairs-held n is .holds .actions-most)
 
-    few : (h : IsHeld nodes lines count) → over-pairs (rows-tower (tower-of tower) (table-of table)) (h .book) ≡ false
+    few : (h : IsHeld nodes) → over-pairs (rows-tower (tower-of tower) (table-of table)) (h .book) ≡ false
     few h = found-few (rows-tower (tower-of tower) (table-of table)) (h .book) n (sym is ∙ unfold walked in (explored .says h))
 
     module _ (at-actions : actions ≡ tower-of tower .actions) (b : Bool) (is-b : b ≡ some-break graph n actions) where
-      breaks-so : (h : IsHeld nodes lines count) → some-broken (rows-tower (tower-of tower) (table-of table)) (h .book) ≡ b
+      breaks-so : (h : IsHeld nodes) → some-broken (rows-tower (tower-of tower) (table-of table)) (h .book) ≡ b
       unfolding walked rows-tower
       breaks-so h =
           sym (is-b ∙ ap (some-break graph n) at-actions
           ∙ break-found (walked tower table true) (h .book) n graph (explored .pairs-held n is .pairs-graph h))
 
       -- 14 e.
-      pub runs-broken : b ≡ true → RunsChecked (Check.NotGood Why.Broken) tower table nodes lines count
-      unfolding runs-answer over-items verdict turned-down _if_else_
+      pub runs-broken : b ≡ true → RunsChecked (Check.NotGood Why.Broken) tower table nodes
+      unfolding runs-answer over-items verdict _if_else_ _found-if_else_
       runs-broken e = record { says = λ h. let broke = breaks-so h ∙ e in let not-many = few h in sym (rw (not-many, broke)) }
 
       -- Good.
-      pub runs-good : b ≡ false → RunsChecked Check.Good tower table nodes lines count
-      unfolding runs-answer over-items verdict _if_else_
+      pub runs-good : b ≡ false → RunsChecked Check.Good tower table nodes
+      unfolding runs-answer over-items verdict _if_else_ _found-if_else_
       runs-good e = record { says = λ h. let whole = breaks-so h ∙ e in let not-many = few h in sym (rw (not-many, whole)) }

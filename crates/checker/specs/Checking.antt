@@ -1,46 +1,46 @@
 -- What the functions of the checker promise, from the table on back to the whole outcome.
 use Prim.Native.Nat.{ℕ, _≤_}
 use mathlib.Core.Path.{_≡_}
-use mathlib.Core.Bool.{Bool, true, false, _&&_}
+use mathlib.Core.Bool.{Bool, true, false}
 use mathlib.Core.List.{List, [], _∷_}
 use lib.ListN.{length, replicate}
-use lib.Dec.{leb}
 use Rattle.base.specs.Lists.{some-of, below}
 use Rattle.base.specs.Answers.{verdict-said, Answer, give, _if_else_, _then_}
 use Rattle.base.specs.declared.Reason.the-variants.{Broken}
-use Rattle.base.specs.declared.Refusal.the-variants.{Pairs, NotGood}
+use Rattle.base.specs.declared.Refusal.the-variants.{Pairs}
 use Rattle.base.specs.declared.Verdict.{Verdict}
 use Rattle.logic.specs.Tower.{Tower, tower-of}
 use Rattle.logic.specs.Book.{Book}
 use Rattle.logic.specs.Tables.{Table, rows-tower}
 use Rattle.reading.specs.BookReading.{read-book}
 use Rattle.reading.specs.TableReading.{read-table, table-of}
-use Rattle.outcome.specs.Check.{over-items, some-broken, judge, verdict, check-outcome}
+use Rattle.outcome.specs.Areas.{book-area, pairs-area, index-area, graph-area}
+use Rattle.outcome.specs.Check.{Finding, good-table, _found-if_else_, over-items, some-broken, judge, verdict, check-outcome}
 use Rattle.book_progression.specs.NodeBytes.{IsHeld}
 use Rattle.pair_graph.specs.Graph.{Move, not-enabled, broken, to}
 use Rattle.pair_graph.specs.Steps.{move-at}
 
 -- the answer for a table file, where tower and book are read
-unfoldable pub checked-table : Tower → Book → List ℕ → Answer (Unit {0})
+unfoldable pub checked-table : Tower → Book → List ℕ → Answer Finding
 checked-table tower book table = read-table tower table then λ rows. judge tower book rows
 
 -- the answer for a book and a table file, where the tower is read
-unfoldable pub checked-book : Tower → List ℕ → List ℕ → Answer (Unit {0})
+unfoldable pub checked-book : Tower → List ℕ → List ℕ → Answer Finding
 checked-book tower text table = read-book (tower .marks) text then λ book. checked-table tower book table
 
 -- The answer for a table file, for the book that the area holds.
-pub record TableChecked (r : Verdict) (tower table nodes : List ℕ) (lines count : ℕ) : Type 0 where
-  pub says : (h : IsHeld nodes lines count) → r ≡ verdict (checked-table (tower-of tower) (h .book) table)
+pub record TableChecked (r : Verdict) (tower table nodes : List ℕ) : Type 0 where
+  pub says : (h : IsHeld nodes) → r ≡ verdict (checked-table (tower-of tower) (h .book) table)
 
 -- ---- 11 and reason e
 
 -- what is asked behind the rows: 11, then e
-unfoldable pub runs-answer : Tower → Book → Table → Answer (Unit {0})
-runs-answer tower book table = Pairs if over-items tower book table else NotGood Broken if some-broken (rows-tower tower table) book else give tt
+unfoldable pub runs-answer : Tower → Book → Table → Answer Finding
+runs-answer tower book table = Pairs if over-items tower book table else Broken found-if some-broken (rows-tower tower table) book else give good-table
 
 -- The answer for the runs that a table allows, for the book that the area holds.
-pub record RunsChecked (r : Verdict) (tower table nodes : List ℕ) (lines count : ℕ) : Type 0 where
-  pub says : (h : IsHeld nodes lines count) → r ≡ verdict (runs-answer (tower-of tower) (h .book) (table-of table))
+pub record RunsChecked (r : Verdict) (tower table nodes : List ℕ) : Type 0 where
+  pub says : (h : IsHeld nodes) → r ≡ verdict (runs-answer (tower-of tower) (h .book) (table-of table))
 
 -- the move is a broken step
 unfoldable pub is-broken : Move → Bool
@@ -62,16 +62,12 @@ some-break graph n actions = some-of (breaks-at graph actions) (below n)
 
 -- ---- the areas
 
--- areas of these lengths are long enough
-unfoldable pub lengths-right : ℕ → ℕ → ℕ → ℕ → Bool
-lengths-right nodes pairs index graph = leb 512 nodes && (leb 62062 pairs && (leb 8192 index && leb 34000 graph))
-
 -- The areas are long enough.
 pub record Room (nodes pairs index graph : List ℕ) : Type 0 where
-  pub nodes-room : 512 ≤ length nodes
-  pub pairs-room : 62062 ≤ length pairs
-  pub index-room : 8192 ≤ length index
-  pub graph-room : 34000 ≤ length graph
+  pub nodes-room : book-area ≤ length nodes
+  pub pairs-room : pairs-area ≤ length pairs
+  pub index-room : index-area ≤ length index
+  pub graph-room : graph-area ≤ length graph
 
 -- The areas hold zeros.
 pub record AllCleared (nodes pairs index graph nodes-after pairs-after index-after graph-after : List ℕ) : Type 0 where

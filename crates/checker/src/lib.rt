@@ -3,14 +3,17 @@
 // row, 11, 14 e. It stands on the definitions, and on nothing of the maker's.
 ghost use Prim.Native.Nat.{_≤_, _<_};
 ghost use mathlib.Core.Path.{_≡_};
+ghost use mathlib.Core.List.{[], _∷_};
 ghost use lib.ListN.{length};
+ghost use Rattle.base.specs.Bytes.{long-enough};
 ghost use Rattle.logic.specs.Tower.{FitTower, tower-of};
 ghost use Rattle.file_table.specs.Layout.{laid-out-for};
-ghost use Rattle.outcome.specs.Check.{turned-down, verdict, checked-file};
+ghost use Rattle.outcome.specs.Areas.{pairs-area, index-area, graph-area, check-areas};
+ghost use Rattle.outcome.specs.Check.{verdict, checked-file};
 ghost use Rattle.pair_entries.specs.PendingEntries.{TowerWithBook};
 ghost use Rattle.pair_graph.specs.Steps.{graph-size, pair-room, action-room};
-ghost use Rattle.checker_rows.specs.RowVerdict.{Judgeable};
-ghost use Rattle.checker.specs.Checking.{checked-book, TableChecked, RunsChecked, broken-at, breaks-at, some-break, lengths-right, Room, AllCleared, Checks};
+ghost use Rattle.checker_rows.specs.RowVerdict.{RowsJudgeable};
+ghost use Rattle.checker.specs.Checking.{checked-book, TableChecked, RunsChecked, broken-at, breaks-at, some-break, Room, AllCleared, Checks};
 use base::BookAnswer;
 use base::Reason;
 use base::Refusal;
@@ -28,16 +31,6 @@ const PAIRS_AREA: usize = 62062;
 const INDEX_AREA: usize = 8192;
 
 const GRAPH_AREA: usize = 34000;
-
-// A refusal as a verdict: 14 is the case that carries its reason.
-fn turned_down(why: Refusal) -> Verdict
-    ensures { λ r. ⌜ r ≡ turned-down why ⌝ }
-{
-    if let Refusal::NotGood(reason) = why {
-        return Verdict::NotGood(reason);
-    }
-    Verdict::Refused(why)
-}
 
 // Action a makes a broken step from pair i.
 fn broken_at(graph: &[u8], i: usize, a: usize) -> bool
@@ -90,20 +83,18 @@ fn check_runs(
     tower: &[u8],
     table: &[u8],
     nodes: &[u8],
-    lines: usize,
-    count: usize,
     pairs: &mut [u8],
     index: &mut [u8],
     graph: &mut [u8],
 ) -> Verdict
-    requires { ⌜ TowerWithBook (now tower) (now nodes) lines count ⌝ }
-    requires { ⌜ Judgeable (now tower) (now table) ⌝ }
-    requires { ⌜ 62062 ≤ length (now pairs) ⌝ }
-    requires { ⌜ 8192 ≤ length (now index) ⌝ }
-    requires { ⌜ 34000 ≤ length (now graph) ⌝ }
-    ensures { λ r. ⌜ RunsChecked r (now (tower .entry)) (now (table .entry)) (now (nodes .entry)) lines count ⌝ }
+    requires { ⌜ TowerWithBook (now tower) (now nodes) ⌝ }
+    requires { ⌜ RowsJudgeable (now tower) (now table) ⌝ }
+    requires { ⌜ pairs-area ≤ length (now pairs) ⌝ }
+    requires { ⌜ index-area ≤ length (now index) ⌝ }
+    requires { ⌜ graph-area ≤ length (now graph) ⌝ }
+    ensures { λ r. ⌜ RunsChecked r (now (tower .entry)) (now (table .entry)) (now (nodes .entry)) ⌝ }
 {
-    let found = pair_search::explore(tower, table, true, nodes, lines, count, pairs, index, graph);
+    let found = pair_search::explore(tower, table, true, nodes, pairs, index, graph);
     let Found::Met(n) = found else {
         return Verdict::Refused(Refusal::Pairs);
     };
@@ -128,17 +119,15 @@ fn check_table(
     tower: &[u8],
     table: &[u8],
     nodes: &[u8],
-    lines: usize,
-    count: usize,
     pairs: &mut [u8],
     index: &mut [u8],
     graph: &mut [u8],
 ) -> Verdict
-    requires { ⌜ TowerWithBook (now tower) (now nodes) lines count ⌝ }
-    requires { ⌜ 62062 ≤ length (now pairs) ⌝ }
-    requires { ⌜ 8192 ≤ length (now index) ⌝ }
-    requires { ⌜ 34000 ≤ length (now graph) ⌝ }
-    ensures { λ r. ⌜ TableChecked r (now (tower .entry)) (now (table .entry)) (now (nodes .entry)) lines count ⌝ }
+    requires { ⌜ TowerWithBook (now tower) (now nodes) ⌝ }
+    requires { ⌜ pairs-area ≤ length (now pairs) ⌝ }
+    requires { ⌜ index-area ≤ length (now index) ⌝ }
+    requires { ⌜ graph-area ≤ length (now graph) ⌝ }
+    ensures { λ r. ⌜ TableChecked r (now (tower .entry)) (now (table .entry)) (now (nodes .entry)) ⌝ }
 {
     if !for_tower(tower, table) {
         return Verdict::Refused(Refusal::Layout);
@@ -147,23 +136,23 @@ fn check_table(
     if let RowVerdict::Wrong(reason) = rows {
         return Verdict::NotGood(reason);
     }
-    check_runs(tower, table, nodes, lines, count, pairs, index, graph)
+    check_runs(tower, table, nodes, pairs, index, graph)
 }
 
 // The areas are long enough.
-fn lengths_right(nodes: usize, pairs: usize, index: usize, graph: usize) -> bool
-    ensures { λ b. ⌜ b ≡ lengths-right nodes pairs index graph ⌝ }
+fn long_enough(nodes: &[u8], pairs: &[u8], index: &[u8], graph: &[u8]) -> bool
+    ensures { λ b. ⌜ b ≡ long-enough check-areas (now (nodes .entry) ∷ now (pairs .entry) ∷ now (index .entry) ∷ now (graph .entry) ∷ []) ⌝ }
 {
-    if nodes < NODES_AREA {
+    if nodes.len() < NODES_AREA {
         return false;
     }
-    if pairs < PAIRS_AREA {
+    if pairs.len() < PAIRS_AREA {
         return false;
     }
-    if index < INDEX_AREA {
+    if index.len() < INDEX_AREA {
         return false;
     }
-    GRAPH_AREA <= graph
+    GRAPH_AREA <= graph.len()
 }
 
 // Book and table, where the tower is read.
@@ -182,11 +171,8 @@ fn check_book(
 {
     let book = book_reader::read_lines(file_tower::marks(tower), text, nodes);
     match book {
-        BookAnswer::Refused(why) => turned_down(why),
-        BookAnswer::Read {
-            lines,
-            nodes: count,
-        } => check_table(tower, table, nodes, lines, count, pairs, index, graph),
+        BookAnswer::Refused(why) => Verdict::Refused(why),
+        BookAnswer::Read { .. } => check_table(tower, table, nodes, pairs, index, graph),
     }
 }
 
@@ -205,7 +191,7 @@ fn check_files(
 {
     let read = file_tower::read_tower(tower);
     if let TowerRead::Refused(why) = read {
-        return turned_down(why);
+        return Verdict::Refused(why);
     }
     check_book(tower, text, table, nodes, pairs, index, graph)
 }
@@ -233,7 +219,7 @@ pub fn check(
 ) -> Verdict
     ensures { λ r. ⌜ Checks r (now (tower .entry)) (now (text .entry)) (now (table .entry)) (now (nodes .entry)) (now (pairs .entry)) (now (index .entry)) (now (graph .entry)) (now (nodes .exit)) (now (pairs .exit)) (now (index .exit)) (now (graph .exit)) ⌝ }
 {
-    if !lengths_right(nodes.len(), pairs.len(), index.len(), graph.len()) {
+    if !long_enough(nodes, pairs, index, graph) {
         return Verdict::Refused(Refusal::Area);
     }
     let answer = check_files(tower, text, table, nodes, pairs, index, graph);

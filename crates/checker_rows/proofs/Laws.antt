@@ -8,24 +8,24 @@ use Rattle.base.specs.Choice.{pick}
 use Rattle.base.specs.Lists.{below}
 use Rattle.base.specs.Answers.{Answer, give, _if_else_}
 use Rattle.base.specs.declared.Reason.the-variants.{Start, Withheld, WrongStep, Stopped, Broken}
-use Rattle.base.specs.declared.Refusal.the-variants.{Pairs, NotGood}
+use Rattle.base.specs.declared.Refusal.the-variants.{Pairs}
 use Rattle.logic.specs.Tower.{Tower}
 use Rattle.logic.specs.Book.{Book}
 use Rattle.logic.specs.Tables.{Table, rows-tower}
-use Rattle.outcome.specs.Check.{wrong-start, stopped, judge-row, judge-rows, over-items, some-broken, judge}
+use Rattle.outcome.specs.Check.{Finding, good-table, _found-if_else_, wrong-start, stopped, judge-row, judge-rows, over-items, some-broken, judge}
 use Rattle.checker_rows.specs.RowVerdict.{some-withheld, some-wrong-step, row-verdict, rows-from, rows-verdict, answer-after}
 use Rattle.checker_rows.specs.declared.RowVerdict.{RowVerdict}
 use Rattle.checker_rows.specs.declared.RowVerdict.the-variants.{Wrong}
 
 -- One row.
-pub judge-row-after : (tower : Tower) (table : Table) (r : ℕ) (v : RowVerdict) (after : Answer (Unit {0}))
+pub judge-row-after : (tower : Tower) (table : Table) (r : ℕ) (v : RowVerdict) (after : Answer Finding)
     → judge-row tower table r (answer-after v after) ≡ answer-after (row-verdict tower table r v) after
-unfolding judge-row row-verdict some-withheld some-wrong-step _if_else_ answer-after
+unfolding judge-row row-verdict some-withheld some-wrong-step _found-if_else_ answer-after
 judge-row-after tower table r v after =
     go (some-withheld tower table r) (some-wrong-step tower table r) (stopped tower table r)
   where
     go : (b c d : Bool)
-        → (NotGood (Withheld r) if b else NotGood (WrongStep r) if c else NotGood (Stopped r) if d else answer-after v after)
+        → (Withheld r found-if b else WrongStep r found-if c else Stopped r found-if d else answer-after v after)
         ≡ answer-after
         (pick b (λ _. Wrong (Withheld r)) (λ _. pick c (λ _. Wrong (WrongStep r)) (λ _. pick d (λ _. Wrong (Stopped r)) (λ _. v)))) after
     go true c d = refl
@@ -34,7 +34,7 @@ judge-row-after tower table r v after =
     go false false false = refl
 
 -- The rows in turn.
-pub judge-rows-after : (tower : Tower) (table : Table) (rs : List ℕ) (after : Answer (Unit {0}))
+pub judge-rows-after : (tower : Tower) (table : Table) (rs : List ℕ) (after : Answer Finding)
     → judge-rows tower table rs after ≡ answer-after (rows-from tower table rs) after
 unfolding judge-rows rows-from answer-after
 judge-rows-after tower table [] after = refl
@@ -45,15 +45,15 @@ judge-rows-after tower table (r ∷ rs) after =
 pub judge-after-rows : (tower : Tower) (book : Book) (table : Table)
     → judge tower book table
     ≡ answer-after (rows-verdict tower table)
-    (Pairs if over-items tower book table else NotGood Broken if some-broken (rows-tower tower table) book else give tt)
-unfolding judge rows-verdict _if_else_ answer-after
+    (Pairs if over-items tower book table else Broken found-if some-broken (rows-tower tower table) book else give good-table)
+unfolding judge rows-verdict _found-if_else_ answer-after
 judge-after-rows tower book table = go (wrong-start tower table)
   where
-    after : Answer (Unit {0})
-    after = Pairs if over-items tower book table else NotGood Broken if some-broken (rows-tower tower table) book else give tt
+    after : Answer Finding
+    after = Pairs if over-items tower book table else Broken found-if some-broken (rows-tower tower table) book else give good-table
 
     go : (b : Bool)
-        → (NotGood Start if b else judge-rows tower table (below (length table)) after)
+        → (Start found-if b else judge-rows tower table (below (length table)) after)
         ≡ answer-after (pick b (λ _. Wrong Start) (λ _. rows-from tower table (below (length table)))) after
     go true = refl
     go false = judge-rows-after tower table (below (length table)) after

@@ -27,14 +27,14 @@ use Rattle.file_table.specs.Moves as Moves
 use Rattle.file_table.specs.declared.Target.{Target}
 use Rattle.file_table.specs.declared.Target.the-variants.{Row, Nothing}
 use Rattle.file_table.proofs.Laws.{header-of, laid-out-known, target-row, target-nothing}
-use Rattle.checker_rows.specs.RowVerdict.{Judgeable, some-withheld, some-wrong-step, row-verdict, rows-from, rows-verdict}
+use Rattle.checker_rows.specs.RowVerdict.{RowsJudgeable, some-withheld, some-wrong-step, row-verdict, rows-from, rows-verdict}
 use Rattle.checker_rows.specs.declared.RowVerdict.{RowVerdict}
 use Rattle.checker_rows.specs.declared.RowVerdict.the-variants.{Right, Wrong}
-use Rattle.checker_rows.proofs.Scans.{Left, left-cons, left-more, left-none}
+use Rattle.area_bytes.proofs.Scans.{Left, left-cons, left-more, left-none, every-fails, every-more}
 
 -- ---- what the callees want
 
-module _ (tower table : List ℕ) (ok : Judgeable tower table) where
+module _ (tower table : List ℕ) (ok : RowsJudgeable tower table) where
   pub has-header : header-right table ≡ true
   has-header = header-of table (ok .layout)
 
@@ -94,7 +94,7 @@ module _ (table : List ℕ) (r : ℕ) (l : r < rows-of table) where
 
 -- ---- a
 
-pub start-decides : (tower table : List ℕ) (x s : ℕ) → Judgeable tower table → x ≡ row-state table 0 → s ≡ tower-of tower .start
+pub start-decides : (tower table : List ℕ) (x s : ℕ) → RowsJudgeable tower table → x ≡ row-state table 0 → s ≡ tower-of tower .start
     → not (eqb x s) ≡ wrong-start (tower-of tower) (table-of table)
 unfolding wrong-start
 start-decides tower table x s ok e f = rw (row-state-at table 0 (row-zero tower table ok), e, f)
@@ -218,13 +218,14 @@ scan-stopped tower table r l =
     rw (row-steps-at table r l)
     (every-mapped (λ s. not (goes-on (tower-of tower .kind (s .action)))) (step-of table) (count-from (row-first table r) (row-count table r)))
 
-module _ (tower table : List ℕ) (i a k : ℕ) (b : Bool) (at-a : a ≡ step-action table i) (at-k : k ≡ tower-of tower .kind a)
-    (is-b : b ≡ goes-on k) where
-  pub step-goes-on : b ≡ true → stops-at tower table i ≡ false
-  step-goes-on f = rw (← at-a, ← at-k, ← is-b, f)
+module _ (tower table : List ℕ) (first count end i a k : ℕ) (b : Bool) (left : Left (every (stops-at tower table)) first count end i)
+    (l : i < end) (at-a : a ≡ step-action table i) (at-k : k ≡ tower-of tower .kind a) (is-b : b ≡ goes-on k) where
+  pub step-goes-on : (all : Bool) → all ≡ every (stops-at tower table) (count-from first count) → b ≡ true → false ≡ all
+  step-goes-on all e f =
+      every-fails (stops-at tower table) first count end i left (stops-at tower table i) all e l refl (rw (← at-a, ← at-k, ← is-b, f))
 
-  pub step-stops : b ≡ false → stops-at tower table i ≡ true
-  step-stops f = rw (← at-a, ← at-k, ← is-b, f)
+  pub step-stops : b ≡ false → Left (every (stops-at tower table)) first count end (i + 1)
+  step-stops f = every-more (stops-at tower table) first count end i left (stops-at tower table i) l refl (rw (← at-a, ← at-k, ← is-b, f))
 
 -- ---- one row
 

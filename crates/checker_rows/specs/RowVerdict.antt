@@ -7,18 +7,17 @@ use mathlib.Core.List.{List, [], _∷_}
 use lib.ListN.{length}
 use Rattle.base.specs.Choice.{pick}
 use Rattle.base.specs.Lists.{some-of, below}
-use Rattle.base.specs.Answers.{Answer, refuse}
+use Rattle.base.specs.Answers.{Answer, give}
 use Rattle.base.specs.declared.Reason.the-variants.{Start, Withheld, WrongStep, Stopped}
-use Rattle.base.specs.declared.Refusal.the-variants.{NotGood}
 use Rattle.logic.specs.Tower.{Tower, FitTower, tower-of}
 use Rattle.logic.specs.Tables.{Table, row-at}
 use Rattle.reading.specs.TableReading.{laid-out, table-states, table-actions}
-use Rattle.outcome.specs.Check.{wrong-start, withheld, wrong-step, stopped}
+use Rattle.outcome.specs.Check.{Finding, not-good, wrong-start, withheld, wrong-step, stopped}
 use Rattle.checker_rows.specs.declared.RowVerdict.{RowVerdict}
 use Rattle.checker_rows.specs.declared.RowVerdict.the-variants.{Right, Wrong}
 
 -- The files that the judge is given: a fit tower, and a table that is laid out for it.
-pub record Judgeable (tower table : List ℕ) : Type 0 where
+pub record RowsJudgeable (tower table : List ℕ) : Type 0 where
   pub fit : FitTower tower
   pub layout : laid-out table ≡ true
   pub states : table-states table ≡ tower-of tower .states
@@ -50,6 +49,6 @@ rows-verdict tower table =
     pick (wrong-start tower table) (λ _. Wrong Start) (λ _. rows-from tower table (below (length table)))
 
 -- the checker's answer, from what the rows make of the table and what comes after them
-unfoldable pub answer-after : RowVerdict → Answer (Unit {0}) → Answer (Unit {0})
+unfoldable pub answer-after : RowVerdict → Answer Finding → Answer Finding
 answer-after Right after = after
-answer-after (Wrong reason) after = refuse (NotGood reason)
+answer-after (Wrong reason) after = give (not-good reason)

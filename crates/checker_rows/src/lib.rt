@@ -5,7 +5,7 @@ ghost use mathlib.Core.Path.{_≡_};
 ghost use Rattle.logic.specs.Tower.{tower-of};
 ghost use Rattle.reading.specs.TableReading.{rows-of, row-first, row-count, step-of, table-of};
 ghost use Rattle.outcome.specs.Check.{wrong-start, withheld, wrong-step, stopped};
-ghost use Rattle.checker_rows.specs.RowVerdict.{Judgeable, some-withheld, some-wrong-step, row-verdict, rows-verdict};
+ghost use Rattle.checker_rows.specs.RowVerdict.{RowsJudgeable, some-withheld, some-wrong-step, row-verdict, rows-verdict};
 ghost use Rattle.checker_rows.specs.declared.RowVerdict.the-variants.{Right};
 use base::Reason;
 use file_table::Target;
@@ -22,7 +22,7 @@ pub enum RowVerdict {
 
 // Row 0 has not the tower's start state.
 fn wrong_start(tower: &[u8], table: &[u8]) -> bool
-    requires { ⌜ Judgeable (now tower) (now table) ⌝ }
+    requires { ⌜ RowsJudgeable (now tower) (now table) ⌝ }
     ensures { λ b. ⌜ b ≡ wrong-start (tower-of (now (tower .entry))) (table-of (now (table .entry))) ⌝ }
 {
     file_table::row_state(table, 0) != file_tower::start(tower)
@@ -32,7 +32,7 @@ fn wrong_start(tower: &[u8], table: &[u8]) -> bool
 
 // Action a is enabled in row r, may not be withheld, and has no step.
 fn withheld(tower: &[u8], table: &[u8], r: usize, a: usize) -> bool
-    requires { ⌜ Judgeable (now tower) (now table) ⌝ }
+    requires { ⌜ RowsJudgeable (now tower) (now table) ⌝ }
     requires { ⌜ r < rows-of (now table) ⌝ }
     requires { ⌜ a < tower-of (now tower) .actions ⌝ }
     ensures { λ b. ⌜ b ≡ withheld (tower-of (now (tower .entry))) (table-of (now (table .entry))) r a ⌝ }
@@ -53,7 +53,7 @@ fn withheld(tower: &[u8], table: &[u8], r: usize, a: usize) -> bool
 
 // Some action is withheld in row r.
 fn some_withheld(tower: &[u8], table: &[u8], r: usize) -> bool
-    requires { ⌜ Judgeable (now tower) (now table) ⌝ }
+    requires { ⌜ RowsJudgeable (now tower) (now table) ⌝ }
     requires { ⌜ r < rows-of (now table) ⌝ }
     ensures { λ b. ⌜ b ≡ some-withheld (tower-of (now (tower .entry))) (table-of (now (table .entry))) r ⌝ }
 {
@@ -73,7 +73,7 @@ fn some_withheld(tower: &[u8], table: &[u8], r: usize) -> bool
 // Step i, one of row r, is by an action that is not enabled, or its target row has another state than
 // the one reached.
 fn wrong_step(tower: &[u8], table: &[u8], r: usize, i: usize) -> bool
-    requires { ⌜ Judgeable (now tower) (now table) ⌝ }
+    requires { ⌜ RowsJudgeable (now tower) (now table) ⌝ }
     requires { ⌜ r < rows-of (now table) ⌝ }
     requires { ⌜ i < row-first (now table) r + row-count (now table) r ⌝ }
     ensures { λ b. ⌜ b ≡ wrong-step (tower-of (now (tower .entry))) (table-of (now (table .entry))) r (step-of (now (table .entry)) i) ⌝ }
@@ -88,7 +88,7 @@ fn wrong_step(tower: &[u8], table: &[u8], r: usize, i: usize) -> bool
 
 // Some step of row r is wrong.
 fn some_wrong_step(tower: &[u8], table: &[u8], r: usize) -> bool
-    requires { ⌜ Judgeable (now tower) (now table) ⌝ }
+    requires { ⌜ RowsJudgeable (now tower) (now table) ⌝ }
     requires { ⌜ r < rows-of (now table) ⌝ }
     ensures { λ b. ⌜ b ≡ some-wrong-step (tower-of (now (tower .entry))) (table-of (now (table .entry))) r ⌝ }
 {
@@ -107,7 +107,7 @@ fn some_wrong_step(tower: &[u8], table: &[u8], r: usize) -> bool
 
 // No step of row r is by an action that counts as going on.
 fn stopped(tower: &[u8], table: &[u8], r: usize) -> bool
-    requires { ⌜ Judgeable (now tower) (now table) ⌝ }
+    requires { ⌜ RowsJudgeable (now tower) (now table) ⌝ }
     requires { ⌜ r < rows-of (now table) ⌝ }
     ensures { λ b. ⌜ b ≡ stopped (tower-of (now (tower .entry))) (table-of (now (table .entry))) r ⌝ }
 {
@@ -126,7 +126,7 @@ fn stopped(tower: &[u8], table: &[u8], r: usize) -> bool
 
 // The first reason of row r, in the order b, c, d.
 fn judge_row(tower: &[u8], table: &[u8], r: usize) -> RowVerdict
-    requires { ⌜ Judgeable (now tower) (now table) ⌝ }
+    requires { ⌜ RowsJudgeable (now tower) (now table) ⌝ }
     requires { ⌜ r < rows-of (now table) ⌝ }
     ensures { λ v. ⌜ v ≡ row-verdict (tower-of (now (tower .entry))) (table-of (now (table .entry))) r Right ⌝ }
 {
@@ -144,7 +144,7 @@ fn judge_row(tower: &[u8], table: &[u8], r: usize) -> RowVerdict
 
 // The first of the reasons a to d: a, then b to d by row.
 pub fn judge_rows(tower: &[u8], table: &[u8]) -> RowVerdict
-    requires { ⌜ Judgeable (now tower) (now table) ⌝ }
+    requires { ⌜ RowsJudgeable (now tower) (now table) ⌝ }
     ensures { λ v. ⌜ v ≡ rows-verdict (tower-of (now (tower .entry))) (table-of (now (table .entry))) ⌝ }
 {
     if wrong_start(tower, table) {

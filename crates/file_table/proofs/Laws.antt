@@ -1,6 +1,6 @@
 -- What bytes that are laid out as a table file say, for those who read them: the header, every row and every step are in range, and
 -- the moves of the table are what the steps say.
-use Prim.Native.Nat.{ℕ, zero, suc, _+_, _≤_, _<_}
+use Prim.Native.Nat.{ℕ, zero, suc, _+_, _-_, _≤_, _<_}
 use mathlib.Core.Path.{_≡_, refl, sym, _∙_, ap}
 use mathlib.Core.Logic.{_⊎_, inl, inr}
 use mathlib.Core.Bool.{Bool, true, false, _&&_, not}
@@ -176,6 +176,32 @@ step-to-each bytes (suc n) low i h j l g =
           let k = rest (omega arith) (omega arith) in
           (omega (arith, s .above, k .0), step-to-next bytes i n (step-action bytes j) (λ e. omega (arith, k .0)) ∙ k .1)
       | no d ↦ let e : i ≡ j = omega arith in rw (← e) (s .above, step-to-here bytes i n (step-action bytes i) refl)
+    ]
+
+-- The action of a right step is at least as many above the lowest as there are steps before it.
+pub steps-low : (bytes : List ℕ) (n low i : ℕ) → steps-right bytes low i n ≡ true → (j : ℕ) → i ≤ j → j < i + n
+    → low + (j - i) ≤ step-action bytes j
+steps-low bytes zero low i h j l g = absurd (omega arith)
+steps-low bytes (suc n) low i h j l g =
+    let s = steps-right-out bytes low i n h in
+    let rest = steps-low bytes n (step-action bytes i + 1) (suc i) (s .more) j in
+    elim (decLt i j) [
+      | yes d ↦ omega (arith, s .above, rest (omega arith) (omega arith))
+      | no d ↦ let e : i ≡ j = omega arith in rw (← e) (omega (arith, s .above))
+    ]
+
+-- Actions ascend: by as many as there are steps between.
+pub steps-ascend : (bytes : List ℕ) (n low i : ℕ) → steps-right bytes low i n ≡ true → (j k : ℕ) → i ≤ j → j < k → k < i + n
+    → step-action bytes j + (k - j) ≤ step-action bytes k
+steps-ascend bytes zero low i h j k l g m = absurd (omega arith)
+steps-ascend bytes (suc n) low i h j k l g m =
+    let s = steps-right-out bytes low i n h in
+    elim (decLt i j) [
+      | yes d ↦ steps-ascend bytes n (step-action bytes i + 1) (suc i) (s .more) j k (omega arith) g (omega arith)
+      | no d ↦
+          let e : i ≡ j = omega arith in
+          let low-k = steps-low bytes n (step-action bytes i + 1) (suc i) (s .more) k (omega arith) (omega arith) in
+          rw (← e) (omega arith)
     ]
 
 -- ---- the reader's answer

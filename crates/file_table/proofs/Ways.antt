@@ -1,9 +1,11 @@
 -- A law for each way through the reader's code: from what is known there, the answer is what the definitions say.
-use Prim.Native.Nat.{ℕ, suc, _+_, _-_, _*_, _^_, _≤_, _<_}
+use Prim.Native.Nat.{ℕ, suc, _+_, _-_, _*_, _^_, _≤_, _<_, min}
 use mathlib.Core.Path.{_≡_, refl, sym, _∙_, ap}
 use mathlib.Core.Bool.{Bool, true, false, _&&_, and-false, and-true}
 use mathlib.Core.List.{List}
+use mathlib.Core.Option.{Option, none, some}
 use native.Mathlib.Omega.{arith}
+use native.Mathlib.Decide.{decLt, ℕ-discrete}
 use native.Mathlib.Nat.{mul-le-mul}
 use native.Mathlib.Numerals.{add-one}
 use lib.ListN.{length, getD}
@@ -23,7 +25,7 @@ use Rattle.reading.proofs.TableHeader.{table-layout-fits, header-out}
 use Rattle.file_table.specs.Layout.{laid-out-for, counts-right, offsets-right, places-right, step-right, row-right}
 use Rattle.file_table.specs.Moves.{target-read}
 use Rattle.file_table.specs.declared.Target.the-variants.{Row, Nothing}
-use Rattle.file_table.proofs.Laws.{rows-within, laid-out-known, steps-from, move-read, step-to-here, step-to-next}
+use Rattle.file_table.proofs.Laws.{rows-within, laid-out-known, steps-from, move-read, step-to-from, step-to-each, steps-low, steps-ascend}
 
 -- ---- counts_right
 
@@ -300,59 +302,103 @@ header-then-rows bytes b c e f g = g ∙ sym (rw (← e, f))
 
 -- ---- step_to
 
--- At step i of a row's steps: what is left of them decides where the action leads.
-pub record SearchLeft (bytes : List ℕ) (row a end i : ℕ) : Type 0 where
-  pub inside : i ≤ end
-  pub last : end ≤ steps-of bytes
-  pub same : step-to (steps-from bytes i (end - i)) a ≡ move (table-of bytes) row a
+pub reachable-all : (n a : ℕ) → n ≤ a → n ≡ min n (a + 1)
+reachable-all n a h = omega arith
 
--- Before the first step of the row all of them are left.
-pub search-start : (bytes : List ℕ) (row a i n : ℕ) → laid-out bytes ≡ true → row < rows-of bytes → i ≡ row-first bytes row
-    → n ≡ row-count bytes row → SearchLeft bytes row a (i + n) i
-search-start bytes row a i n h l e f =
-    record {
-      inside = omega arith;
-      last = omega (arith, laid-out-known bytes h .row row l .last);
-      same = let g : i + n - i ≡ n = omega arith in rw (g, e, f) (sym (move-read bytes row a l));
-    }
+pub reachable-some : (n a : ℕ) → a < n → a + 1 ≡ min n (a + 1)
+reachable-some n a h = omega arith
 
--- The end of a row's steps fits.
-pub row-end-fits : (bytes : List ℕ) (row i n : ℕ) → laid-out bytes ≡ true → row < rows-of bytes → i ≡ row-first bytes row
-    → n ≡ row-count bytes row → length bytes < 2 ^ 64 → Fits w64 (i + n)
-unfolding step-place step-size
-row-end-fits bytes row i n h l e f g = omega (arith, laid-out-known bytes h .row row l .last, laid-out-known bytes h .header .size)
+-- The steps of the row, of which `first` is the first, have greater actions from step i on.
+pub record GreaterFrom (bytes : List ℕ) (row a first i : ℕ) : Type 0 where
+  pub is-first : first ≡ row-first bytes row
+  pub inside : row < rows-of bytes
+  pub from : first ≤ i
+  pub to : i ≤ first + row-count bytes row
+  pub last : first + row-count bytes row ≤ steps-of bytes
+  pub right : steps-right bytes 0 first (row-count bytes row) ≡ true
+  pub greater : (j : ℕ) → i ≤ j → j < first + row-count bytes row → a < step-action bytes j
 
-module _ (bytes : List ℕ) (row a end i : ℕ) (left : SearchLeft bytes row a end i) where
-  -- One step is left, and those behind it.
-  search-more : i < end → end - i ≡ suc (end - (i + 1))
-  search-more h = omega arith
+module _ (bytes : List ℕ) (row a first n m : ℕ) (out : laid-out bytes ≡ true) (inside : row < rows-of bytes)
+    (is-first : first ≡ row-first bytes row) (is-n : n ≡ row-count bytes row) (is-m : m ≡ min n (a + 1)) where
+  row-steps : steps-right bytes 0 first (row-count bytes row) ≡ true
+  row-steps = rw is-first (laid-out-known bytes out .row row inside .steps)
 
-  -- The next step has a number.
-  pub search-fits : i < end → laid-out bytes ≡ true → length bytes < 2 ^ 64 → Fits w64 (i + 1)
-  unfolding step-place step-size
-  search-fits h l f = omega (arith, left .last, laid-out-known bytes l .header .size)
-
-  -- A step with the action leads to its target row.
-  pub search-found : (x t : ℕ) → i < end → x ≡ step-action bytes i → x ≡ a → t ≡ step-target bytes i
-      → Row t ≡ target-read (move (table-of bytes) row a)
-  unfolding target-read
-  search-found x t h e f g = rw (← left .same, search-more h, step-to-here bytes i (end - (i + 1)) a (sym e ∙ f), g)
-
-  -- Past a step with another action the rest is left.
-  pub search-next : (x : ℕ) → i < end → x ≡ step-action bytes i → (x ≡ a → ⊥) → SearchLeft bytes row a end (i + 1)
-  search-next x h e f =
+  -- At first those behind all that may have the action.
+  pub greater-start : GreaterFrom bytes row a first (first + m)
+  greater-start =
       record {
-        inside = omega arith;
-        last = left .last;
-        same =
-            let next = rw (← add-one i) at (step-to-next bytes i (end - (i + 1)) a (λ g. f (e ∙ g))) in
-            sym (sym (left .same) ∙ rw (search-more h) next);
+        is-first = is-first;
+        inside = inside;
+        from = omega arith;
+        to = omega arith;
+        last = omega (arith, laid-out-known bytes out .row row inside .last);
+        right = row-steps;
+        greater = λ j l g. omega (arith, steps-low bytes (row-count bytes row) 0 first row-steps j (omega arith) g);
       }
 
-  -- Past the last step the action is not allowed.
-  pub search-end : end ≤ i → Nothing ≡ target-read (move (table-of bytes) row a)
-  unfolding target-read count-from step-to
-  search-end h = let e : end - i ≡ 0 = omega arith in rw (← left .same, e)
+  -- Their number fits.
+  pub row-end-fits : length bytes < 2 ^ 64 → Fits w64 (first + m)
+  unfolding step-place step-size
+  row-end-fits g = omega (arith, laid-out-known bytes out .row row inside .last, laid-out-known bytes out .header .size)
+
+module _ (bytes : List ℕ) (row a first i : ℕ) (g : GreaterFrom bytes row a first i) where
+  pub step-inside : first < i → i - 1 < steps-of bytes
+  step-inside l = omega (arith, g .to, g .last)
+
+  moves-by : move (table-of bytes) row a ≡ step-to (steps-from bytes first (row-count bytes row)) a
+  moves-by = rw (g .is-first) (move-read bytes row a (g .inside))
+
+  -- A step with the action leads to its target row.
+  pub step-found : (x t : ℕ) → first < i → x ≡ step-action bytes (i - 1) → x ≡ a → t ≡ step-target bytes (i - 1)
+      → Row t ≡ target-read (move (table-of bytes) row a)
+  unfolding target-read
+  step-found x t l is-x e is-t =
+      let each = step-to-each bytes (row-count bytes row) 0 first (g .right) (i - 1) (omega arith) (omega (arith, g .to)) .1 in
+      rw (moves-by, ← e, is-x, each, is-t)
+
+  -- Where no step has the action it is not allowed.
+  none-has : ((j : ℕ) → first ≤ j → j < first + row-count bytes row → step-action bytes j ≡ a → ⊥)
+      → Nothing ≡ target-read (move (table-of bytes) row a)
+  none-has none-is = rw moves-by (go (step-to (steps-from bytes first (row-count bytes row)) a) refl)
+    where
+      go : (o : Option ℕ) → step-to (steps-from bytes first (row-count bytes row)) a ≡ o → Nothing ≡ target-read o
+      go none e = unfold target-read in refl
+      go (some t) e =
+          let s = step-to-from bytes (row-count bytes row) first a t e in
+          absurd (none-is (s .at) (s .from) (s .below) (s .action))
+
+  -- what the step before step i and those from step i on say of step j
+  at-last : (P : ℕ → Type 0) → P (i - 1) → ((j : ℕ) → i ≤ j → P j) → (j : ℕ) → i - 1 ≤ j → P j
+  at-last P here rest j l =
+      elim (ℕ-discrete j (i - 1)) [ yes same ↦ rw same here | no other ↦ rest j (omega arith) ]
+
+  -- A step with a lower action: those before it have lower ones still.
+  pub step-lower : (x : ℕ) → first < i → x ≡ step-action bytes (i - 1) → x < a → Nothing ≡ target-read (move (table-of bytes) row a)
+  step-lower x l is-x lower =
+      none-has (λ j from to e.
+      elim (decLt j (i - 1)) [
+        | yes d ↦ omega (arith, steps-ascend bytes (row-count bytes row) 0 first (g .right) j (i - 1) from d (omega (arith, g .to)))
+        | no d ↦
+            at-last (λ k. k < first + row-count bytes row → step-action bytes k ≡ a → ⊥) (λ _ here. omega arith)
+            (λ k above below here. omega (arith, g .greater k above below)) j (omega arith) to e
+      ])
+
+  -- A step with a greater action is passed over.
+  pub step-greater : (x : ℕ) → first < i → x ≡ step-action bytes (i - 1) → (x ≡ a → ⊥) → a ≤ x → GreaterFrom bytes row a first (i - 1)
+  step-greater x l is-x other least =
+      record {
+        is-first = g .is-first;
+        inside = g .inside;
+        from = omega arith;
+        to = omega (arith, g .to);
+        last = g .last;
+        right = g .right;
+        greater = at-last (λ j. j < first + row-count bytes row → a < step-action bytes j) (λ _. omega arith) (g .greater);
+      }
+
+  -- Past the first step the action is not allowed.
+  pub steps-past : i ≤ first → Nothing ≡ target-read (move (table-of bytes) row a)
+  steps-past l = none-has (λ j from to e. omega (arith, g .greater j (omega arith) to))
 
 -- ---- laid out for a tower
 

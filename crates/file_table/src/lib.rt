@@ -2,7 +2,7 @@
 // the moves of the table that they hold.
 ghost use mathlib.Core.Path.{_≡_};
 ghost use mathlib.Core.Bool.{true};
-ghost use Prim.Native.Nat.{_+_, _<_, _≤_};
+ghost use Prim.Native.Nat.{_+_, _<_, _≤_, min};
 ghost use lib.ListN.{length};
 ghost use Rattle.logic.specs.Tables.{move};
 ghost use Rattle.logic.specs.TableFile.{rows-at};
@@ -305,19 +305,34 @@ pub enum Target {
     Nothing,
 }
 
-// Where an action leads from a row of the table: the steps before step i have other actions.
+// How many of a row's steps may have the action or one below it: actions ascend, so the step with
+// j steps before it has action j or above.
+fn reachable_steps(count: usize, action: usize) -> usize
+    ensures { λ n. ⌜ n ≡ min count (action + 1) ⌝ }
+{
+    if count <= action {
+        return count;
+    }
+    action + 1
+}
+
+// Where an action leads from a row of the table. From the last of the steps that may have it down to
+// the first: the steps from step i on have greater actions.
 pub fn step_to(bytes: &[u8], row: usize, action: usize) -> Target
     requires { ⌜ laid-out (now bytes) ≡ true ⌝ }
     requires { ⌜ row < rows-of (now bytes) ⌝ }
     ensures { λ r. ⌜ r ≡ target-read (move (table-of (now (bytes .entry))) row action) ⌝ }
 {
-    let mut i = row_first(bytes, row);
-    let end = i + row_count(bytes, row);
-    while i < end {
-        let at = i;
-        i += 1;
-        if step_action(bytes, at) == action {
-            return Target::Row(step_target(bytes, at));
+    let first = row_first(bytes, row);
+    let mut i = first + reachable_steps(row_count(bytes, row), action);
+    while first < i {
+        i -= 1;
+        let found = step_action(bytes, i);
+        if found == action {
+            return Target::Row(step_target(bytes, i));
+        }
+        if found < action {
+            return Target::Nothing;
         }
     }
     Target::Nothing

@@ -193,15 +193,6 @@ unfolding target-read
 none-reached none r e f = refl
 none-reached (some x) r e f = let z : _≡_ {A = ℕ} 0 1 = cc in absurd (omega arith)
 
--- The start that was read is a state.
-pub start-within : (bytes : List ℕ) (x : ℕ) → FitTower bytes → x ≡ tower-of bytes .start → x < tower-of bytes .states
-start-within bytes x fit e = omega (arith, fit-bounds fit .start-below)
-
--- What an action was found to lead to is a state.
-pub reached-within : (bytes : List ℕ) (x a y : ℕ) (r : Reached) → FitTower bytes → x < tower-of bytes .states
-    → r ≡ target-read (tower-of bytes .target x a) → r ≡ State y → y < tower-of bytes .states
-reached-within bytes x a y r fit l e f = fit-bounds fit .targets x a y l (state-reached (tower-of bytes .target x a) r y e f)
-
 -- ---- the reader's answer
 
 -- A fit file is read as its tower.

@@ -1,4 +1,3 @@
 mod Places
-mod Scans
 mod Ways
 pub mod Laws

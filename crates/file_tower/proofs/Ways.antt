@@ -10,6 +10,7 @@ use lib.Dec.{leb, ltb, eqb}
 use lib.Pow.{pow-mono}
 use borrow.Author.Tests.{ltb-true, ltb-false, lt-ltb, le-ltb, le-leb, lt-leb, eq-eqb, ne-eqb}
 use Rattle.base.specs.Answers.{_if_else_}
+use Rattle.base.specs.Lists.{some-of, below, count-from}
 use Rattle.base.specs.declared.Refusal.the-variants.{TowerSize, Range, Action, Target, Mask}
 use Rattle.logic.specs.Time.{ticks}
 use Rattle.logic.specs.declared.FileLayout.{FileLayout}
@@ -18,7 +19,7 @@ use Rattle.logic.specs.Tower.{marks-of, start-of, actions-offset, states-offset
 use Rattle.logic.specs.Tower.{no-header, bad-counts, bad-size, bad-actions, bad-targets, bad-masks}
 use Rattle.reading.specs.TowerReading.{read-tower}
 use Rattle.file_tower.specs.TowerRead.{tower-read, target-read}
-use Rattle.file_tower.specs.Stages.{Headed, Counted, Sized, bad-offsets, bad-action, bad-target, bad-mask}
+use Rattle.file_tower.specs.Stages.{Headed, Counted, Sized, bad-offsets, bad-action, bad-target, bad-targets-of, bad-mask}
 use Rattle.file_tower.proofs.Laws.{header-whole, counted, sized}
 use Rattle.file_tower.specs.declared.TowerRead.the-variants.{Fit, Refused}
 use Rattle.file_tower.specs.declared.Reached.the-variants.{State, NotEnabled}
@@ -232,3 +233,21 @@ module _ (bytes : List ℕ) (r₁ : Bool) (is₁ : r₁ ≡ no-header bytes) whe
             pub refuse-none : r₆ ≡ false → Fit ≡ tower-read (read-tower bytes)
             unfolding tower-read read-tower _if_else_
             refuse-none f = rw (← is₁, no₁, ← is₂, no₂, ← is₃, no₃, ← is₄, no₄, ← is₅, no₅, ← is₆, f)
+
+-- ---- what the four loops look for
+
+pub scan-actions : (bytes : List ℕ) → bad-actions bytes ≡ some-of (bad-action bytes) (count-from 0 (actions-of bytes))
+unfolding bad-actions bad-action below
+scan-actions bytes = refl
+
+pub scan-targets-of : (bytes : List ℕ) (x : ℕ) → bad-targets-of bytes x ≡ some-of (bad-target bytes x) (count-from 0 (actions-of bytes))
+unfolding bad-targets-of below
+scan-targets-of bytes x = refl
+
+pub scan-targets : (bytes : List ℕ) → bad-targets bytes ≡ some-of (bad-targets-of bytes) (count-from 0 (states-of bytes))
+unfolding bad-targets bad-targets-of bad-target below
+scan-targets bytes = refl
+
+pub scan-masks : (bytes : List ℕ) → bad-masks bytes ≡ some-of (bad-mask bytes) (count-from 0 (states-of bytes))
+unfolding bad-masks bad-mask below
+scan-masks bytes = refl

@@ -115,13 +115,13 @@ leads-inside table is r s (a ∷ w) lt e =
     let (t, f, g) = leads-out (move table) r s a w e in leads-inside table is t s w (is .targets r a t lt f) g
 
 -- A table that follows a tower: it begins where the tower does, and each of its steps is the tower's.
-pub record Follows (tower : Tower) (table : Table) : Type 0 where
+pub record FollowsRuns (tower : Tower) (table : Table) : Type 0 where
   pub is-table : IsTable table
   pub start : GoodStart tower table
   pub steps : (r : ℕ) → r < length table → StepsRight tower table r
 
 -- Where a table follows a tower, a run of the one leads to the state of the row to which it leads in the other.
-pub follows-leads : (tower : Tower) (table : Table) → Follows tower table → (r s : ℕ) (w : List ℕ) → r < length table
+pub follows-leads : (tower : Tower) (table : Table) → FollowsRuns tower table → (r s : ℕ) (w : List ℕ) → r < length table
     → leads (move table) r w ≡ some s → leads (tower .target) (row-at table r .state) w ≡ some (row-at table s .state)
 unfolding StepsRight
 follows-leads tower table f r s [] lt e =
@@ -138,7 +138,7 @@ pub record Arrives (tower : Tower) (table : Table) (w : List ℕ) (r : ℕ) : Ty
   pub state : leads (tower .target) (tower .start) w ≡ some (row-at table r .state)
 
 -- A run that leads to row r of the table leads to the state of row r in the tower.
-pub arrives : (tower : Tower) (table : Table) → Follows tower table → (w : List ℕ) (r : ℕ) → leads (move table) 0 w ≡ some r
+pub arrives : (tower : Tower) (table : Table) → FollowsRuns tower table → (w : List ℕ) (r : ℕ) → leads (move table) 0 w ≡ some r
     → Arrives tower table w r
 unfolding GoodStart
 arrives tower table f w r e =
@@ -148,7 +148,7 @@ arrives tower table f w r e =
     }
 
 -- A good table follows its tower.
-pub good-follows : (tower : Tower) (book : Book) (table : Table) → Good tower book table → Follows tower table
+pub good-follows : (tower : Tower) (book : Book) (table : Table) → Good tower book table → FollowsRuns tower table
 good-follows tower book table g = record { is-table = g .is-table; start = g .a; steps = g .c }
 
 -- In a good table an allowed run leads to a row, and in the tower to the state of that row.
@@ -227,7 +227,7 @@ abbrev pub SameRuns : Table → Table → Type 0
 SameRuns table other = (w : List ℕ) → Allows table w ↔ Allows other w
 
 -- Rows to which one run leads, in two tables that follow one tower and allow the same runs, are alike.
-pub met-alike : (tower : Tower) (table other : Table) → Follows tower table → Follows tower other → SameRuns table other
+pub met-alike : (tower : Tower) (table other : Table) → FollowsRuns tower table → FollowsRuns tower other → SameRuns table other
     → (w : List ℕ) (r s : ℕ) → leads (move table) 0 w ≡ some r → leads (move other) 0 w ≡ some s → Alike table r other s
 unfolding Allows AllowsFrom
 met-alike tower table other f g same w r s e h =
@@ -249,7 +249,7 @@ met-alike tower table other f g same w r s e h =
         let k : z ≡ q = cc in (y, rw k at j)
 
 -- A step of a row is matched by one of any row that is alike, and leads to alike rows.
-pub alike-step : (tower : Tower) (table other : Table) → Follows tower table → Follows tower other → (r s a p : ℕ)
+pub alike-step : (tower : Tower) (table other : Table) → FollowsRuns tower table → FollowsRuns tower other → (r s a p : ℕ)
     → Alike table r other s → move table r a ≡ some p → (q : ℕ) × (move other s a ≡ some q) × Alike table p other q
 unfolding AllowsFrom StepsRight
 alike-step tower table other f g r s a p l e = (q, to, found)
@@ -295,7 +295,7 @@ alike-turned table other r s l =
 
 -- A table in canonical form: it follows the tower, no two of its rows are one row, its actions ascend, and its rows are numbered as first met.
 pub record Canonical (tower : Tower) (table : Table) : Type 0 where
-  pub follows : Follows tower table
+  pub follows : FollowsRuns tower table
   pub apart : (r s : ℕ) → r < length table → s < length table → OneRow table r s → r ≡ s
   pub ascending : (r : ℕ) → r < length table → Ascending (row-at table r .steps)
   pub first-met : FirstMet 0 1 table
@@ -407,7 +407,7 @@ module _ (L : ℕ → ℕ → Type 0) where
           one-more s t xs ys n k (heads .0) (i ∙ sym j)
           (ih (suc m) a b (below-suc (λ x. L x x) m h (rw (i, j) at (heads .1))) rests)
 
-rows-paired : (tower : Tower) (table other : Table) → Follows tower table → Follows tower other → (r : ℕ) → Alike table r other r
+rows-paired : (tower : Tower) (table other : Table) → FollowsRuns tower table → FollowsRuns tower other → (r : ℕ) → Alike table r other r
     → Paired (λ p q. Alike table p other q) (row-at table r .steps) (row-at other r .steps)
 unfolding move
 rows-paired tower table other f g r l =
@@ -480,7 +480,7 @@ made-unique tower book other-book table other m n same =
 -- ---- fewest rows
 
 -- No table that follows the tower and allows the runs of a canonical one has fewer rows.
-pub fewest : (tower : Tower) (table other : Table) → Canonical tower table → Follows tower other → SameRuns table other
+pub fewest : (tower : Tower) (table other : Table) → Canonical tower table → FollowsRuns tower other → SameRuns table other
     → length table ≤ length other
 unfolding Allows AllowsFrom
 fewest tower table other c g same =
@@ -493,7 +493,7 @@ fewest tower table other c g same =
         let alike = met-alike tower table other (c .follows) g same w r s e f in (s, alike .other-row, alike)
 
 -- No table that follows the tower and allows just the runs that good tables allow has fewer rows than the made one.
-pub made-fewest : (tower : Tower) (book : Book) (table other : Table) → IsMade tower book table → Follows tower other
+pub made-fewest : (tower : Tower) (book : Book) (table other : Table) → IsMade tower book table → FollowsRuns tower other
     → ((w : List ℕ) → Allows other w ↔ GoodAllow tower book w) → length table ≤ length other
 made-fewest tower book table other m g same =
     fewest tower table other (made-canonical tower book table m) g (λ w.

@@ -12,7 +12,7 @@ use Rattle.base.specs.Answers.{Answer, refuse, give, _if_else_, _then_}
 use Rattle.base.specs.declared.MakeAnswer.{MakeAnswer}
 use Rattle.base.specs.declared.MakeAnswer.the-variants.{Made}
 use Rattle.reading.specs.TableReading.{laid-out}
-use Rattle.outcome.specs.Areas.{make-areas}
+use Rattle.outcome.specs.Areas.{make-areas, book-area, pairs-area, index-area, graph-area, flags-area, classes-area}
 use Rattle.outcome.specs.Make.{made-file, fitting, written, make-outcome}
 use Rattle.maker.specs.Making.{Makes}
 use Rattle.make_table.specs.Files.{made-answer, MadeFile}
@@ -30,17 +30,17 @@ room tower text most e = go (made-file tower text) refl
     go (give file) f = rw (le-ltb most (length file) (omega (arith, made-known tower text file f .short)))
 
 -- The areas are long enough.
-enough : (a b c d e f : List ℕ) → length a ≡ 512 → length b ≡ 62062 → length c ≡ 8192 → length d ≡ 34000 → length e ≡ 37000 → length f ≡ 8192
+enough : (a b c d e f : List ℕ) → length a ≡ book-area → length b ≡ pairs-area → length c ≡ index-area → length d ≡ graph-area → length e ≡ flags-area → length f ≡ classes-area
     → long-enough make-areas (a ∷ b ∷ c ∷ d ∷ e ∷ f ∷ []) ≡ true
 unfolding long-enough make-areas
 enough a b c d e f p q r s t u =
     rw (
-      le-leb 512 (length a) (omega arith),
-      le-leb 62062 (length b) (omega arith),
-      le-leb 8192 (length c) (omega arith),
-      le-leb 34000 (length d) (omega arith),
-      le-leb 37000 (length e) (omega arith),
-      le-leb 8192 (length f) (omega arith),
+      le-leb book-area (length a) (omega arith),
+      le-leb pairs-area (length b) (omega arith),
+      le-leb index-area (length c) (omega arith),
+      le-leb graph-area (length d) (omega arith),
+      le-leb flags-area (length e) (omega arith),
+      le-leb classes-area (length f) (omega arith),
     )
 
 -- What is answered for a file.
@@ -64,7 +64,7 @@ outcome-is tower text out areas e f = rw (e, room tower text (length out) f)
 
 pub made-way : (r : MakeAnswer) (tower text out a b c d e f after a′ b′ c′ d′ e′ f′ : List ℕ)
     → Makes r tower text out a b c d e f after a′ b′ c′ d′ e′ f′ → length out ≡ 52012
-    → length a ≡ 512 → length b ≡ 62062 → length c ≡ 8192 → length d ≡ 34000 → length e ≡ 37000 → length f ≡ 8192
+    → length a ≡ book-area → length b ≡ pairs-area → length c ≡ index-area → length d ≡ graph-area → length e ≡ flags-area → length f ≡ classes-area
     → MadeFile r tower text after
 made-way r tower text out a b c d e f after a′ b′ c′ d′ e′ f′ makes size p q s t u v =
     let areas = a ∷ b ∷ c ∷ d ∷ e ∷ f ∷ [] in

@@ -12,7 +12,7 @@ use Rattle.logic.specs.Tower.{Tower, tower-of, layout-of}
 use Rattle.logic.specs.Book.{Book}
 use Rattle.logic.specs.Tables.{Table}
 use Rattle.logic.specs.TableFile.{table-file}
-use Rattle.pending.specs.Pairs.{same-pair, first-pair, pair-followers, pairs, over-pairs, most-pairs}
+use Rattle.pending.specs.Pairs.{same-pair, first-pair, pair-followers, pairs, over-pairs, pair-weight, most-pairs}
 use Rattle.outcome.specs.Game.{safe}
 use Rattle.outcome.specs.Make.{table-for}
 use Rattle.outcome.proofs.Game.{met-step, safe-fine}
@@ -31,7 +31,7 @@ use Rattle.maker.specs.Making.{made-table-file, graph-in}
 first-number : (tower : Tower) (book : Book) → numbered tower book 0 ≡ first-pair tower book
 unfolding numbered pairs
 first-number tower book =
-    let (rest, e) = search-first same-pair (pair-followers tower book) most-pairs (first-pair tower book) in
+    let (rest, e) = search-first same-pair (pair-followers tower book) pair-weight most-pairs (first-pair tower book) in
     ap (λ l. getD l 0 (first-pair tower book)) e
 
 module _ (tower graph flags : List ℕ) (n : ℕ) (least : 1 ≤ n) (removed : Removed (tower-of tower) n graph flags)

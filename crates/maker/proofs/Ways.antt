@@ -21,7 +21,6 @@ use Rattle.base.proofs.Lists.{and-left, and-right}
 use Rattle.logic.specs.Tower.{Tower, FitTower, tower-of, layout-of}
 use Rattle.logic.specs.declared.FileLayout.{FileLayout}
 use Rattle.logic.specs.Book.{Book}
-use Rattle.logic.specs.Book as Rules
 use Rattle.logic.specs.TableFile.{table-file}
 use Rattle.logic.proofs.Layouts.{file-layout-fits}
 use Rattle.reading.specs.TowerReading.{read-tower}
@@ -33,9 +32,9 @@ use Rattle.outcome.specs.Make.{table-for, made-file, fitting, written, make-out
 use Rattle.file_tower.specs.TowerRead.{tower-read}
 use Rattle.file_tower.specs.declared.TowerRead.{TowerRead}
 use Rattle.file_tower.specs.declared.TowerRead.the-variants as Fits
-use Rattle.file_tower.proofs.Laws.{marks-few, fit-of, fit-gives, refused-of}
+use Rattle.file_tower.proofs.Laws.{fit-of, fit-gives, refused-of}
 use Rattle.book_reader.specs.Lines.{Answers}
-use Rattle.book_reader.proofs.BookHeld.{BookHeld, book-held}
+use Rattle.book_reader.proofs.BookHeld.{BookHeld}
 use Rattle.pair_graph.specs.Graph.{Classes}
 use Rattle.pair_graph.specs.Steps.{graph-of, graph-with, safe-in, class-in, HoldsGraph, FlaggedGraph}
 use Rattle.pair_graph.specs.GraphTable.{graph-table}
@@ -46,8 +45,8 @@ use Rattle.pair_search.specs.Walked.{walked}
 use Rattle.pair_search.specs.declared.Found.{Found}
 use Rattle.pair_search.specs.declared.Found.the-variants.{TooMany, Met}
 use Rattle.maker_removal.specs.Removal.{removal-size, Removed}
-use Rattle.maker_classes.specs.Passes.{Ready, Classified}
-use Rattle.maker_file.specs.Writing.{ShortNumbers, table-in, Writable, Writes}
+use Rattle.maker_classes.specs.Passes.{ReadyForPass, Classified}
+use Rattle.maker_file.specs.Writing.{ShortNumbers, table-in, Writable, WritesTable}
 use Rattle.maker_file.specs.declared.Written.{Written}
 use Rattle.maker_file.specs.declared.Written.the-variants.{Made, NoRoom}
 use Rattle.maker_file.proofs.AnyKind.{table-of-tower}
@@ -111,7 +110,7 @@ module _ (tower graph flags classes : List ℕ) (n actions : ℕ) (met : PairsMe
         flagged = omega (arith, met .flags-room, met .holds .pairs-most);
       }
 
-  pub classifiable : Ready graph flags actions n classes
+  pub classifiable : ReadyForPass graph flags actions n classes
   classifiable = record { held = flagged; area-room = omega (arith, met .classes-room) }
 
   module _ (after : List ℕ) (classified : Classified graph flags actions n after) where
@@ -126,15 +125,15 @@ module _ (tower graph flags classes : List ℕ) (n actions : ℕ) (met : PairsMe
 
     module _ (states : ℕ) (out out-after : List ℕ) (w : Written) (is-states : states ≡ tower-of tower .states)
         (layout : FileLayout) (is-layout : layout ≡ layout-of tower)
-        (writes : Writes (table-file layout states actions (table-in graph flags after n actions)) out w out-after) where
+        (writes : WritesTable (table-file layout states actions (table-in graph flags after n actions)) out w out-after) where
       abbrev file : List ℕ
       file = table-file (layout-of tower) (tower-of tower .states) (tower-of tower .actions) (graph-table (graph-in tower graph n) (safe-in flags) (class-in after))
 
       same-file : table-file layout states actions (table-in graph flags after n actions) ≡ file
       same-file = rw (is-layout, is-states, is-actions) (ap (table-file (layout-of tower) (tower-of tower .states) (tower-of tower .actions)) (table-of-tower (tower-of tower) graph flags after n))
 
-      right : Writes file out w out-after
-      right = subst (λ f. Writes f out w out-after) same-file writes
+      right : WritesTable file out w out-after
+      right = subst (λ f. WritesTable f out w out-after) same-file writes
 
       safe-classes : Classes (graph-in tower graph n) (safe-in flags) (class-in after)
       unfolding graph-of
@@ -206,14 +205,14 @@ module _ (tower graph before flags classes : List ℕ) (n : ℕ) (b : Bool) (met
 
 -- ---- make_table
 
-module _ (tower table nodes : List ℕ) (lines count : ℕ) (graph : List ℕ) (r : Found)
-    (explored : Explored r (walked tower table false) nodes lines count graph) where
-  says : (h : IsHeld nodes lines count) → r ≡ found (tower-of tower) (h .book)
+module _ (tower table nodes graph : List ℕ) (r : Found)
+    (explored : Explored r (walked tower table false) nodes graph) where
+  says : (h : IsHeld nodes) → r ≡ found (tower-of tower) (h .book)
   unfolding walked
   says h = explored .says h
 
   -- 11.
-  pub too-many : (out : List ℕ) → r ≡ TooMany → TableMade (Make.Refused Pairs) tower nodes lines count out out
+  pub too-many : (out : List ℕ) → r ≡ TooMany → TableMade (Make.Refused Pairs) tower nodes out out
   too-many out e =
       record {
         says =
@@ -221,12 +220,12 @@ module _ (tower table nodes : List ℕ) (lines count : ℕ) (graph : List ℕ) (
       }
 
   module _ (n : ℕ) (is : r ≡ Met n) where
-    pairs-held : HoldsPairs (tower-of tower) nodes lines count graph n
+    pairs-held : HoldsPairs (tower-of tower) nodes graph n
     unfolding walked
     pairs-held = explored .pairs-held n is
 
     -- The area holds the pairs.
-    pub pairs-met : (nodes₁ pairs₁ index₁ graph₁ flags classes : List ℕ) → TowerWithBook tower nodes lines count
+    pub pairs-met : (nodes₁ pairs₁ index₁ graph₁ flags classes : List ℕ) → TowerWithBook tower nodes
         → Room nodes₁ pairs₁ index₁ graph₁ flags classes → PairsMet tower graph flags classes n
     pairs-met nodes₁ pairs₁ index₁ graph₁ flags classes world room =
         record {
@@ -239,7 +238,7 @@ module _ (tower table nodes : List ℕ) (lines count : ℕ) (graph : List ℕ) (
 
     -- The rows decide.
     pub few-enough : (out after : List ℕ) (a : MakeAnswer) → RowsMade a tower graph n out after
-        → TableMade a tower nodes lines count out after
+        → TableMade a tower nodes out after
     few-enough out after a rows =
         record {
           says = λ h. rows .says (h .book) (not-many (tower-of tower) (h .book) n (sym is ∙ says h)) (pairs-held .pairs-graph h);
@@ -268,23 +267,14 @@ book-table : (tower text : List ℕ) (book : Book) → read-book (tower-of tower
 unfolding made-book _then_
 book-table tower text book e = rw e
 
--- Where a book is read into the area.
-module _ (tower text nodes : List ℕ) (marks : ℕ) (a : BookAnswer) (lines count : ℕ) (fit : FitTower tower)
-    (at-marks : marks ≡ tower-of tower .marks) (answers : Answers a marks text nodes) (is : a ≡ Reads.Read lines count) where
-  here : BookHeld marks text nodes lines count
-  here = book-held marks text nodes a lines count (marks-few tower marks fit at-marks) answers is
-
-  pub book-known : TowerWithBook tower nodes lines count
-  book-known = record { fit = fit; held = here .held; few = here .few }
-
-  -- The table decides.
-  pub book-good : (out after : List ℕ) (r : MakeAnswer) → TableMade r tower nodes lines count out after
-      → Ends (made-book tower text) out r after
-  book-good out after r made =
-      let book = here .held .book in
-      let read : read-book (tower-of tower .marks) text ≡ give book = ap (λ z. read-book z text) (sym at-marks) ∙ here .read in
-      ends-along (made-table-file tower book) (made-book tower text) out r after
-      (book-table tower text book read) (made .says (here .held))
+-- Where a book is read into the area, the table decides.
+pub book-good : (tower text nodes out after : List ℕ) (marks : ℕ) (r : MakeAnswer) → TableMade r tower nodes out after
+    → marks ≡ tower-of tower .marks → BookHeld marks text nodes → Ends (made-book tower text) out r after
+book-good tower text nodes out after marks r made at-marks here =
+    let book = here .held .book in
+    let read : read-book (tower-of tower .marks) text ≡ give book = ap (λ z. read-book z text) (sym at-marks) ∙ here .read in
+    ends-along (made-table-file tower book) (made-book tower text) out r after
+    (book-table tower text book read) (made .says (here .held))
 
 -- ---- make_files
 

@@ -67,8 +67,8 @@ pub record RowsMade (r : MakeAnswer) (tower graph : List ℕ) (n : ℕ) (out aft
 -- ---- the book
 
 -- The same for the book that the area holds, or its pairs are too many.
-pub record TableMade (r : MakeAnswer) (tower nodes : List ℕ) (lines count : ℕ) (out after : List ℕ) : Type 0 where
-  pub says : (h : IsHeld nodes lines count) → Ends (made-table-file tower (h .book)) out r after
+pub record TableMade (r : MakeAnswer) (tower nodes out after : List ℕ) : Type 0 where
+  pub says : (h : IsHeld nodes) → Ends (made-table-file tower (h .book)) out r after
 
 -- ---- the areas
 

@@ -4,7 +4,7 @@ ghost use Prim.Native.Nat.{_<_};
 ghost use mathlib.Core.Path.{_≡_};
 ghost use mathlib.Core.List.{[], _∷_};
 ghost use lib.ListN.{length};
-ghost use Rattle.logic.specs.Tower.{FitTower, tower-of};
+ghost use Rattle.logic.specs.Tower.{FitTower};
 ghost use Rattle.base.specs.Bytes.{long-enough};
 ghost use Rattle.outcome.specs.Areas.{make-areas};
 ghost use Rattle.outcome.specs.Make.{made-file};
@@ -89,8 +89,6 @@ fn make_rows(
 fn make_table(
     tower: &[u8],
     nodes: &[u8],
-    lines: usize,
-    count: usize,
     out: &mut [u8],
     pairs: &mut [u8],
     index: &mut [u8],
@@ -98,11 +96,11 @@ fn make_table(
     flags: &mut [u8],
     classes: &mut [u8],
 ) -> MakeAnswer
-    requires { ⌜ TowerWithBook (now tower) (now nodes) lines count ⌝ }
+    requires { ⌜ TowerWithBook (now tower) (now nodes) ⌝ }
     requires { ⌜ Room (now nodes) (now pairs) (now index) (now graph) (now flags) (now classes) ⌝ }
-    ensures { λ r. ⌜ TableMade r (now (tower .entry)) (now (nodes .entry)) lines count (now (out .entry)) (now (out .exit)) ⌝ }
+    ensures { λ r. ⌜ TableMade r (now (tower .entry)) (now (nodes .entry)) (now (out .entry)) (now (out .exit)) ⌝ }
 {
-    let found = pair_search::explore(tower, tower, ROWS, nodes, lines, count, pairs, index, graph);
+    let found = pair_search::explore(tower, tower, ROWS, nodes, pairs, index, graph);
     match found {
         Found::TooMany => MakeAnswer::Refused(Refusal::Pairs),
         Found::Met(n) => make_rows(tower, out, graph, flags, classes, n),
@@ -128,14 +126,9 @@ fn make_book(
     let book = book_reader::read_lines(file_tower::marks(tower), text, nodes);
     match book {
         BookAnswer::Refused(why) => MakeAnswer::Refused(why),
-        BookAnswer::Read {
-            lines,
-            nodes: count,
-        } => make_table(
+        BookAnswer::Read { .. } => make_table(
             tower,
             nodes,
-            lines,
-            count,
             out,
             pairs,
             index,

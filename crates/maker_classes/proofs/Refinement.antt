@@ -3,45 +3,24 @@ use Prim.Native.Nat.{ℕ, zero, suc, _+_, _-_, _≤_, _<_}
 use native.Mathlib.Omega.{arith}
 use native.Mathlib.Decide.{decLt}
 use mathlib.Core.Path.{_≡_, refl, sym, ap, _∙_, subst}
-use mathlib.Core.Bool.{Bool, true, false}
+use mathlib.Core.Bool.{Bool, true}
 use mathlib.Core.Option.{Option, none, some}
 use mathlib.Core.List.{List}
 use lib.Dec.{eqb}
 use borrow.Author.Tests.{eq-eqb}
-use Rattle.base.specs.Choice.{pick}
 use Rattle.base.specs.Lists.{same-option}
 use Rattle.base.proofs.Lists.{never-both}
-use Rattle.pair_graph.specs.Graph.{Move, not-enabled, broken, to, Graph, allowed-to, AlikeNow, SafePair, Classes}
-use Rattle.pair_graph.specs.Steps.{move-at, class-in, safe-in, state-in, led-to, graph-with}
+use Rattle.pair_graph.specs.Graph.{Graph, allowed-to, AlikeNow, SafePair, Classes}
+use Rattle.pair_graph.specs.Steps.{move-at, class-in, safe-in, state-in, led-to, graph-with, FlaggedGraph}
+use Rattle.pair_graph.proofs.Moves.{allowed-out, allowed-below}
 use Rattle.maker_classes.specs.View.{shown, shows-in, view-of}
-use Rattle.maker_classes.specs.Passes.{Numbered}
-
--- What an allowed step leads to is safe.
-allowed-out : (safe : ℕ → Bool) (m : Move) (j : ℕ) → allowed-to safe m ≡ some j → (m ≡ to j) × (safe j ≡ true)
-unfolding allowed-to
-allowed-out safe not-enabled j e = let z : _≡_ {A = ℕ} 0 1 = cc in absurd (omega arith)
-allowed-out safe broken j e = let z : _≡_ {A = ℕ} 0 1 = cc in absurd (omega arith)
-allowed-out safe (to k) j e = go (safe k) refl e
-  where
-    go : (b : Bool) → safe k ≡ b → pick b (λ _. some k) (λ _. none) ≡ some j → (to k ≡ to j) × (safe j ≡ true)
-    go true p f = let same : k ≡ j = cc in (ap to same, ap safe (sym same) ∙ p)
-    go false p f = let z : _≡_ {A = ℕ} 0 1 = cc in absurd (omega arith)
+use Rattle.maker_classes.specs.Passes.{ClassesNumbered}
 
 -- The second half of `Classes`: two pairs that are never told apart are of one class.
 pub record Coarse (graph : Graph) (safe : ℕ → Bool) (class : ℕ → ℕ) : Type 0 where
   pub coarsest : (same : ℕ → ℕ → Bool)
       → ((i j : ℕ) → SafePair graph safe i → SafePair graph safe j → same i j ≡ true → AlikeNow graph safe same i j)
       → (i j : ℕ) → SafePair graph safe i → SafePair graph safe j → same i j ≡ true → class i ≡ class j
-
--- Equal classes are as coarse.
-pub coarse-along : {graph : Graph} {safe : ℕ → Bool} {class : ℕ → ℕ} (other : ℕ → ℕ) → Coarse graph safe class
-    → ((k : ℕ) → k < graph .pairs → other k ≡ class k) → Coarse graph safe other
-coarse-along other c same =
-    record { coarsest = λ s now i j ki kj e. same i (ki .there) ∙ c .coarsest s now i j ki kj e ∙ sym (same j (kj .there)) }
-
--- Every allowed step of a safe pair leads to one of the pairs.
-pub record Closed (area flags : List ℕ) (actions n : ℕ) : Type 0 where
-  pub targets : (i a j : ℕ) → i < n → safe-in flags i ≡ true → a < actions → move-at area i a ≡ to j → j < n
 
 module _ (area flags : List ℕ) (actions n : ℕ) (kind : ℕ → ℕ) where
   -- the graph and its safe pairs
@@ -54,19 +33,19 @@ module _ (area flags : List ℕ) (actions n : ℕ) (kind : ℕ → ℕ) where
   abbrev step : ℕ → ℕ → Option ℕ
   step i a = allowed-to (safe-in flags) (move-at area i a)
 
-  led-safe : Closed area flags actions n → (i a j : ℕ) → SafeHere i → a < actions → step i a ≡ some j → SafeHere j
-  led-safe closed i a j k l e =
-      let (m, p) = allowed-out (safe-in flags) (move-at area i a) j e in
-      record { there = closed .targets i a j (k .there) (k .is-safe) l m; is-safe = p }
+  led-safe : FlaggedGraph n actions area flags → (i a j : ℕ) → SafeHere i → a < actions → step i a ≡ some j → SafeHere j
+  unfolding led-to
+  led-safe held i a j k l e =
+      record { there = allowed-below area flags n actions i a j held (k .there) l e; is-safe = allowed-out (safe-in flags) (move-at area i a) j e .1 }
 
   -- All in one class: nothing is parted.
   pub coarse-start : (class : ℕ → ℕ) → ((i : ℕ) → i < n → class i ≡ 0) → Coarse graph (safe-in flags) class
   coarse-start class zeros =
       record { coarsest = λ same now i j ki kj e. zeros i (ki .there) ∙ sym (zeros j (kj .there)) }
 
-  module _ (closed : Closed area flags actions n) (old : List ℕ) (new class : ℕ → ℕ)
-      (numbered : Numbered (view-of area flags actions old) new n)
-      (taken : (i : ℕ) → i < n → safe-in flags i ≡ true → class i ≡ new i) where
+  module _ (held : FlaggedGraph n actions area flags) (old : List ℕ) (new class : ℕ → ℕ)
+      (numbered : ClassesNumbered (view-of area flags actions old) new n)
+      (taken : (i : ℕ) → i < n → class i ≡ new i) where
     -- A pass parts no two pairs that are never told apart.
     pub coarse-pass : Coarse graph (safe-in flags) (class-in old) → Coarse graph (safe-in flags) class
     unfolding view-of shows-in shown same-option led-to
@@ -77,14 +56,14 @@ module _ (area flags : List ℕ) (actions n : ℕ) (kind : ℕ → ℕ) where
             → (i j : ℕ) → SafeHere i → SafeHere j → same i j ≡ true → class i ≡ class j
         go same now i j ki kj e =
             let here = now i j ki kj e in
-            taken i (ki .there) (ki .is-safe)
+            taken i (ki .there)
             ∙ numbered .joined i j (ki .there) (kj .there) (ki .is-safe) (kj .is-safe)
             (record {
               state = here .state;
               class = coarse .coarsest same now i j ki kj e;
               shows = λ a l. shows a l (step i a) (step j a) refl refl (here .steps a l);
             })
-            ∙ sym (taken j (kj .there) (kj .is-safe))
+            ∙ sym (taken j (kj .there))
           where
             shows : (a : ℕ) → a < actions → (o p : Option ℕ) → step i a ≡ o → step j a ≡ p → same-option same o p ≡ true
                 → shown (class-in old) o ≡ shown (class-in old) p
@@ -92,16 +71,16 @@ module _ (area flags : List ℕ) (actions n : ℕ) (kind : ℕ → ℕ) where
             shows a l none (some y) f g s = never-both s refl
             shows a l (some x) none f g s = never-both s refl
             shows a l (some x) (some y) f g s =
-                ap (λ z. z + 1) (coarse .coarsest same now x y (led-safe closed i a x ki l f) (led-safe closed j a y kj l g) s)
+                ap (λ z. z + 1) (coarse .coarsest same now x y (led-safe held i a x ki l f) (led-safe held j a y kj l g) s)
 
     -- Where a pass parts nothing, no two pairs of one class are told apart.
-    pub stable-pass : ((i : ℕ) → i < n → safe-in flags i ≡ true → new i ≡ class-in old i) → (i j : ℕ) → SafeHere i → SafeHere j
+    pub stable-pass : ((i : ℕ) → i < n → new i ≡ class-in old i) → (i j : ℕ) → SafeHere i → SafeHere j
         → class i ≡ class j → AlikeNow graph (safe-in flags) (λ k l. eqb (class k) (class l)) i j
     unfolding view-of shows-in shown same-option led-to
     stable-pass still i j ki kj e =
-        let ri = numbered .alike i (ki .there) (ki .is-safe) in
-        let rj = numbered .alike j (kj .there) (kj .is-safe) in
-        let one : new i ≡ new j = sym (taken i (ki .there) (ki .is-safe)) ∙ e ∙ taken j (kj .there) (kj .is-safe) in
+        let ri = numbered .alike i (ki .there) in
+        let rj = numbered .alike j (kj .there) in
+        let one : new i ≡ new j = sym (taken i (ki .there)) ∙ e ∙ taken j (kj .there) in
         record {
           state = ri .state ∙ ap (state-in area) one ∙ sym (rj .state);
           steps =
@@ -111,7 +90,7 @@ module _ (area flags : List ℕ) (actions n : ℕ) (kind : ℕ → ℕ) where
         }
       where
         back : (k : ℕ) → SafeHere k → class k ≡ class-in old k
-        back k kk = taken k (kk .there) (kk .is-safe) ∙ still k (kk .there) (kk .is-safe)
+        back k kk = taken k (kk .there) ∙ still k (kk .there)
 
         steps-same : (a : ℕ) → a < actions → (o p : Option ℕ) → step i a ≡ o → step j a ≡ p
             → shown (class-in old) o ≡ shown (class-in old) p → same-option (λ k l. eqb (class k) (class l)) o p ≡ true
@@ -119,12 +98,12 @@ module _ (area flags : List ℕ) (actions n : ℕ) (kind : ℕ → ℕ) where
         steps-same a l none (some y) f g s = absurd (omega arith)
         steps-same a l (some x) none f g s = absurd (omega arith)
         steps-same a l (some x) (some y) f g s =
-            let bx = back x (led-safe closed i a x ki l f) in
-            let by = back y (led-safe closed j a y kj l g) in
+            let bx = back x (led-safe held i a x ki l f) in
+            let by = back y (led-safe held j a y kj l g) in
             eq-eqb (class x) (class y) (omega arith)
 
     -- Where a pass parts nothing, the classes are the right ones.
-    pub right-classes : Coarse graph (safe-in flags) (class-in old) → ((i : ℕ) → i < n → safe-in flags i ≡ true → new i ≡ class-in old i)
+    pub right-classes : Coarse graph (safe-in flags) (class-in old) → ((i : ℕ) → i < n → new i ≡ class-in old i)
         → Classes graph (safe-in flags) class
     right-classes coarse still = record { stable = stable-pass still; coarsest = coarse-pass coarse .coarsest }
 

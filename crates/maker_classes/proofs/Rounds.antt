@@ -1,106 +1,86 @@
 -- Passes until one parts nothing: what each keeps, why there is a last one, and what it leaves.
-use Prim.Native.Nat.{ℕ, _-_, _*_, _≤_, _<_}
+use Prim.Native.Nat.{ℕ, _+_, _-_, _*_, _≤_, _<_}
 use native.Mathlib.Omega.{arith}
-use native.Mathlib.Nat.{zero-add}
-use mathlib.Core.Path.{_≡_, refl, sym, ap, _∙_}
-use mathlib.Core.Bool.{Bool, true, false}
+use mathlib.Core.Path.{_≡_, sym, ap, _∙_, subst}
 use mathlib.Core.List.{List}
-use Rattle.base.specs.Choice.{pick}
+use lib.ListN.{replicate}
 use Rattle.base.specs.Bytes.{number-at}
-use Rattle.base.proofs.Lists.{whether, never-both}
+use Rattle.base.proofs.Bytes.{number-at-take}
+use Rattle.area_bytes.proofs.Clearing.{cleared-byte}
 use Rattle.pair_graph.specs.Steps.{class-in, safe-in, graph-with}
 use Rattle.maker_classes.specs.View.{old-part, new-in, view-of}
-use Rattle.maker_classes.specs.Passes.{Ready, Classified, Cleared, Passed, Adopted}
-use Rattle.maker_classes.proofs.Stores.{class-front}
-use Rattle.maker_classes.proofs.Refinement.{Coarse, Closed, coarse-start, coarse-along, coarse-pass, right-classes, sum, sum-lt}
+use Rattle.maker_classes.specs.Passes.{ReadyForPass, Classified, ClassesNumbered, PassedFrom, Adopted}
+use Rattle.maker_classes.proofs.Refinement.{Coarse, coarse-start, coarse-pass, right-classes, sum, sum-lt}
+
+-- A class is one of the first thousand numbers.
+class-front : (area : List ℕ) (i : ℕ) → i < 1000 → class-in (old-part area) i ≡ class-in area i
+class-front area i l = number-at-take 2 2000 area (2 * i) (omega arith)
 
 -- The classes so far part no two pairs that are never told apart, and none is above its pair.
 pub record Refining (graph flags : List ℕ) (actions n : ℕ) (area : List ℕ) : Type 0 where
-  pub coarse : (kind : ℕ → ℕ) → Coarse (graph-with n actions kind graph) (safe-in flags) (class-in area)
-  pub most : (k : ℕ) → k < n → class-in area k ≤ k
-
--- how far the class of pair k can still rise
-unfoldable pub room : List ℕ → List ℕ → ℕ → ℕ
-room flags area k = pick (safe-in flags k) (λ _. k - class-in area k) (λ _. 0)
+  pub coarse : (kind : ℕ → ℕ) → Coarse (graph-with n actions kind graph) (safe-in flags) (class-in (old-part area))
+  pub most : (k : ℕ) → k < n → class-in (old-part area) k ≤ k
 
 -- how far the classes of n pairs can still rise
-unfoldable pub slack : List ℕ → ℕ → List ℕ → ℕ
-slack flags n area = sum (room flags area) n
+unfoldable pub slack : ℕ → List ℕ → ℕ
+slack n area = sum (λ k. k - class-in (old-part area) k) n
 
 -- At first all are of class 0.
-pub refining-start : (graph flags : List ℕ) (actions n : ℕ) (area after : List ℕ) → Cleared area 0 n after
-    → Refining graph flags actions n after
-refining-start graph flags actions n area after c =
+pub refining-start : (graph flags : List ℕ) (actions n : ℕ) (first area : List ℕ) (size : ℕ) → ReadyForPass graph flags actions n first
+    → area ≡ replicate size 0 → Refining graph flags actions n area
+unfolding number-at
+refining-start graph flags actions n first area size ready e =
     record {
-      coarse = λ kind. coarse-start graph flags actions n kind (class-in after) zeros;
+      coarse = λ kind. coarse-start graph flags actions n kind (class-in (old-part area)) zeros;
       most = λ k l. omega (arith, zeros k l);
     }
   where
-    zeros : (k : ℕ) → k < n → class-in after k ≡ 0
-    zeros k l = ap (number-at 2 after) (sym (zero-add (2 * k))) ∙ c .zeros k l
+    zeros : (k : ℕ) → k < n → class-in (old-part area) k ≡ 0
+    zeros k l =
+        class-front area k (omega (arith, ready .held .graph .pairs-most))
+        ∙ rw e (omega (arith, cleared-byte size (2 * k), cleared-byte size (2 * k + 1)))
 
 module _ (graph flags : List ℕ) (actions n : ℕ) (first area x z : List ℕ) (r : ℕ)
-    (ready : Ready graph flags actions n first) (so-far : Refining graph flags actions n area)
-    (passed : Passed graph flags actions (old-part area) n x) (adopted : Adopted flags n x r z) where
-  closed : Closed graph flags actions n
-  closed = record { targets = λ i a j l e. ready .held .graph .targets i a j l }
+    (ready : ReadyForPass graph flags actions n first) (so-far : Refining graph flags actions n area)
+    (passed : PassedFrom graph flags actions area n x) (adopted : Adopted n x r z) where
+  below : (k : ℕ) → k < n → k < 1000
+  below k l = omega (arith, ready .held .graph .pairs-most)
 
-  old-class : (k : ℕ) → k < n → class-in (old-part area) k ≡ class-in area k
-  old-class k l = class-front area k (omega (arith, ready .held .graph .pairs-most))
+  -- What was seen is what there was.
+  numbered : ClassesNumbered (view-of graph flags actions (old-part area)) (new-in x) n
+  numbered = subst (λ l. ClassesNumbered (view-of graph flags actions l) (new-in x) n) (passed .front) (passed .passed .numbered)
 
-  same-class : (k : ℕ) → k < n → class-in x k ≡ class-in (old-part area) k
-  same-class k l =
-      sym (class-front x k (omega (arith, ready .held .graph .pairs-most))) ∙ ap (λ classes. class-in classes k) (passed .front)
+  taken : (k : ℕ) → k < n → class-in (old-part z) k ≡ new-in x k
+  taken k l = class-front z k (below k l) ∙ adopted .here k l
 
-  old-coarse : (kind : ℕ → ℕ) → Coarse (graph-with n actions kind graph) (safe-in flags) (class-in (old-part area))
-  old-coarse kind = coarse-along (class-in (old-part area)) (so-far .coarse kind) old-class
+  before : (k : ℕ) → k < n → class-in x k ≡ class-in (old-part area) k
+  before k l = sym (class-front x k (below k l)) ∙ ap (λ l. class-in l k) (passed .front)
 
   -- One more pass keeps it so.
   pub refining-more : Refining graph flags actions n z
-  unfolding view-of
   refining-more =
       record {
         coarse =
             λ kind.
-            coarse-pass graph flags actions n kind closed (old-part area) (new-in x) (class-in z) (passed .numbered)
-            (adopted .here) (old-coarse kind);
-        most =
-            λ k l.
-            whether (safe-in flags k) (λ e. omega (arith, adopted .here k l e, passed .numbered .most k l e))
-            (λ e. omega (arith, adopted .gone k l e, same-class k l, old-class k l, so-far .most k l));
+            coarse-pass graph flags actions n kind (ready .held) (old-part area) (new-in x) (class-in (old-part z)) numbered taken (so-far .coarse kind);
+        most = λ k l. omega (arith, taken k l, numbered .most k l);
       }
 
   -- No class falls.
-  rises : (k : ℕ) → k < n → safe-in flags k ≡ true → class-in area k ≤ new-in x k
+  rises : (k : ℕ) → k < n → class-in (old-part area) k ≤ new-in x k
   unfolding view-of
-  rises k l e =
-      let most = passed .numbered .most k l e in
-      let less : new-in x k < n = omega arith in
-      let alike = passed .numbered .alike k l e .class in
-      omega (arith, old-class k l, old-class (new-in x k) less, so-far .most (new-in x k) less)
-
-  room-less : (k : ℕ) → k < n → (b : Bool) → safe-in flags k ≡ b
-      → pick b (λ _. k - class-in z k) (λ _. 0) ≤ pick b (λ _. k - class-in area k) (λ _. 0)
-  room-less k l true e = omega (arith, rises k l e, adopted .here k l e)
-  room-less k l false e = omega arith
+  rises k l =
+      let most = numbered .most k l in
+      omega (arith, numbered .alike k l .class, so-far .most (new-in x k) (omega arith))
 
   -- A class that changes rises.
-  pub slack-falls : (r ≡ 0 → ⊥) → slack flags n z < slack flags n area
-  unfolding slack room view-of
-  slack-falls some = go (adopted .other (omega (arith, some)))
-    where
-      go : (k : ℕ) × (k < n) × (safe-in flags k ≡ true) × (new-in x k ≡ class-in x k → ⊥)
-          → sum (room flags z) n < sum (room flags area) n
-      go (k, l, e, f) =
-          sum-lt (room flags area) (room flags z) n k (λ j less. room-less j less (safe-in flags j) refl) l
-          (at (safe-in flags k) e)
-        where
-          apart : class-in area k ≡ new-in x k → ⊥
-          apart g = f (sym g ∙ sym (old-class k l) ∙ sym (same-class k l))
-
-          at : (b : Bool) → b ≡ true → pick b (λ _. k - class-in z k) (λ _. 0) < pick b (λ _. k - class-in area k) (λ _. 0)
-          at true g = omega (arith, rises k l e, adopted .here k l e, passed .numbered .most k l e, apart)
-          at false g = never-both g refl
+  pub slack-falls : (r ≡ 0 → ⊥) → slack n z < slack n area
+  unfolding slack
+  slack-falls some =
+      let (k, l, apart) = adopted .other (omega (arith, some)) in
+      sum-lt (λ k. k - class-in (old-part area) k) (λ k. k - class-in (old-part z) k) n k (λ j less. omega (arith, rises j less, taken j less)) l
+      (let other : new-in x k ≡ class-in (old-part area) k → ⊥ = λ e. apart (e ∙ sym (before k l)) in
+      omega (arith, rises k l, taken k l, numbered .most k l, other))
 
   -- Where none changes, the classes are the right ones.
   pub classified : r ≡ 0 → Classified graph flags actions n z
@@ -108,7 +88,7 @@ module _ (graph flags : List ℕ) (actions n : ℕ) (first area x z : List ℕ) 
       record {
         for-kinds =
             λ kind.
-            right-classes graph flags actions n kind closed (old-part area) (new-in x) (class-in z) (passed .numbered)
-            (adopted .here) (old-coarse kind) (λ i l e. adopted .same none i l e ∙ same-class i l);
-        most = refining-more .most;
+            right-classes graph flags actions n kind (ready .held) (old-part area) (new-in x) (class-in z) numbered (adopted .here) (so-far .coarse kind)
+            (λ k l. adopted .same none k l ∙ before k l);
+        most = λ k l. omega (arith, adopted .here k l, numbered .most k l);
       }

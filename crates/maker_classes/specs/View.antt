@@ -1,14 +1,15 @@
 -- What a pass sees of the pairs: of each its tower state, its class, and the class that each action leads to.
 use Prim.Native.Nat.{ℕ, zero, suc, _+_, _*_, _%_, _<_}
 use mathlib.Core.Path.{_≡_}
-use mathlib.Core.Bool.{Bool}
+use mathlib.Core.Bool.{Bool, true}
 use mathlib.Core.Option.{Option, none, some}
 use mathlib.Core.List.{List}
 use lib.ListN.{take}
+use lib.Dec.{eqb}
 use Rattle.base.specs.Bytes.{number-at}
 use Rattle.pair_graph.specs.Steps.{class-in, safe-in, state-in, led-to}
 
--- ---- the parts of the area in which a pass works
+-- ---- the parts of the area in which a pass works: the classes, the new classes, and buckets of pairs
 
 -- the classes that the pass begins with
 abbrev pub old-part : List ℕ → List ℕ
@@ -18,13 +19,12 @@ old-part area = take 2000 area
 abbrev pub new-in : List ℕ → ℕ → ℕ
 new-in area i = number-at 2 area (2000 + 2 * i)
 
--- the pair before pair i in its bucket plus 1, or 0
-abbrev pub link-in : List ℕ → ℕ → ℕ
-link-in area i = number-at 2 area (4000 + 2 * i)
+-- where the links of the buckets begin, one for each pair, and where their heads do
+abbrev pub links-at : ℕ
+links-at = 4000
 
--- the last pair of bucket h plus 1, or 0
-abbrev pub head-in : List ℕ → ℕ → ℕ
-head-in area h = number-at 2 area (6000 + 2 * h)
+abbrev pub heads-at : ℕ
+heads-at = 6000
 
 -- ---- what is seen
 
@@ -46,6 +46,10 @@ shown class (some j) = class j + 1
 unfoldable pub shows-in : List ℕ → List ℕ → List ℕ → ℕ → ℕ → ℕ
 shows-in graph flags classes i a = shown (class-in classes) (led-to graph flags i a)
 
+-- action a shows the same of pairs i and j
+unfoldable pub same-shows : List ℕ → List ℕ → List ℕ → ℕ → ℕ → ℕ → Bool
+same-shows graph flags classes i j a = eqb (shows-in graph flags classes i a) (shows-in graph flags classes j a)
+
 -- What is seen with the classes in the given bytes.
 unfoldable pub view-of : List ℕ → List ℕ → ℕ → List ℕ → View
 view-of graph flags actions classes =
@@ -58,7 +62,7 @@ view-of graph flags actions classes =
     }
 
 -- Two pairs look the same.
-pub record Alike (v : View) (i j : ℕ) : Type 0 where
+pub record AlikePairs (v : View) (i j : ℕ) : Type 0 where
   pub state : v .state i ≡ v .state j
   pub class : v .class i ≡ v .class j
   pub shows : (a : ℕ) → a < v .actions → v .shows i a ≡ v .shows j a
@@ -75,3 +79,8 @@ bucket-upto v i (suc a) = (bucket-upto v i a * 31 + v .shows i a) % buckets
 -- the bucket of pair i
 unfoldable pub bucket-of : View → ℕ → ℕ
 bucket-of v i = bucket-upto v i (v .actions)
+
+-- Pair k is safe and belongs to bucket h.
+pub record InBucket (v : View) (k h : ℕ) : Type 0 where
+  pub is-safe : v .safe k ≡ true
+  pub bucket : bucket-of v k ≡ h

@@ -22,7 +22,7 @@ use Rattle.pair_graph.specs.Steps.{class-in, state-in}
 use Rattle.maker_order.specs.Orders.{followers, classes-part, order-of, Classed, InOrder}
 use Rattle.maker_order.proofs.Rest.{rest, rest-all, rest-next, rest-none}
 use Rattle.maker_order.proofs.Orders.{class-read, length-order}
-use Rattle.maker_file.specs.Writing.{table-in, Writable, ShortNumbers, Writes, step-from, steps-in, row-in, packed, steps-total, bytes-of-steps, Laid, Wrote, WroteRows, WroteFile}
+use Rattle.maker_file.specs.Writing.{table-in, Writable, ShortNumbers, WritesTable, step-from, steps-in, row-in, packed, steps-total, bytes-of-steps, Laid, Wrote, WroteHeader, WroteRows, WroteFile}
 use Rattle.maker_file.specs.declared.Written.the-variants.{Made, NoRoom}
 use Rattle.maker_file.proofs.Tables.{sets-append, length-steps, packed-cons, packed-nil, length-packed, no-steps, bytes-append, length-bytes, file-parts, file-long}
 use Rattle.maker_file.proofs.Same.{table-same}
@@ -128,21 +128,28 @@ module _ (graph flags area : List ℕ) (n actions rows : ℕ) (laid : Laid graph
         let whole = length-packed graph flags (classes-part area) (order-of area rows) actions (order-of area rows) in
         omega (arith, h .filling .behind, h .filling .same-length)
 
-    pub packing-more : (z : List ℕ) (q : ℕ) → Wrote here out p z q → Packing graph flags area actions rows first start z q (r + 1)
-    packing-more z q w =
-        record {
-          done = omega arith;
-          filling =
-              filling-more here (pairs (drop (r + 1) (order-of area rows))) (pairs (order-of area rows)) first start out p z q
-              (subst (λ (ss : List Step). Filling ss (pairs (order-of area rows)) first start out p) next-steps (h .filling)) w;
-        }
-
   pub packing-end : rows ≤ r → Wrote (pairs (order-of area rows)) first start out p
   packing-end l =
       let e = ap pairs (no-pair graph flags area n actions rows laid r (omega (arith, h .done)))
       ∙ packed-nil graph flags (classes-part area) (order-of area rows) actions in
       filling-end (pairs (order-of area rows)) first start out p
       (subst (λ (ss : List Step). Filling ss (pairs (order-of area rows)) first start out p) e (h .filling))
+
+-- The row's steps are written.
+pub packing-more : (graph flags area : List ℕ) (n actions rows : ℕ) (first : List ℕ) (start : ℕ) (out : List ℕ) (p r i : ℕ) (z : List ℕ) (q : ℕ)
+    → Packing graph flags area actions rows first start out p r
+    → Wrote (steps-in graph flags (classes-part area) (order-of area rows) actions i) out p z q → i ≡ number-at 2 area (2000 + 2 * r) → r < rows
+    → Laid graph flags area n actions rows → Packing graph flags area actions rows first start z q (r + 1)
+packing-more graph flags area n actions rows first start out p r i z q h w is-i l laid =
+    let pairs = packed graph flags (classes-part area) (order-of area rows) actions in
+    record {
+      done = omega arith;
+      filling =
+          filling-more (steps-in graph flags (classes-part area) (order-of area rows) actions i) (pairs (drop (r + 1) (order-of area rows)))
+          (pairs (order-of area rows)) first start out p z q
+          (subst (λ (ss : List Step). Filling ss (pairs (order-of area rows)) first start out p)
+          (next-steps graph flags area n actions rows laid first start out p r h i l is-i) (h .filling)) w;
+    }
 
 -- ---- the rows
 
@@ -160,11 +167,6 @@ next-row layout r = omega (arith, mul-suc (row-size layout) r, ap (λ n. row-siz
 row-behind : (layout : FileLayout) (r rows : ℕ) → r < rows → steps-at layout r + row-size layout ≤ steps-at layout rows
 unfolding steps-at
 row-behind layout r rows l = omega (arith, piece-inside (row-size layout) rows r l)
-
--- There is room for the whole.
-pub file-room : (layout : FileLayout) (rows total p : ℕ) (out : List ℕ) → p ≡ steps-at layout rows → p + 3 * total ≤ length out
-    → steps-at layout rows + 3 * total ≤ length out
-file-room layout rows total p out e l = omega arith
 
 -- Where there is room for the whole there is room for the header.
 pub header-room : (layout : FileLayout) (rows total : ℕ) (out : List ℕ) → steps-at layout rows + 3 * total ≤ length out → rows-at ≤ length out
@@ -185,7 +187,7 @@ rows-small layout rows short few =
     omega arith
 
 -- The rows from r on are left, behind so many steps.
-pub record Listing (layout : FileLayout) (graph flags area : List ℕ) (actions rows : ℕ) (first out : List ℕ) (count r : ℕ) : Type 0 where
+pub record ListingSteps (layout : FileLayout) (graph flags area : List ℕ) (actions rows : ℕ) (first out : List ℕ) (count r : ℕ) : Type 0 where
   pub same-length : length out ≡ length first
   pub totalling : Totalling graph flags area actions rows count r
   pub left : sets out (steps-at layout r)
@@ -193,7 +195,7 @@ pub record Listing (layout : FileLayout) (graph flags area : List ℕ) (actions 
       ≡ sets first rows-at (row-bytes layout 0 (map (row-in graph flags (classes-part area) (order-of area rows) actions) (order-of area rows)))
 
 pub listing-start : (layout : FileLayout) (graph flags area : List ℕ) (actions rows : ℕ) (out : List ℕ)
-    → Listing layout graph flags area actions rows out out 0 0
+    → ListingSteps layout graph flags area actions rows out out 0 0
 listing-start layout graph flags area actions rows out =
     let row = row-in graph flags (classes-part area) (order-of area rows) actions in
     record {
@@ -216,11 +218,11 @@ row-length layout s c f =
     simp (length-append, length-number-bytes) (omega arith)
 
 module _ (layout : FileLayout) (graph flags area : List ℕ) (n actions rows : ℕ) (first out : List ℕ) (count r : ℕ)
-    (laid : Laid graph flags area n actions rows) (h : Listing layout graph flags area actions rows first out count r) where
+    (laid : Laid graph flags area n actions rows) (h : ListingSteps layout graph flags area actions rows first out count r) where
   pub listing-more : (i c s p : ℕ) (z : List ℕ) → r < rows → i ≡ number-at 2 area (2000 + 2 * r) → c ≡ length (followers graph flags actions i)
       → s ≡ state-in graph i → p ≡ steps-at layout r
       → z ≡ sets out p (number-bytes (layout .width) s ++ (number-bytes 1 c ++ number-bytes 2 count))
-      → Listing layout graph flags area actions rows first z (count + c) (r + 1)
+      → ListingSteps layout graph flags area actions rows first z (count + c) (r + 1)
   unfolding row-in
   listing-more i c s p z l is-i is-c is-s is-p is-z =
       let part = classes-part area in
@@ -252,7 +254,7 @@ module _ (layout : FileLayout) (graph flags area : List ℕ) (n actions rows : �
 
 -- A row is there as a whole.
 pub row-place : (layout : FileLayout) (graph flags area : List ℕ) (actions rows : ℕ) (first out : List ℕ) (count r p : ℕ)
-    → Listing layout graph flags area actions rows first out count r → r < rows → steps-at layout rows ≤ length first → p ≡ steps-at layout r
+    → ListingSteps layout graph flags area actions rows first out count r → r < rows → steps-at layout rows ≤ length first → p ≡ steps-at layout r
     → p + layout .width + 3 ≤ length out
 unfolding row-size
 row-place layout graph flags area actions rows first out count r p h l room e =
@@ -263,10 +265,10 @@ row-place layout graph flags area actions rows first out count r p h l room e =
 -- Header, rows and steps, one behind the other, are the file.
 pub file-written : (layout : FileLayout) (graph flags area : List ℕ) (n states actions rows total p : ℕ) (out l₁ l₂ z : List ℕ) (q : ℕ)
     → Laid graph flags area n actions rows → total ≡ steps-total graph flags actions (order-of area rows) → p ≡ steps-at layout rows
-    → l₁ ≡ sets out 0 (header-bytes layout rows total states actions) → WroteRows layout graph flags area actions rows l₁ l₂
+    → WroteHeader layout rows total states actions out l₁ → WroteRows layout graph flags area actions rows l₁ l₂
     → Wrote (packed graph flags (classes-part area) (order-of area rows) actions (order-of area rows)) l₂ p z q
     → WroteFile layout graph flags area states actions rows out z q
-file-written layout graph flags area n states actions rows total p out l₁ l₂ z q laid is-total is-p e₁ w₂ w₃ =
+file-written layout graph flags area n states actions rows total p out l₁ l₂ z q laid is-total is-p w₁ w₂ w₃ =
     let part = classes-part area in
     let order = order-of area rows in
     let row = row-in graph flags part order actions in
@@ -287,7 +289,7 @@ file-written layout graph flags area n states actions rows total p out l₁ l₂
           w₃ .left
           ∙ ap₂ (λ (l : List ℕ) (k : ℕ). sets l k tail) (w₂ .left) lines-end
           ∙ sym (sets-append l₁ rows-at lines tail)
-          ∙ ap₂ (λ (l : List ℕ) (k : ℕ). sets l k (lines ++ tail)) e₁ head-end
+          ∙ ap₂ (λ (l : List ℕ) (k : ℕ). sets l k (lines ++ tail)) (w₁ .left) head-end
           ∙ sym (sets-append out 0 head (lines ++ tail)) ∙ ap (sets out 0) (sym whole);
       long = omega (arith, w₃ .behind, file-long layout states actions graph flags part order order);
     }
@@ -338,7 +340,7 @@ module _ (graph flags classes : List ℕ) (n actions : ℕ) (given : Writable gr
 
       -- There is no room.
       pub writes-nothing : (out : List ℕ) → length out < p + 3 * total
-          → Writes (table-file layout states actions (table-in graph flags classes n actions)) out NoRoom out
+          → WritesTable (table-file layout states actions (table-in graph flags classes n actions)) out NoRoom out
       writes-nothing out l =
           let less = lt-ltb (length out) (length (table-file layout states actions (table-in graph flags classes n actions))) (omega (arith, file-length)) in
           record { answered = rw less; left = rw less }
@@ -346,7 +348,7 @@ module _ (graph flags classes : List ℕ) (n actions : ℕ) (given : Writable gr
       -- The file is written.
       pub writes-file : (out z : List ℕ) (size : ℕ) → p + 3 * total ≤ length out
           → WroteFile layout graph flags area states actions rows out z size
-          → Writes (table-file layout states actions (table-in graph flags classes n actions)) out (Made size) z
+          → WritesTable (table-file layout states actions (table-in graph flags classes n actions)) out (Made size) z
       writes-file out z size l w =
           let file = table-file layout states actions in
           let enough = le-ltb (length out) (length (file (table-in graph flags classes n actions))) (omega (arith, file-length)) in
@@ -357,7 +359,3 @@ module _ (graph flags classes : List ℕ) (n actions : ℕ) (given : Writable gr
 
     pub steps-size-fits : (total : ℕ) → total ≡ steps-total graph flags actions (order-of area rows) → Fits w64 (3 * total)
     steps-size-fits total e = omega (arith, laid-total graph flags area n actions rows laid-out)
-
-    -- There are not too many rows.
-    pub ordered-few : rows < 65536
-    ordered-few = omega (arith, laid-few graph flags area n actions rows laid-out)

@@ -11,10 +11,10 @@ use mir.Val.{Fits}
 use Rattle.base.specs.Lists.{present}
 use Rattle.base.specs.Bytes.{number-at}
 use Rattle.base.proofs.Lists.{mem-getD}
-use Rattle.pair_graph.specs.Steps.{pair-room, graph-size, led-to, FlaggedGraph}
+use Rattle.pair_graph.specs.Steps.{pair-room, led-to, FlaggedGraph}
 use Rattle.maker_order.specs.Orders.{followers, classes-part, order-of}
 use Rattle.maker_order.proofs.Rest.{rest, rest-all, rest-next, rest-none}
-use Rattle.maker_order.proofs.Orders.{length-order, order-read, rows-few, row-below}
+use Rattle.maker_order.proofs.Orders.{length-order, order-read, row-below}
 use Rattle.maker_file.specs.Writing.{steps-total, Laid, IsRow}
 use Rattle.maker_file.proofs.Tables.{followers-few, total-cons, total-nil, total-few}
 
@@ -62,28 +62,13 @@ module _ (graph flags area : List ℕ) (n actions rows : ℕ) (laid : Laid graph
 
   -- There are at most 1,000 rows.
   pub laid-few : rows ≤ 1000
-  laid-few = omega (arith, rows-few n area rows (laid .numbered), laid .numbered .pairs)
-
-  -- So their numbers take two bytes.
-  pub row-number : (r : ℕ) → r < rows → r < 65536
-  row-number r l = omega (arith, laid-few)
-
-  pub rows-number : rows < 65536
-  rows-number = omega (arith, laid-few)
+  laid-few = omega (arith, laid .numbered .few, laid .numbered .pairs)
 
   -- All steps are at most 16,000.
   pub laid-total : steps-total graph flags actions order ≤ 16000
   laid-total = omega (arith, laid-few, total-few graph flags actions order (laid .held .graph .actions-most), length-order area rows)
 
-  -- The whole graph is there.
-  pub graph-there : graph-size ≤ length graph
-  graph-there = laid .held .graph .room
-
   module _ (r : ℕ) (l : r < rows) where
-    -- The pair of row r is there.
-    pub pair-there : 2000 + 2 * r + 1 < length area
-    pair-there = omega (arith, laid-few, laid .numbered .room)
-
     module _ (i : ℕ) (is-i : i ≡ number-at 2 area (2000 + 2 * r)) where
       pair-is : getD order r 0 ≡ i
       pair-is = order-read area rows r l ∙ sym is-i

@@ -9,7 +9,7 @@ use mathlib.Core.List.{List, [], _∷_, _++_, map, List·Memᴰ, List·Memᴰ·h
 use lib.Dec.{eqb}
 use Rattle.base.specs.Choice.{pick}
 use Rattle.base.specs.Lists.{below, present, some-of, place-of}
-use Rattle.base.specs.Search.{new-ones, search-on, search-from}
+use Rattle.base.specs.Search.{new-ones, search-on, search-from, once}
 use Rattle.base.proofs.Lists.{mem-below, present-map-out}
 use Rattle.logic.specs.Tables.{Step}
 use Rattle.pair_graph.specs.GraphTable.{allowed, allowed-all, same-class, row-order, graph-step, graph-row, graph-table}
@@ -79,7 +79,7 @@ module _ (n : ℕ) (test other : ℕ → ℕ → Bool) (agree : (i j : ℕ) → 
 
   module _ (follow : ℕ → List ℕ) (closed : (i : ℕ) → i < n → Below n (follow i)) where
     search-same : (most k : ℕ) (seen todo : List ℕ) → Below n seen → Below n todo
-        → search-on test follow most k seen todo ≡ search-on other follow most k seen todo
+        → search-on test follow once most k seen todo ≡ search-on other follow once most k seen todo
     unfolding search-on
     search-same most zero seen todo h t = refl
     search-same most (suc k) seen [] h t = refl
@@ -106,13 +106,13 @@ module _ (graph flags classes part : List ℕ) (n actions : ℕ) (moves : Flagge
       allowed-below graph flags n actions i a y moves l (mem-below actions at) e
 
   -- The order of the rows is what the search meets.
-  rows-met : row-order (graph-in graph n actions) (safe-in flags) (class-in classes) ≡ search-from (same-in part) (followers graph flags actions) n 0
+  rows-met : row-order (graph-in graph n actions) (safe-in flags) (class-in classes) ≡ search-from (same-in part) (followers graph flags actions) once n 0
   unfolding row-order same-class allowed-all allowed graph-in search-from same-in followers led-to
   rows-met =
       search-same n (same-in classes) (same-in part) same-agrees (followers graph flags actions) followers-below n (suc n) (0 ∷ []) (0 ∷ [])
       (below-one n 0 (omega arith)) (below-one n 0 (omega arith))
 
-  module _ (order : List ℕ) (is-order : order ≡ search-from (same-in part) (followers graph flags actions) n 0) (rows-below : Below n order) where
+  module _ (order : List ℕ) (is-order : order ≡ search-from (same-in part) (followers graph flags actions) once n 0) (rows-below : Below n order) where
     step-same : (a : ℕ) (o : Option ℕ) → ((j : ℕ) → o ≡ some j → j < n)
         → graph-step (graph-in graph n actions) (safe-in flags) (class-in classes) a o ≡ step-in part order a o
     unfolding graph-step step-in same-class same-in

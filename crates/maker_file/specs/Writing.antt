@@ -2,21 +2,21 @@
 use Prim.Native.Nat.{ℕ, _+_, _*_, _≤_, _<_}
 use mathlib.Core.Path.{_≡_}
 use mathlib.Core.Option.{Option, none, some}
-use mathlib.Core.List.{List, map, List·Memᴰ}
+use mathlib.Core.List.{List, _++_, map, List·Memᴰ}
 use lib.ListN.{length}
 use lib.Seq.{sets}
 use lib.Dec.{ltb}
 use Rattle.base.specs.Choice.{pick}
 use Rattle.base.specs.Lists.{below, present, joined, total, place-of}
-use Rattle.base.specs.Bytes.{number-at}
-use Rattle.base.specs.Search.{search-from}
+use Rattle.base.specs.Bytes.{number-at, number-bytes}
+use Rattle.base.specs.Search.{search-from, once}
 use Rattle.logic.specs.Tables.{Step, Row, Table}
 use Rattle.logic.specs.declared.FileLayout.{FileLayout}
-use Rattle.logic.specs.TableFile.{rows-at, step-bytes, row-bytes, table-file}
+use Rattle.logic.specs.TableFile.{rows-at, header-bytes, step-bytes, row-bytes, table-file}
 use Rattle.pair_graph.specs.Graph.{Graph}
 use Rattle.pair_graph.specs.Steps.{class-in, safe-in, state-in, led-to, graph-with, FlaggedGraph}
 use Rattle.pair_graph.specs.GraphTable.{graph-table}
-use Rattle.maker_order.specs.Orders.{followers, classes-part, same-in, order-of, Numbered}
+use Rattle.maker_order.specs.Orders.{followers, classes-part, same-in, order-of, RowsNumbered}
 use Rattle.maker_file.specs.declared.Written.{Written}
 use Rattle.maker_file.specs.declared.Written.the-variants.{Made, NoRoom}
 
@@ -45,7 +45,7 @@ pub record ShortNumbers (layout : FileLayout) : Type 0 where
   pub most : layout .width ≤ 2
 
 -- What the writer answers and leaves in the output: the file from 0 on if there is room for it, and else the output as it was.
-pub record Writes (file out : List ℕ) (answer : Written) (after : List ℕ) : Type 0 where
+pub record WritesTable (file out : List ℕ) (answer : Written) (after : List ℕ) : Type 0 where
   pub answered : answer ≡ pick (ltb (length out) (length file)) (λ _. NoRoom) (λ _. Made (length file))
   pub left : after ≡ pick (ltb (length out) (length file)) (λ _. out) (λ _. sets out 0 file)
 
@@ -102,12 +102,20 @@ rows-of graph flags area rows actions =
 -- The rows are in order in the area.
 pub record Laid (graph flags area : List ℕ) (n actions rows : ℕ) : Type 0 where
   pub held : FlaggedGraph n actions graph flags
-  pub numbered : Numbered n area rows
-  pub order : order-of area rows ≡ search-from (same-in (classes-part area)) (followers graph flags actions) n 0
+  pub numbered : RowsNumbered n area rows
+  pub order : order-of area rows ≡ search-from (same-in (classes-part area)) (followers graph flags actions) once n 0
 
 -- Pair i stands for a row.
 pub record IsRow (area : List ℕ) (rows i : ℕ) : Type 0 where
   pub listed : List·Memᴰ i (order-of area rows)
+
+-- The first four numbers of the header are written: rows, steps, and where each begin.
+pub record WroteCounts (rows steps place : ℕ) (out after : List ℕ) : Type 0 where
+  pub left : after ≡ sets (sets out 0 (number-bytes 2 rows ++ number-bytes 2 steps)) 4 (number-bytes 2 rows-at ++ number-bytes 2 place)
+
+-- The header is written.
+pub record WroteHeader (layout : FileLayout) (rows steps states actions : ℕ) (out after : List ℕ) : Type 0 where
+  pub left : after ≡ sets out 0 (header-bytes layout rows steps states actions)
 
 -- Steps are written from p on; the next ones go to `next`.
 pub record Wrote (steps : List Step) (out : List ℕ) (p : ℕ) (after : List ℕ) (next : ℕ) : Type 0 where
@@ -116,7 +124,7 @@ pub record Wrote (steps : List Step) (out : List ℕ) (p : ℕ) (after : List �
   pub behind : next ≡ p + 3 * length steps
 
 -- The row of pair j's class stands in the area, as its number plus 1.
-pub record Marked (area : List ℕ) (n j : ℕ) : Type 0 where
+pub record RowsMarked (area : List ℕ) (n j : ℕ) : Type 0 where
   pub class-there : 2 * j + 1 < length area
   pub mark-there : 2000 + 2 * n + 2 * number-at 2 area (2 * j) + 1 < length area
   pub marked : 1 ≤ number-at 2 area (2000 + 2 * n + 2 * number-at 2 area (2 * j))

@@ -7,10 +7,10 @@ ghost use lib.ListN.{length};
 ghost use lib.Seq.{sets};
 ghost use Rattle.base.specs.Lists.{present};
 ghost use Rattle.base.specs.Bytes.{number-at, number-bytes};
-ghost use Rattle.logic.specs.TableFile.{rows-at, steps-at, header-bytes, table-file};
+ghost use Rattle.logic.specs.TableFile.{rows-at, steps-at, table-file};
 ghost use Rattle.pair_graph.specs.Steps.{led-to, FlaggedGraph};
 ghost use Rattle.maker_order.specs.Orders.{followers, order-of};
-ghost use Rattle.maker_file.specs.Writing.{table-in, Writable, ShortNumbers, Writes, steps-total, step-of, steps-of, packed-of, Laid, IsRow, Marked, Wrote, WroteRows, WroteFile};
+ghost use Rattle.maker_file.specs.Writing.{table-in, Writable, ShortNumbers, WritesTable, steps-total, step-of, steps-of, packed-of, Laid, IsRow, RowsMarked, Wrote, WroteCounts, WroteHeader, WroteRows, WroteFile};
 use logic::FileLayout;
 use maker_order;
 use pair_graph::Led;
@@ -34,7 +34,7 @@ fn pair_of(area: &[u8], r: usize) -> usize
 
 // The row of pair j's class.
 fn row_of(area: &[u8], pairs: usize, j: usize) -> usize
-    requires { ⌜ Marked (now area) pairs j ⌝ }
+    requires { ⌜ RowsMarked (now area) pairs j ⌝ }
     ensures { λ r. ⌜ r + 1 ≡ number-at 2 (now (area .entry)) (2000 + 2 * pairs + 2 * number-at 2 (now (area .entry)) (2 * j)) ⌝ }
 {
     let class = pair_graph::class(area, j);
@@ -90,7 +90,25 @@ fn total_steps(
     total
 }
 
-// Writes the header.
+// WritesTable two two-byte numbers at p.
+fn write_two_numbers(out: &mut [u8], p: usize, a: usize, b: usize)
+    requires { ⌜ p + 4 ≤ length (now out) ⌝ }
+    ensures { λ _. ⌜ now (out .exit) ≡ sets (now (out .entry)) p (number-bytes 2 a ++ number-bytes 2 b) ⌝ }
+{
+    area_bytes::put_two_bytes(out, p, a);
+    area_bytes::put_two_bytes(out, p + 2, b);
+}
+
+// WritesTable the first four numbers of the header: rows, steps, and where each begin.
+fn write_counts(out: &mut [u8], rows: usize, steps: usize, place: usize)
+    requires { ⌜ rows-at ≤ length (now out) ⌝ }
+    ensures { λ _. ⌜ WroteCounts rows steps place (now (out .entry)) (now (out .exit)) ⌝ }
+{
+    write_two_numbers(out, 0, rows, steps);
+    write_two_numbers(out, 4, file_layout::ROWS_AT, place);
+}
+
+// WritesTable the header.
 fn write_header(
     out: &mut [u8],
     layout: FileLayout,
@@ -102,18 +120,22 @@ fn write_header(
     requires { ⌜ rows-at ≤ length (now out) ⌝ }
     requires { ⌜ rows ≤ 1000 ⌝ }
     requires { ⌜ ShortNumbers layout ⌝ }
-    ensures { λ _. ⌜ now (out .exit) ≡ sets (now (out .entry)) 0 (header-bytes layout rows steps states actions) ⌝ }
+    ensures { λ _. ⌜ WroteHeader layout rows steps states actions (now (out .entry)) (now (out .exit)) ⌝ }
 {
-    let steps_at = file_layout::row_at(layout, rows);
-    area_bytes::put_two_bytes(out, 0, rows);
-    area_bytes::put_two_bytes(out, 2, steps);
-    area_bytes::put_two_bytes(out, 4, file_layout::ROWS_AT);
-    area_bytes::put_two_bytes(out, 6, steps_at);
-    area_bytes::put_two_bytes(out, 8, states);
-    area_bytes::put_two_bytes(out, 10, actions);
+    write_counts(out, rows, steps, file_layout::row_at(layout, rows));
+    write_two_numbers(out, 8, states, actions);
 }
 
-// Writes a row at p: state, step count, first step.
+// WritesTable at p a number in one byte, and behind it one in two.
+fn write_three_bytes(out: &mut [u8], p: usize, small: usize, number: usize)
+    requires { ⌜ p + 3 ≤ length (now out) ⌝ }
+    ensures { λ _. ⌜ now (out .exit) ≡ sets (now (out .entry)) p (number-bytes 1 small ++ number-bytes 2 number) ⌝ }
+{
+    area_bytes::put_number(out, p, 1, small);
+    area_bytes::put_two_bytes(out, p + 1, number);
+}
+
+// WritesTable a row at p: state, step count, first step.
 fn write_row(out: &mut [u8], p: usize, width: usize, state: usize, count: usize, first: usize)
     requires { ⌜ 1 ≤ width ⌝ }
     requires { ⌜ width ≤ 2 ⌝ }
@@ -121,11 +143,10 @@ fn write_row(out: &mut [u8], p: usize, width: usize, state: usize, count: usize,
     ensures { λ _. ⌜ now (out .exit) ≡ sets (now (out .entry)) p (number-bytes width state ++ (number-bytes 1 count ++ number-bytes 2 first)) ⌝ }
 {
     area_bytes::put_number(out, p, width, state);
-    area_bytes::put_number(out, p + width, 1, count);
-    area_bytes::put_two_bytes(out, p + width + 1, first);
+    write_three_bytes(out, p + width, count, first);
 }
 
-// Writes the rows, each with the number of steps before it as its first step.
+// WritesTable the rows, each with the number of steps before it as its first step.
 fn write_rows(
     graph: &[u8],
     flags: &[u8],
@@ -159,16 +180,7 @@ fn write_rows(
     }
 }
 
-// Writes a step at p: action, target row.
-fn write_step(out: &mut [u8], p: usize, a: usize, target: usize)
-    requires { ⌜ p + 3 ≤ length (now out) ⌝ }
-    ensures { λ _. ⌜ now (out .exit) ≡ sets (now (out .entry)) p (number-bytes 1 a ++ number-bytes 2 target) ⌝ }
-{
-    out[p] = (a % 256) as u8;
-    area_bytes::put_two_bytes(out, p + 1, target);
-}
-
-// Writes the step of action a from pair i at p, if it is allowed. Returns where the next step goes.
+// WritesTable the step of action a from pair i at p, if it is allowed. Returns where the next step goes.
 fn write_allowed(
     graph: &[u8],
     flags: &[u8],
@@ -190,11 +202,11 @@ fn write_allowed(
     let Led::To(j) = pair_graph::allowed(graph, flags, pairs, actions, i, a) else {
         return p;
     };
-    write_step(out, p, a, row_of(area, pairs, j));
+    write_three_bytes(out, p, a, row_of(area, pairs, j));
     p + file_layout::STEP_SIZE
 }
 
-// Writes the steps from pair i at p, actions ascending. Returns where the next step goes.
+// WritesTable the steps from pair i at p, actions ascending. Returns where the next step goes.
 fn write_steps_of(
     graph: &[u8],
     flags: &[u8],
@@ -220,7 +232,7 @@ fn write_steps_of(
     next
 }
 
-// Writes the steps of all rows at p, packed in row order. Returns where the file ends.
+// WritesTable the steps of all rows at p, packed in row order. Returns where the file ends.
 fn write_steps(
     graph: &[u8],
     flags: &[u8],
@@ -254,7 +266,7 @@ fn write_steps(
     next
 }
 
-// Writes the table of so many rows with so many steps. Returns its length.
+// WritesTable the table of so many rows with so many steps. Returns its length.
 fn write_file(
     graph: &[u8],
     flags: &[u8],
@@ -287,7 +299,7 @@ fn write_file(
     )
 }
 
-// Writes the table of the safe pairs and their classes in this layout, if there is room for it.
+// WritesTable the table of the safe pairs and their classes in this layout, if there is room for it.
 // Behind the classes the area is used for the order of the rows.
 pub fn write_table(
     graph: &[u8],
@@ -301,7 +313,7 @@ pub fn write_table(
 ) -> Written
     requires { ⌜ Writable (now graph) (now flags) (now classes) pairs actions ⌝ }
     requires { ⌜ ShortNumbers layout ⌝ }
-    ensures { λ r. ⌜ Writes (table-file layout states actions (table-in (now (graph .entry)) (now (flags .entry)) (now (classes .entry)) pairs actions)) (now (out .entry)) r (now (out .exit)) ⌝ }
+    ensures { λ r. ⌜ WritesTable (table-file layout states actions (table-in (now (graph .entry)) (now (flags .entry)) (now (classes .entry)) pairs actions)) (now (out .entry)) r (now (out .exit)) ⌝ }
 {
     let rows = maker_order::order_rows(graph, flags, classes, pairs, actions);
     let total = total_steps(graph, flags, classes, pairs, actions, rows);

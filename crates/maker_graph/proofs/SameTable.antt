@@ -9,14 +9,14 @@ use native.Mathlib.Omega.{arith}
 use lib.ListN.{length, getD, length-map}
 use lib.Dec.{ltb}
 use Rattle.base.specs.Choice.{pick}
-use Rattle.base.specs.Lists.{some-of, below, present, place-of}
-use Rattle.base.specs.Search.{new-ones, search-on, search-from}
+use Rattle.base.specs.Lists.{some-of, below, present, place-of, total}
+use Rattle.base.specs.Search.{new-ones, search-on, search-from, once}
 use Rattle.base.proofs.Lists.{mem-below, never-both, present-map-out}
-use Rattle.base.proofs.Search.{search-first}
+use Rattle.base.proofs.Search.{search-first, total-once}
 use Rattle.logic.specs.Tower.{Tower}
 use Rattle.logic.specs.Book.{Book}
 use Rattle.logic.specs.Tables.{Step, Row}
-use Rattle.pending.specs.Pairs.{Pair, same-pair, first-pair, pair-followers, pairs, most-pairs}
+use Rattle.pending.specs.Pairs.{Pair, same-pair, first-pair, pair-followers, pairs, pair-weight, most-pairs}
 use Rattle.outcome.specs.Game.{safe, safe-step}
 use Rattle.outcome.specs.Rows.{one-row, safe-followers, row-pairs, row-step, made-row, made-table}
 use Rattle.pair_graph.specs.Graph.{Graph, allowed-to, SafePair, Classes}
@@ -89,14 +89,15 @@ module _ {X Y : Type 0} (f : X → Y) (same : X → X → Bool) (same′ : Y →
   module _ (followers : X → List X) (followers′ : Y → List Y) (follow : (x : X) → Valid x → map f (followers x) ≡ followers′ (f x))
       (stay : (x : X) → Valid x → All (followers x)) (most : ℕ) where
     search-map : (n : ℕ) (seen todo : List X) → All seen → All todo
-        → map f (search-on same followers most n seen todo) ≡ search-on same′ followers′ most n (map f seen) (map f todo)
+        → map f (search-on same followers once most n seen todo) ≡ search-on same′ followers′ once most n (map f seen) (map f todo)
     unfolding search-on
     search-map zero seen todo ae ao = refl
     search-map (suc n) seen [] ae ao = refl
     search-map (suc n) seen (x ∷ todo) ae ao =
-        go (ltb most (length seen)) (ltb most (length (map f seen))) (ap (ltb most) (sym (length-map seen f)))
+        go (ltb most (total (map once seen))) (ltb most (total (map once (map f seen))))
+        (ap (ltb most) (total-once seen ∙ sym (length-map seen f) ∙ sym (total-once (map f seen))))
         (search-map n (seen ++ fresh) (todo ++ fresh) (all-append seen fresh ae all-fresh) (all-append todo fresh (all-rest x todo ao) all-fresh)
-        ∙ ap₂ (search-on same′ followers′ most n) (along seen) (along todo))
+        ∙ ap₂ (search-on same′ followers′ once most n) (along seen) (along todo))
       where
         v : Valid x
         v = ao x (List·Memᴰ·head refl)
@@ -114,22 +115,22 @@ module _ {X Y : Type 0} (f : X → Y) (same : X → X → Bool) (same′ : Y →
         along l = map-append f l fresh ∙ ap (λ z. map f l ++ z) same-fresh
 
         go : (b c : Bool) → b ≡ c
-            → map f (search-on same followers most n (seen ++ fresh) (todo ++ fresh))
-            ≡ search-on same′ followers′ most n (map f seen ++ new-ones same′ (map f seen) (followers′ (f x))) (map f todo ++ new-ones same′ (map f seen) (followers′ (f x)))
-            → map f (pick b (λ _. seen) (λ _. search-on same followers most n (seen ++ fresh) (todo ++ fresh)))
+            → map f (search-on same followers once most n (seen ++ fresh) (todo ++ fresh))
+            ≡ search-on same′ followers′ once most n (map f seen ++ new-ones same′ (map f seen) (followers′ (f x))) (map f todo ++ new-ones same′ (map f seen) (followers′ (f x)))
+            → map f (pick b (λ _. seen) (λ _. search-on same followers once most n (seen ++ fresh) (todo ++ fresh)))
             ≡ pick c (λ _. map f seen)
-            (λ _. search-on same′ followers′ most n (map f seen ++ new-ones same′ (map f seen) (followers′ (f x))) (map f todo ++ new-ones same′ (map f seen) (followers′ (f x))))
+            (λ _. search-on same′ followers′ once most n (map f seen ++ new-ones same′ (map f seen) (followers′ (f x))) (map f todo ++ new-ones same′ (map f seen) (followers′ (f x))))
         go true true e h = refl
         go true false e h = never-both refl e
         go false true e h = never-both e refl
         go false false e h = h
 
-    search-valid : (n : ℕ) (seen todo : List X) → All seen → All todo → All (search-on same followers most n seen todo)
+    search-valid : (n : ℕ) (seen todo : List X) → All seen → All todo → All (search-on same followers once most n seen todo)
     unfolding search-on
     search-valid zero seen todo ae ao = ae
     search-valid (suc n) seen [] ae ao = ae
     search-valid (suc n) seen (x ∷ todo) ae ao =
-        go (ltb most (length seen))
+        go (ltb most (total (map once seen)))
         (search-valid n (seen ++ fresh) (todo ++ fresh) (all-append seen fresh ae all-fresh) (all-append todo fresh (all-rest x todo ao) all-fresh))
       where
         fresh : List X
@@ -138,17 +139,17 @@ module _ {X Y : Type 0} (f : X → Y) (same : X → X → Bool) (same′ : Y →
         all-fresh : All fresh
         all-fresh = new-all seen (followers x) (stay x (ao x (List·Memᴰ·head refl)))
 
-        go : (b : Bool) → All (search-on same followers most n (seen ++ fresh) (todo ++ fresh))
-            → All (pick b (λ _. seen) (λ _. search-on same followers most n (seen ++ fresh) (todo ++ fresh)))
+        go : (b : Bool) → All (search-on same followers once most n (seen ++ fresh) (todo ++ fresh))
+            → All (pick b (λ _. seen) (λ _. search-on same followers once most n (seen ++ fresh) (todo ++ fresh)))
         go true more = ae
         go false more = more
 
     -- A search on numbers finds what the search on what they stand for finds.
-    found-map : (x : X) → Valid x → map f (search-from same followers most x) ≡ search-from same′ followers′ most (f x)
+    found-map : (x : X) → Valid x → map f (search-from same followers once most x) ≡ search-from same′ followers′ once most (f x)
     unfolding search-from
     found-map x v = search-map (suc most) (x ∷ []) (x ∷ []) (all-one x v) (all-one x v)
 
-    found-valid : (x : X) → Valid x → All (search-from same followers most x)
+    found-valid : (x : X) → Valid x → All (search-from same followers once most x)
     unfolding search-from
     found-valid x v = search-valid (suc most) (x ∷ []) (x ∷ []) (all-one x v) (all-one x v)
 
@@ -185,7 +186,7 @@ module _ (tower : Tower) (book : Book) (graph : Graph) (staying : ℕ → Bool) 
   first-number : num 0 ≡ first-pair tower book
   unfolding numbered pairs
   first-number =
-      let (rest, e) = search-first same-pair (pair-followers tower book) most-pairs (first-pair tower book) in
+      let (rest, e) = search-first same-pair (pair-followers tower book) pair-weight most-pairs (first-pair tower book) in
       ap (λ l. getD l 0 (first-pair tower book)) e
 
   first-safe-pair : SafePair graph staying 0
@@ -201,7 +202,7 @@ module _ (tower : Tower) (book : Book) (graph : Graph) (staying : ℕ → Bool) 
           some-pair : 0 < length (pairs tower book)
           some-pair =
               unfold pairs in
-              (let (rest, e) = search-first same-pair (pair-followers tower book) most-pairs (first-pair tower book) in
+              (let (rest, e) = search-first same-pair (pair-followers tower book) pair-weight most-pairs (first-pair tower book) in
               subst (λ l. 0 < length l) (sym e) (omega arith))
 
   agrees : (i j : ℕ) → SafePair graph staying i → SafePair graph staying j → same-class graph staying class i j ≡ one-row tower book (num i) (num j)
@@ -227,7 +228,7 @@ module _ (tower : Tower) (book : Book) (graph : Graph) (staying : ℕ → Bool) 
   order-pairs =
       found-map num (same-class graph staying class) (one-row tower book) (SafePair graph staying) agrees (allowed-all graph staying class)
       (safe-followers tower book) follow stay (graph .pairs) 0 first-safe-pair
-      ∙ ap₂ (search-from (one-row tower book) (safe-followers tower book)) (g .of .count) first-number
+      ∙ ap₂ (search-from (one-row tower book) (safe-followers tower book) once) (g .of .count) first-number
 
   order-safe : (i : ℕ) → List·Memᴰ i (row-order graph staying class) → SafePair graph staying i
   unfolding row-order

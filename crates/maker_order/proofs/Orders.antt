@@ -13,11 +13,11 @@ use borrow.Author.Tests.{eqb-true, eq-eqb, ne-eqb, le-ltb}
 use Rattle.base.specs.Choice.{pick}
 use Rattle.base.specs.Lists.{below, present, some-of, place-of}
 use Rattle.base.specs.Bytes.{number-at}
-use Rattle.base.specs.Search.{Apart, new-ones, search-on, search-from}
+use Rattle.base.specs.Search.{Apart, new-ones, search-on, search-from, once}
 use Rattle.base.proofs.Lists.{IsSame, never-both, false-by, true-by, or-fails-left, or-fails-right, or-neither, some-append, mem-getD, below-mem, length-below, place-of-append-left, place-of-append-right}
-use Rattle.base.proofs.Search.{apart-few}
+use Rattle.base.proofs.Search.{apart-few, total-once}
 use Rattle.pair_graph.specs.Steps.{class-in}
-use Rattle.maker_order.specs.Orders.{classes-part, same-in, order-at, order-of, of-class, mark-in, grown, Numbered}
+use Rattle.maker_order.specs.Orders.{classes-part, same-in, order-at, order-of, of-class, mark-in, grown, RowsNumbered}
 use Rattle.base.proofs.Bytes.{number-at-take}
 
 -- ---- pairs of one class
@@ -91,14 +91,8 @@ order-same area after zero h = refl
 order-same area after (suc k) h =
     ap₂ (λ (l : List ℕ) (m : ℕ). l ++ (m ∷ [])) (order-same area after k (λ m l. h m (omega arith))) (h k (omega arith))
 
--- There are at most as many rows as pairs.
-pub rows-few : (n : ℕ) (area : List ℕ) (rows : ℕ) → Numbered n area rows → rows ≤ n
-rows-few n area rows h =
-    let few = apart-below (classes-part area) (order-of area rows) n (h .apart) (h .pairs-below) in
-    omega (arith, length-order area rows)
-
 -- The pair of a row is one of the pairs.
-pub row-below : (n : ℕ) (area : List ℕ) (rows r : ℕ) → Numbered n area rows → r < rows → number-at 2 area (order-at + 2 * r) < n
+pub row-below : (n : ℕ) (area : List ℕ) (rows r : ℕ) → RowsNumbered n area rows → r < rows → number-at 2 area (order-at + 2 * r) < n
 row-below n area rows r h l =
     let b = h .pairs-below (getD (order-of area rows) r 0) (mem-getD (order-of area rows) r 0 (omega (arith, length-order area rows))) in
     omega (arith, order-read area rows r l)
@@ -203,19 +197,19 @@ grown-present part seen (some j) js = grown-cons part seen j js
 module _ (part : List ℕ) (follow : ℕ → List ℕ) (n : ℕ) where
   -- A turn of the search: the next of those seen is looked at.
   pub search-turn : (seen : List ℕ) (r k : ℕ) → r < length seen → length seen ≤ n
-      → search-on (same-in part) follow n (suc k) seen (drop r seen)
-      ≡ search-on (same-in part) follow n k (grown part seen (follow (getD seen r 0))) (drop (suc r) (grown part seen (follow (getD seen r 0))))
+      → search-on (same-in part) follow once n (suc k) seen (drop r seen)
+      ≡ search-on (same-in part) follow once n k (grown part seen (follow (getD seen r 0))) (drop (suc r) (grown part seen (follow (getD seen r 0))))
   unfolding search-on grown
   search-turn seen r k l few =
       let more = new-ones (same-in part) seen (follow (getD seen r 0)) in
-      rw (drop-cons seen r 0 l, le-ltb n (length seen) few, drop-append-le (suc r) seen more l)
+      rw (drop-cons seen r 0 l, total-once seen, le-ltb n (length seen) few, drop-append-le (suc r) seen more l)
 
   -- None is left to look at.
-  pub search-done : (seen : List ℕ) (k : ℕ) → search-on (same-in part) follow n (suc k) seen (drop (length seen) seen) ≡ seen
+  pub search-done : (seen : List ℕ) (k : ℕ) → search-on (same-in part) follow once n (suc k) seen (drop (length seen) seen) ≡ seen
   unfolding search-on
   search-done seen k = rw (drop-length seen)
 
   -- At first pair 0 is seen, and not looked at.
-  pub search-start : search-on (same-in part) follow n (suc n) (0 ∷ []) (0 ∷ []) ≡ search-from (same-in part) follow n 0
+  pub search-start : search-on (same-in part) follow once n (suc n) (0 ∷ []) (0 ∷ []) ≡ search-from (same-in part) follow once n 0
   unfolding search-from
   search-start = refl

@@ -7,30 +7,31 @@ use mathlib.Core.Path.{_≡_, refl, sym, _∙_, ap, subst}
 use mathlib.Core.Logic.{_⊎_, inl, inr, ⊎-elim}
 use mathlib.Core.Bool.{Bool, true, false}
 use mathlib.Core.List.{List, [], _∷_, _++_, List·Memᴰ, List·Memᴰ·append-cases, List·Memᴰ·eq-of-singleton, List·Memᴰ·not-nil}
-use lib.ListN.{length, getD, set, take, drop, length-append, length-set}
-use lib.Seq.{take-take, take-set-le, getD-set-same, getD-set-other}
+use lib.ListN.{length, getD, take, drop, replicate, length-append, length-drop, length-replicate}
+use lib.Seq.{take-take, take-append-le, length-take-le}
 use mir.Syntax.{w64}
 use mir.Val.{Fits}
 use Rattle.base.specs.Lists.{present, some-of}
 use Rattle.base.specs.Bytes.{number-at}
-use Rattle.base.specs.Search.{Apart, search-on, search-from}
+use Rattle.base.specs.Search.{Apart, search-on, search-from, once}
 use Rattle.pair_graph.specs.Steps.{class-in, led-to, led-of, FlaggedGraph}
 use Rattle.pair_graph.specs.declared.Led.{Led}
 use Rattle.pair_graph.specs.declared.Led.the-variants.{To, Nowhere}
 use Rattle.pair_graph.proofs.Moves.{led-some, led-none, allowed-below}
-use Rattle.maker_order.specs.Orders.{followers, order-at, marks-at, classes-part, same-in, order-of, of-class, mark-in, grown, Numbered, Grows, Classed, Cleared, InOrder}
+use Rattle.maker_order.specs.Orders.{followers, order-at, marks-at, classes-part, same-in, order-of, of-class, mark-in, grown, RowsNumbered, Grows, Classed, Cleared, InOrder}
+use Rattle.area_bytes.proofs.Clearing.{part-byte}
 use Rattle.area_bytes.proofs.Numbers.{stored, stored-read, stored-beside, take-stored, length-stored}
 use Rattle.maker_order.proofs.Rest.{rest, rest-all, rest-next, rest-none}
-use Rattle.maker_order.proofs.Orders.{class-read, apart-snoc, apart-below, length-order, order-read, order-same, rows-few, row-below, none-marked, some-marked, of-same, mark-new, mark-other, grown-none, grown-known, grown-new, grown-present, grown-longer, search-turn, search-done, search-start}
+use Rattle.maker_order.proofs.Orders.{class-read, apart-snoc, apart-below, length-order, order-read, order-same, row-below, none-marked, some-marked, of-same, mark-new, mark-other, grown-none, grown-known, grown-new, grown-present, grown-longer, search-turn, search-done, search-start}
 
 -- ---- meeting a pair
 
 -- Meeting none.
-pub meets-none : (n : ℕ) (area : List ℕ) (rows : ℕ) → Numbered n area rows → Grows n area rows [] area rows
+pub meets-none : (n : ℕ) (area : List ℕ) (rows : ℕ) → RowsNumbered n area rows → Grows n area rows [] area rows
 meets-none n area rows h =
     record { same-length = refl; same-classes = refl; numbered = h; order = sym (grown-none (classes-part area) (order-of area rows)) }
 
-module _ (n : ℕ) (area : List ℕ) (rows j : ℕ) (h : Numbered n area rows) (l : j < n) where
+module _ (n : ℕ) (area : List ℕ) (rows j : ℕ) (h : RowsNumbered n area rows) (l : j < n) where
   abbrev part : List ℕ
   part = classes-part area
 
@@ -88,25 +89,7 @@ module _ (n : ℕ) (area : List ℕ) (rows j : ℕ) (h : Numbered n area rows) (
             let few = apart-below part (seen ++ (j ∷ [])) n both-apart both-below in
             omega (arith, length-append seen (j ∷ []), length-order area rows)
 
-        -- Its place in the list is there.
-        pub row-there : 2000 + 2 * rows + 1 < length area
-        row-there = omega (arith, row-left)
-
-        -- The numbers on the way fit.
-        pub rows-fit : Fits w64 (2 * rows)
-        rows-fit = omega (arith, row-left)
-
-        pub row-fits : Fits w64 (2000 + 2 * rows)
-        row-fits = omega (arith, row-left)
-
-        pub next-fits : Fits w64 (rows + 1)
-        next-fits = omega (arith, row-left)
-
         module _ (y : List ℕ) (is-y : y ≡ stored area (2000 + 2 * rows) j) where
-          -- The mark is there still.
-          pub mark-there-still : 2000 + 2 * n + 2 * c + 1 < length y
-          mark-there-still = omega (arith, mark-there, ap length is-y, length-stored area (2000 + 2 * rows) j)
-
           module _ (z : List ℕ) (is-z : z ≡ stored y (2000 + 2 * n + 2 * c) (rows + 1)) where
             abbrev mark : ℕ
             mark = 2000 + 2 * n + 2 * c
@@ -137,7 +120,7 @@ module _ (n : ℕ) (area : List ℕ) (rows j : ℕ) (h : Numbered n area rows) (
                 ap (λ (l : List ℕ). number-at 2 l (order-at + 2 * rows)) is-z
                 ∙ stored-beside y mark (rows + 1) (order-at + 2 * rows) (inl (omega (arith, row-left)))
                 ∙ ap (λ (l : List ℕ). number-at 2 l (order-at + 2 * rows)) is-y
-                ∙ stored-read area (2000 + 2 * rows) j row-there (omega arith)
+                ∙ stored-read area (2000 + 2 * rows) j (omega (arith, row-left)) (omega arith)
 
             all-rows : order-of z (rows + 1) ≡ seen ++ (j ∷ [])
             unfolding order-of
@@ -148,7 +131,7 @@ module _ (n : ℕ) (area : List ℕ) (rows j : ℕ) (h : Numbered n area rows) (
               where
                 go : Dec (c ≡ d) → number-at 2 z (marks-at n + 2 * d) ≡ mark-in part (seen ++ (j ∷ [])) d
                 go (yes e) =
-                    let k : mark + 1 < length y = mark-there-still in
+                    let k : mark + 1 < length y = omega (arith, mark-there, ap length is-y, length-stored area (2000 + 2 * rows) j) in
                     let new-mark = stored-read y mark (rows + 1) k (omega (arith, row-left)) in
                     let here : marks-at n + 2 * d ≡ mark = omega arith in
                     let f = mark-new part seen c j class-is none-of-class in
@@ -174,6 +157,7 @@ module _ (n : ℕ) (area : List ℕ) (rows j : ℕ) (h : Numbered n area rows) (
                   numbered =
                       record {
                         pairs = h .pairs;
+                        few = omega (arith, row-left);
                         room = omega (arith, long);
                         classes = λ i k. rw same-part (h .classes i k);
                         pairs-below = rw all-rows both-below;
@@ -184,7 +168,7 @@ module _ (n : ℕ) (area : List ℕ) (rows j : ℕ) (h : Numbered n area rows) (
                 }
 
 -- An action that leads nowhere.
-pub meets-nothing : (graph flags : List ℕ) (n : ℕ) (area : List ℕ) (rows i a : ℕ) (r : Led) → Numbered n area rows
+pub meets-nothing : (graph flags : List ℕ) (n : ℕ) (area : List ℕ) (rows i a : ℕ) (r : Led) → RowsNumbered n area rows
     → r ≡ led-of (led-to graph flags i a) → r ≡ Nowhere → Grows n area rows (present (led-to graph flags i a ∷ [])) area rows
 unfolding present
 meets-nothing graph flags n area rows i a r h e f =
@@ -212,12 +196,12 @@ meets-led graph flags n area rows i a j r z s e f g =
 pub record Expanding (graph flags : List ℕ) (n actions i : ℕ) (first : List ℕ) (rows-first : ℕ) (area : List ℕ) (rows a : ℕ) : Type 0 where
   pub same-length : length area ≡ length first
   pub same-classes : classes-part area ≡ classes-part first
-  pub numbered : Numbered n area rows
+  pub numbered : RowsNumbered n area rows
   pub left : grown (classes-part first) (order-of area rows) (rest (led-to graph flags i) actions a)
       ≡ grown (classes-part first) (order-of first rows-first) (followers graph flags actions i)
 
 -- At first none is done.
-pub expand-start : (graph flags : List ℕ) (n actions i : ℕ) (area : List ℕ) (rows : ℕ) → Numbered n area rows
+pub expand-start : (graph flags : List ℕ) (n actions i : ℕ) (area : List ℕ) (rows : ℕ) → RowsNumbered n area rows
     → Expanding graph flags n actions i area rows area rows 0
 unfolding followers
 expand-start graph flags n actions i area rows h =
@@ -259,71 +243,57 @@ expand-end graph flags n actions i first rows-first area rows a h l =
 
 -- ---- clearing the marks
 
--- Nothing is cleared at first.
-pub clear-start : (n : ℕ) (area : List ℕ) → Cleared n area area 0
-clear-start n area = record { same-length = refl; before = refl; zeros = λ i l. absurd (omega arith) }
-
--- One more byte.
-pub clear-more : (n : ℕ) (area now : List ℕ) (k : ℕ) → Cleared n area now k → 2000 + 2 * n + 2000 ≤ length area
-    → k < 2000 → Cleared n area (set now (2000 + 2 * n + k) 0) (k + 1)
-clear-more n area now k h room l =
-    record { same-length = length-set now (2000 + 2 * n + k) 0 ∙ h .same-length; before = take-set-le (marks-at n) now (2000 + 2 * n + k) 0 (omega arith) ∙ h .before; zeros = go }
-  where
-    go : (i : ℕ) → i < k + 1 → getD (set now (2000 + 2 * n + k) 0) (marks-at n + i) 0 ≡ 0
-    go i b = at (decLt i k)
-      where
-        at : Dec (i < k) → getD (set now (2000 + 2 * n + k) 0) (marks-at n + i) 0 ≡ 0
-        at (yes m) = getD-set-other now (2000 + 2 * n + k) (marks-at n + i) 0 0 (λ e. omega arith) ∙ h .zeros i m
-        at (no m) =
-            let e : i ≡ k = omega arith in
-            rw e (getD-set-same now (2000 + 2 * n + k) 0 0 (omega (arith, h .same-length)))
-
--- All are cleared.
-pub clear-end : (n : ℕ) (area now : List ℕ) (k : ℕ) → Cleared n area now k → 2000 ≤ k → Cleared n area now 2000
-clear-end n area now k h l =
-    record { same-length = h .same-length; before = h .before; zeros = λ i b. h .zeros i (omega arith) }
-
--- A part of what is kept is kept.
-cleared-part : (n : ℕ) (area now : List ℕ) (k : ℕ) → Cleared n area now k → classes-part now ≡ classes-part area
-cleared-part n area now k h =
-    sym (take-take order-at (marks-at n) now (omega arith)) ∙ ap (take order-at) (h .before) ∙ take-take order-at (marks-at n) area (omega arith)
+-- An area with zeros in the place of the marks.
+pub marks-cleared : (n : ℕ) (area zeros : List ℕ) → 2000 + 2 * n + 2000 ≤ length area
+    → zeros ≡ replicate (length (take (2000 + 2 * n + 2000 - (2000 + 2 * n)) (drop (2000 + 2 * n) area))) 0
+    → Cleared n area (take (2000 + 2 * n) area ++ (zeros ++ drop (2000 + 2 * n + 2000 - (2000 + 2 * n)) (drop (2000 + 2 * n) area)))
+unfolding number-at
+marks-cleared n area zeros room e =
+    let start = 2000 + 2 * n in
+    let behind = drop (start + 2000 - start) (drop start area) in
+    let before = length-take-le start area (omega arith) in
+    let left = length-drop start area in
+    let many : length (take (start + 2000 - start) (drop start area)) ≡ 2000 = length-take-le (start + 2000 - start) (drop start area) (omega arith) ∙ omega arith in
+    rw (e, many)
+    (record {
+      same-length = simp (length-append, length-replicate, length-drop) (omega arith);
+      same-classes = take-append-le order-at (take start area) (replicate 2000 0 ++ behind) (omega arith) ∙ take-take order-at start area (omega arith);
+      marks = λ c l. omega (
+        arith,
+        part-byte (take start area) behind 2000 (start + 2 * c) (omega arith) (omega arith),
+        part-byte (take start area) behind 2000 (start + 2 * c + 1) (omega arith) (omega arith),
+      );
+    })
 
 -- With the marks cleared there are no rows.
-pub no-rows : (n : ℕ) (area now : List ℕ) → Classed n area → Cleared n area now 2000 → Numbered n now 0
-unfolding order-of Apart number-at mark-in some-of
+pub no-rows : (n : ℕ) (area now : List ℕ) → Classed n area → Cleared n area now → RowsNumbered n now 0
+unfolding order-of Apart mark-in some-of
 no-rows n area now h clear =
     record {
       pairs = h .pairs;
+      few = omega arith;
       room = omega (arith, clear .same-length);
-      classes = λ i l. rw (cleared-part n area now 2000 clear) (h .classes i l);
+      classes = λ i l. rw (clear .same-classes) (h .classes i l);
       pairs-below = λ y m. absurd (List·Memᴰ·not-nil m);
       apart = tt;
-      marks = λ c l.
-          let low = clear .zeros (2 * c) (omega arith) in
-          let e : marks-at n + 2 * c + 1 ≡ marks-at n + (2 * c + 1) = omega arith in
-          let high = ap (λ (p : ℕ). getD now p 0) e ∙ clear .zeros (2 * c + 1) (omega arith) in
-          omega arith;
+      marks = clear .marks;
     }
-
--- The room for the marks.
-pub marks-room : (n : ℕ) (area : List ℕ) → Classed n area → 2000 + 2 * n + 2000 ≤ length area
-marks-room n area h = omega arith
 
 -- ---- the search
 
 -- From the rows of the area at first, those below r are expanded.
-pub record Searching (graph flags : List ℕ) (n actions : ℕ) (first area : List ℕ) (rows r : ℕ) : Type 0 where
+pub record SearchingRows (graph flags : List ℕ) (n actions : ℕ) (first area : List ℕ) (rows r : ℕ) : Type 0 where
   pub same-length : length area ≡ length first
   pub same-classes : classes-part area ≡ classes-part first
-  pub numbered : Numbered n area rows
+  pub numbered : RowsNumbered n area rows
   pub done : r ≤ rows
-  pub left : search-on (same-in (classes-part first)) (followers graph flags actions) n (suc n - r) (order-of area rows)
+  pub left : search-on (same-in (classes-part first)) (followers graph flags actions) once n (suc n - r) (order-of area rows)
       (drop r (order-of area rows))
-      ≡ search-from (same-in (classes-part first)) (followers graph flags actions) n 0
+      ≡ search-from (same-in (classes-part first)) (followers graph flags actions) once n 0
 
 -- At first pair 0 is the one row, and is not expanded.
-pub searching-start : (graph flags : List ℕ) (n actions : ℕ) (area : List ℕ) (rows : ℕ) → Numbered n area rows → order-of area rows ≡ 0 ∷ []
-    → Searching graph flags n actions area area rows 0
+pub searching-start : (graph flags : List ℕ) (n actions : ℕ) (area : List ℕ) (rows : ℕ) → RowsNumbered n area rows → order-of area rows ≡ 0 ∷ []
+    → SearchingRows graph flags n actions area area rows 0
 searching-start graph flags n actions area rows h e =
     let fuel : suc n - 0 ≡ suc n = omega arith in
     record {
@@ -336,13 +306,12 @@ searching-start graph flags n actions area rows h e =
 
 -- The next row is expanded.
 pub searching-more : (graph flags : List ℕ) (n actions : ℕ) (first area : List ℕ) (rows r i : ℕ) (z : List ℕ) (s : ℕ)
-    → Searching graph flags n actions first area rows r → r < rows → i ≡ number-at 2 area (2000 + 2 * r)
-    → Grows n area rows (followers graph flags actions i) z s → Searching graph flags n actions first z s (r + 1)
+    → SearchingRows graph flags n actions first area rows r → r < rows → i ≡ number-at 2 area (2000 + 2 * r)
+    → Grows n area rows (followers graph flags actions i) z s → SearchingRows graph flags n actions first z s (r + 1)
 searching-more graph flags n actions first area rows r i z s h l is-i g =
     let part = classes-part first in
     let follow = followers graph flags actions in
     let seen = order-of area rows in
-    let few = rows-few n area rows (h .numbered) in
     let len = length-order area rows in
     let at : getD seen r 0 ≡ i = order-read area rows r l ∙ sym is-i in
     let grow : grown part seen (follow (getD seen r 0)) ≡ order-of z s =
@@ -357,17 +326,16 @@ searching-more graph flags n actions first area rows r i z s h l is-i g =
       same-classes = g .same-classes ∙ h .same-classes;
       numbered = g .numbered;
       done = omega (arith, length-order z s, ap length grow);
-      left = rw (fuel-next, add-one r) (ap (λ (l : List ℕ). search-on (same-in part) follow n (n - r) l (drop (suc r) l)) (sym grow) ∙ sym turn ∙ left);
+      left = rw (fuel-next, add-one r) (ap (λ (l : List ℕ). search-on (same-in part) follow once n (n - r) l (drop (suc r) l)) (sym grow) ∙ sym turn ∙ left);
     }
 
 -- All rows are expanded.
 pub searching-end : (graph flags : List ℕ) (n actions : ℕ) (first area : List ℕ) (rows r : ℕ)
-    → Searching graph flags n actions first area rows r → rows ≤ r → InOrder graph flags n actions first area rows
+    → SearchingRows graph flags n actions first area rows r → rows ≤ r → InOrder graph flags n actions first area rows
 searching-end graph flags n actions first area rows r h l =
     let part = classes-part first in
     let follow = followers graph flags actions in
     let seen = order-of area rows in
-    let few = rows-few n area rows (h .numbered) in
     let end : r ≡ length seen = omega (arith, length-order area rows) in
     let fuel : suc n - length seen ≡ suc (n - length seen) = omega (arith, length-order area rows) in
     record {
@@ -377,27 +345,9 @@ searching-end graph flags n actions first area rows r h l =
       order = sym (search-done part follow n seen (n - length seen)) ∙ (rw (end, fuel) at (h .left));
     }
 
--- A row's place in the list is there.
-pub listed-there : (n : ℕ) (area : List ℕ) (rows r : ℕ) → Numbered n area rows → r < rows → 2000 + 2 * r + 1 < length area
-listed-there n area rows r h l = omega (arith, rows-few n area rows h)
-
--- The numbers on the way to it fit.
-pub listed-fits : (n : ℕ) (area : List ℕ) (rows r : ℕ) → Numbered n area rows → r < rows → Fits w64 (2000 + 2 * r)
-listed-fits n area rows r h l = omega (arith, rows-few n area rows h)
-
-pub listed-twice-fits : (n : ℕ) (area : List ℕ) (rows r : ℕ) → Numbered n area rows → r < rows → Fits w64 (2 * r)
-listed-twice-fits n area rows r h l = omega (arith, rows-few n area rows h)
-
-pub next-row-fits : (n : ℕ) (area : List ℕ) (rows r : ℕ) → Numbered n area rows → r < rows → Fits w64 (r + 1)
-next-row-fits n area rows r h l = omega (arith, rows-few n area rows h)
-
 -- What is read there is one of the pairs.
-pub listed-below : (n : ℕ) (area : List ℕ) (rows r i : ℕ) → Numbered n area rows → r < rows → i ≡ number-at 2 area (2000 + 2 * r) → i < n
+pub listed-below : (n : ℕ) (area : List ℕ) (rows r i : ℕ) → RowsNumbered n area rows → r < rows → i ≡ number-at 2 area (2000 + 2 * r) → i < n
 listed-below n area rows r i h l e = omega (arith, row-below n area rows r h l)
-
--- Fewer rows are left.
-pub fewer-left : (n : ℕ) (area : List ℕ) (rows r : ℕ) → Numbered n area rows → r < rows → n - (r + 1) < n - r
-fewer-left n area rows r h l = omega (arith, rows-few n area rows h)
 
 -- ---- all in all
 
@@ -407,10 +357,10 @@ unfolding order-of some-of
 first-row n area z s g = g .order ∙ grown-new (classes-part area) [] 0 refl
 
 -- The rows after pair 0 are in order.
-pub ordered : (graph flags : List ℕ) (n actions : ℕ) (area now first z : List ℕ) (s rows : ℕ) → Cleared n area now 2000
+pub ordered : (graph flags : List ℕ) (n actions : ℕ) (area now first z : List ℕ) (s rows : ℕ) → Cleared n area now
     → Grows n now 0 (0 ∷ []) first s → InOrder graph flags n actions first z rows → InOrder graph flags n actions area z rows
 ordered graph flags n actions area now first z s rows clear g o =
-    let e = g .same-classes ∙ cleared-part n area now 2000 clear in
+    let e = g .same-classes ∙ clear .same-classes in
     record {
       same-length = o .same-length ∙ g .same-length ∙ clear .same-length;
       same-classes = o .same-classes ∙ e;

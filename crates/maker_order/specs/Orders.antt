@@ -4,12 +4,12 @@ use Prim.Native.Nat.{ℕ, zero, suc, _+_, _*_, _≤_, _<_}
 use mathlib.Core.Path.{_≡_}
 use mathlib.Core.Bool.{Bool}
 use mathlib.Core.List.{List, [], _∷_, _++_, map, List·Memᴰ}
-use lib.ListN.{length, getD, take}
+use lib.ListN.{length, take}
 use lib.Dec.{eqb}
 use Rattle.base.specs.Choice.{pick}
 use Rattle.base.specs.Lists.{below, present, some-of, place-of}
 use Rattle.base.specs.Bytes.{number-at}
-use Rattle.base.specs.Search.{Apart, new-ones, search-from}
+use Rattle.base.specs.Search.{Apart, new-ones, search-from, once}
 use Rattle.pair_graph.specs.Steps.{class-in, led-to}
 
 -- ---- the graph
@@ -54,8 +54,9 @@ unfoldable pub grown : List ℕ → List ℕ → List ℕ → List ℕ
 grown part seen others = seen ++ new-ones (same-in part) seen others
 
 -- The area holds so many rows: pairs below n, no two of one class, and each class's row.
-pub record Numbered (n : ℕ) (area : List ℕ) (rows : ℕ) : Type 0 where
+pub record RowsNumbered (n : ℕ) (area : List ℕ) (rows : ℕ) : Type 0 where
   pub pairs : n ≤ 1000
+  pub few : rows ≤ n
   pub room : 6000 ≤ length area
   pub classes : (i : ℕ) → i < n → class-in (classes-part area) i < 1000
   pub pairs-below : (y : ℕ) → List·Memᴰ y (order-of area rows) → y < n
@@ -66,7 +67,7 @@ pub record Numbered (n : ℕ) (area : List ℕ) (rows : ℕ) : Type 0 where
 pub record Grows (n : ℕ) (area : List ℕ) (rows : ℕ) (others : List ℕ) (after : List ℕ) (rows-after : ℕ) : Type 0 where
   pub same-length : length after ≡ length area
   pub same-classes : classes-part after ≡ classes-part area
-  pub numbered : Numbered n after rows-after
+  pub numbered : RowsNumbered n after rows-after
   pub order : order-of after rows-after ≡ grown (classes-part area) (order-of area rows) others
 
 -- An area with the classes of n pairs, as it is handed over.
@@ -76,15 +77,15 @@ pub record Classed (n : ℕ) (area : List ℕ) : Type 0 where
   pub room : 6000 ≤ length area
   pub classes : (i : ℕ) → i < n → class-in (classes-part area) i < 1000
 
--- So many bytes are 0 where the rows of the classes begin, and what lies before is as it was.
-pub record Cleared (n : ℕ) (area after : List ℕ) (k : ℕ) : Type 0 where
+-- No class has a row, and the classes are as they were.
+pub record Cleared (n : ℕ) (area after : List ℕ) : Type 0 where
   pub same-length : length after ≡ length area
-  pub before : take (marks-at n) after ≡ take (marks-at n) area
-  pub zeros : (i : ℕ) → i < k → getD after (marks-at n + i) 0 ≡ 0
+  pub same-classes : classes-part after ≡ classes-part area
+  pub marks : (c : ℕ) → c < 1000 → number-at 2 after (marks-at n + 2 * c) ≡ 0
 
 -- The rows are in order: the classes are kept, and the rows are what a search from pair 0 meets.
 pub record InOrder (graph flags : List ℕ) (n actions : ℕ) (area after : List ℕ) (rows : ℕ) : Type 0 where
   pub same-length : length after ≡ length area
   pub same-classes : classes-part after ≡ classes-part area
-  pub numbered : Numbered n after rows
-  pub order : order-of after rows ≡ search-from (same-in (classes-part area)) (followers graph flags actions) n 0
+  pub numbered : RowsNumbered n after rows
+  pub order : order-of after rows ≡ search-from (same-in (classes-part area)) (followers graph flags actions) once n 0

@@ -7,7 +7,7 @@ ghost use mathlib.Core.List.{[], _∷_};
 ghost use lib.ListN.{length};
 ghost use Rattle.base.specs.Lists.{present};
 ghost use Rattle.pair_graph.specs.Steps.{led-to, FlaggedGraph};
-ghost use Rattle.maker_order.specs.Orders.{followers, order-of, marks-at, Numbered, Grows, Classed, Cleared, InOrder};
+ghost use Rattle.maker_order.specs.Orders.{followers, order-of, marks-at, RowsNumbered, Grows, Classed, Cleared, InOrder};
 use pair_graph::Led;
 
 // Where the list of rows begins in the area, and how many classes there may be.
@@ -17,7 +17,7 @@ const MOST_CLASSES: usize = 1000;
 
 // Meets pair j after so many rows: if its class has no row yet, it is the next row. Returns the number of rows.
 fn meet(area: &mut [u8], pairs: usize, rows: usize, j: usize) -> usize
-    requires { ⌜ Numbered pairs (now area) rows ⌝ }
+    requires { ⌜ RowsNumbered pairs (now area) rows ⌝ }
     requires { ⌜ j < pairs ⌝ }
     ensures { λ r. ⌜ Grows pairs (now (area .entry)) rows (j ∷ []) (now (area .exit)) r ⌝ }
 {
@@ -43,7 +43,7 @@ fn meet_by(
     a: usize,
 ) -> usize
     requires { ⌜ FlaggedGraph pairs actions (now graph) (now flags) ⌝ }
-    requires { ⌜ Numbered pairs (now area) rows ⌝ }
+    requires { ⌜ RowsNumbered pairs (now area) rows ⌝ }
     requires { ⌜ i < pairs ⌝ }
     requires { ⌜ a < actions ⌝ }
     ensures { λ r. ⌜ Grows pairs (now (area .entry)) rows (present (led-to (now (graph .entry)) (now (flags .entry)) i a ∷ [])) (now (area .exit)) r ⌝ }
@@ -65,7 +65,7 @@ fn expand(
     i: usize,
 ) -> usize
     requires { ⌜ FlaggedGraph pairs actions (now graph) (now flags) ⌝ }
-    requires { ⌜ Numbered pairs (now area) rows ⌝ }
+    requires { ⌜ RowsNumbered pairs (now area) rows ⌝ }
     requires { ⌜ i < pairs ⌝ }
     ensures { λ r. ⌜ Grows pairs (now (area .entry)) rows (followers (now (graph .entry)) (now (flags .entry)) actions i) (now (area .exit)) r ⌝ }
 {
@@ -81,14 +81,11 @@ fn expand(
 // No class has a row.
 fn clear_marks(area: &mut [u8], pairs: usize)
     requires { ⌜ marks-at pairs + 2000 ≤ length (now area) ⌝ }
-    ensures { λ _. ⌜ Cleared pairs (now (area .entry)) (now (area .exit)) 2000 ⌝ }
+    ensures { λ _. ⌜ Cleared pairs (now (area .entry)) (now (area .exit)) ⌝ }
 {
     let start = ORDER_AT + 2 * pairs;
-    let mut k = 0;
-    while k < 2 * MOST_CLASSES {
-        area[start + k] = 0;
-        k += 1;
-    }
+    let end = start + 2 * MOST_CLASSES;
+    area_bytes::clear(&mut area[start..end]);
 }
 
 // Expands the rows in order, from the first on, until none is left. Returns the number of rows.
@@ -101,7 +98,7 @@ fn expand_all(
     first: usize,
 ) -> usize
     requires { ⌜ FlaggedGraph pairs actions (now graph) (now flags) ⌝ }
-    requires { ⌜ Numbered pairs (now area) first ⌝ }
+    requires { ⌜ RowsNumbered pairs (now area) first ⌝ }
     requires { ⌜ order-of (now area) first ≡ 0 ∷ [] ⌝ }
     ensures { λ r. ⌜ InOrder (now (graph .entry)) (now (flags .entry)) pairs actions (now (area .entry)) (now (area .exit)) r ⌝ }
 {

@@ -16,7 +16,7 @@ use Rattle.base.proofs.Lists.{never-both}
 use Rattle.area_bytes.proofs.Numbers.{byte-beside, stored-read, stored-beside}
 use Rattle.area_chains.proofs.Walks.{one-more}
 use Rattle.pair_graph.specs.Steps.{safe-in}
-use Rattle.maker_removal.specs.Removal.{live-in, entry-in, count, OnList, Worklist, AllSafe, Pushed}
+use Rattle.maker_removal.specs.Removal.{live-in, entry-in, count, OnList, Worklist, AllSafe, Pushed, removal-size}
 
 -- ---- counting
 
@@ -143,7 +143,7 @@ number-behind-set l i v q less =
     omega arith
 
 -- What the stores leave.
-pub pushed : (area after : List ℕ) (i height : ℕ) → i < 1000 → height < 1000 → 37000 ≤ length area
+pub pushed : (area after : List ℕ) (i height : ℕ) → i < 1000 → height < 1000 → removal-size ≤ length area
     → after ≡ sets (set area i 2) (35000 + 2 * height) (number-bytes 2 i) → Pushed i height area after
 unfolding entry-in
 pushed area after i height l h room e = rw e (record { flag = flag; before = before; entry = entry; below = below })
@@ -171,7 +171,7 @@ pushed area after i height l h room e = rw e (record { flag = flag; before = bef
         ∙ number-behind-set area i 2 (35000 + 2 * k) (omega arith)
 
 -- There is room for an entry,
-pub entry-room : (area : List ℕ) (i v height : ℕ) → 37000 ≤ length area → height < 1000 → 35000 + 2 * height + 1 < length (set area i v)
+pub entry-room : (area : List ℕ) (i v height : ℕ) → removal-size ≤ length area → height < 1000 → 35000 + 2 * height + 1 < length (set area i v)
 entry-room area i v height room h = omega (arith, length-set area i v)
 
 -- and the area keeps its length.
@@ -253,7 +253,7 @@ module _ (n height : ℕ) (area : List ℕ) (j : ℕ) (w : Worklist n area heigh
   pub taken-not-safe : safe-in area j ≡ false
   taken-not-safe = subst (λ x. safe-in area x ≡ false) last (w .removed (height - 1) (omega arith))
 
-  module _ (most : n ≤ 1000) (room : 37000 ≤ length area) where
+  module _ (most : n ≤ 1000) (room : removal-size ≤ length area) where
     -- Its flag is cleared.
     pub taken-flag : byte-at (set area j 0) j ≡ 0
     taken-flag = getD-set-same area j 0 0 (omega (arith, taken-there))

@@ -1,5 +1,4 @@
 pub mod FinePairs
 mod Flags
 mod Moves
-mod Scans
 mod Turns

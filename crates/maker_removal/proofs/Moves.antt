@@ -1,32 +1,27 @@
--- What the code finds of one action, and what it is given.
+-- What the code finds of one action and of all, and what it is given.
 use Prim.Native.Nat.{ℕ}
 use native.Mathlib.Omega.{arith}
-use mathlib.Core.Path.{_≡_, refl, sym, _∙_}
+use mathlib.Core.Path.{_≡_, refl, sym, ap, _∙_}
 use mathlib.Core.Bool.{Bool, true, false}
 use mathlib.Core.Option.{none, some}
 use mathlib.Core.List.{List}
 use Rattle.base.specs.Choice.{pick}
+use Rattle.base.specs.Lists.{every, some-of, below, count-from}
 use Rattle.base.proofs.Lists.{never-both}
-use Rattle.logic.specs.Tower.{Tower, FitTower, tower-of, controllable, goes-on}
+use Rattle.logic.specs.Tower.{Tower, tower-of, controllable, goes-on}
 use Rattle.pair_graph.specs.Graph.{Move, not-enabled, broken, to, allowed-to}
 use Rattle.pair_graph.specs.Steps.{move-at, safe-in, is-enabled, led-to, led-of, FlaggedGraph}
 use Rattle.pair_graph.specs.declared.Led.{Led}
 use Rattle.pair_graph.specs.declared.Led.the-variants.{To, Nowhere}
-use Rattle.pair_graph.proofs.Moves.{led-some, led-none}
-use Rattle.maker_removal.specs.Removal.{leads-inside, stays-inside, not-forced-at, goes-at, PairInput}
+use Rattle.pair_graph.proofs.Moves.{led-some, led-none, allowed-out}
+use Rattle.maker_removal.specs.Removal.{leads-inside, stays-inside, not-forced-at, goes-at, none-forced, some-goes, fine-at, PairInput}
 
 -- ---- where a move leads
 
 -- one that leads to a safe pair is allowed
 allowed-inside : (safe : ℕ → Bool) (m : Move) (j : ℕ) → allowed-to safe m ≡ some j → true ≡ leads-inside safe m
-unfolding allowed-to leads-inside
-allowed-inside safe not-enabled j e = let z : _≡_ {A = ℕ} 0 1 = cc in absurd (omega arith)
-allowed-inside safe broken j e = let z : _≡_ {A = ℕ} 0 1 = cc in absurd (omega arith)
-allowed-inside safe (to k) j e = go (safe k) e
-  where
-    go : (b : Bool) → pick b (λ _. some k) (λ _. none) ≡ some j → true ≡ b
-    go true e = refl
-    go false e = let z : _≡_ {A = ℕ} 0 1 = cc in absurd (omega arith)
+unfolding leads-inside
+allowed-inside safe m j e = let (is-to, is-safe) = allowed-out safe m j e in sym (ap (leads-inside safe) is-to ∙ is-safe)
 
 -- any other is not
 not-allowed : (safe : ℕ → Bool) (m : Move) → allowed-to safe m ≡ none → false ≡ leads-inside safe m
@@ -66,14 +61,10 @@ stays-put safe (to j) e = never-both refl e
 
 -- ---- what is given
 
-module _ (tower : List ℕ) (n : ℕ) (graph flags : List ℕ) (i : ℕ) (given : PairInput tower n graph flags i) where
-  -- The tower of what is given is fit.
-  pub judged-fit : FitTower tower
-  judged-fit = given .fit
-
-  -- The graph is that of the tower's actions.
-  pub judged-graph : (m : ℕ) → m ≡ tower-of tower .actions → FlaggedGraph n m graph flags
-  judged-graph m e = rw e (given .flagged)
+-- The graph is that of the tower's actions.
+pub judged-graph : (tower : List ℕ) (n : ℕ) (graph flags : List ℕ) (i : ℕ) → PairInput tower n graph flags i → (m : ℕ)
+    → m ≡ tower-of tower .actions → FlaggedGraph n m graph flags
+judged-graph tower n graph flags i given m e = rw e (given .flagged)
 
 -- ---- what an action does
 
@@ -110,3 +101,27 @@ module _ (tower : Tower) (graph : List ℕ) (safe : ℕ → Bool) (i a k : ℕ) 
   goer-leads q e f p =
       let h : goes-on (tower .kind a) ≡ true = cc in
       rw h p
+
+-- ---- all actions
+
+-- What the two loops look for.
+pub scan-forced : (tower : Tower) (graph : List ℕ) (safe : ℕ → Bool) (i : ℕ)
+    → none-forced tower graph safe i ≡ every (not-forced-at tower graph safe i) (count-from 0 (tower .actions))
+unfolding none-forced below
+scan-forced tower graph safe i = refl
+
+pub scan-goes : (tower : Tower) (graph : List ℕ) (safe : ℕ → Bool) (i : ℕ)
+    → some-goes tower graph safe i ≡ some-of (goes-at tower graph safe i) (count-from 0 (tower .actions))
+unfolding some-goes below
+scan-goes tower graph safe i = refl
+
+module _ (tower : Tower) (graph : List ℕ) (safe : ℕ → Bool) (i : ℕ) (r : Bool) (is-r : r ≡ none-forced tower graph safe i) where
+  -- A way out can be forced: the pair is not fine.
+  pub not-fine : r ≡ false → false ≡ fine-at tower graph safe i
+  unfolding fine-at
+  not-fine e = let h : none-forced tower graph safe i ≡ false = cc in rw h
+
+  -- None can: it is fine if some action goes on.
+  pub fine-if-goes : (q : Bool) → r ≡ true → q ≡ some-goes tower graph safe i → q ≡ fine-at tower graph safe i
+  unfolding fine-at
+  fine-if-goes q e f = let h : none-forced tower graph safe i ≡ true = cc in rw h f

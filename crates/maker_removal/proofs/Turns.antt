@@ -223,21 +223,18 @@ begun tower n m graph area after read held listed-so h =
     }
 
 -- The pairs below i have been looked at.
-pub record Scanning (tower : Tower) (n : ℕ) (graph old : List ℕ) (i : ℕ) (area : List ℕ) (height : ℕ) : Type 0 where
+pub record ScanningCells (tower : Tower) (n : ℕ) (graph old : List ℕ) (i : ℕ) (area : List ℕ) (height : ℕ) : Type 0 where
   pub state : Removing tower n graph (from i) area height
   pub long : length area ≡ length old
 
-pub scan-start : (tower : Tower) (n : ℕ) (graph area : List ℕ) → Removing tower n graph (from 0) area 0 → Scanning tower n graph area 0 area 0
+pub scan-start : (tower : Tower) (n : ℕ) (graph area : List ℕ) → Removing tower n graph (from 0) area 0 → ScanningCells tower n graph area 0 area 0
 scan-start tower n graph area s = record { state = s; long = refl }
 
 module _ (tower : List ℕ) (n : ℕ) (graph old : List ℕ) (i : ℕ) (area : List ℕ) (height : ℕ) (given : RemovalInput tower n graph old)
-    (h : Scanning (tower-of tower) n graph old i area height) where
-  pub scan-ready : RemovalInput tower n graph area
-  scan-ready = ready-after old area given (h .long)
-
+    (h : ScanningCells (tower-of tower) n graph old i area height) where
   -- One more has.
   pub scan-more : (after : List ℕ) (r : ℕ) → i < n → Visited (tower-of tower) graph i height area after r → length after ≡ length area
-      → Scanning (tower-of tower) n graph old (i + 1) after r
+      → ScanningCells (tower-of tower) n graph old (i + 1) after r
   unfolding from
   scan-more after r l v long =
       record {
@@ -248,7 +245,7 @@ module _ (tower : List ℕ) (n : ℕ) (graph old : List ℕ) (i : ℕ) (area : L
       }
 
 -- All have been looked at.
-pub scan-end : (tower : Tower) (n : ℕ) (graph old : List ℕ) (i : ℕ) (area : List ℕ) (height : ℕ) → Scanning tower n graph old i area height
+pub scan-end : (tower : Tower) (n : ℕ) (graph old : List ℕ) (i : ℕ) (area : List ℕ) (height : ℕ) → ScanningCells tower n graph old i area height
     → n ≤ i → Removing tower n graph none-ahead area height
 unfolding from
 scan-end tower n graph old i area height h l =
@@ -444,11 +441,7 @@ work-ready tower n graph old area height given h = ready-after old area given (h
 
 module _ (tower : Tower) (n : ℕ) (graph area after : List ℕ) (height r : ℕ)
     (w : Worked tower n graph (count (safe-in area) n + (height - 1)) after r) where
-  -- There is less to do, where some number is below the height,
-  pub work-less : (m : ℕ) → m < height → count (safe-in after) n + r < count (safe-in area) n + height
-  work-less m l = omega (arith, w .less)
-
-  -- and it goes on.
+  -- It goes on.
   pub work-more : (old : List ℕ) → Working tower n graph old area height → length after ≡ length area → Working tower n graph old after r
   work-more old h long = record { state = w .state; long = long ∙ h .long }
 

@@ -14,11 +14,12 @@ use Rattle.logic.specs.Book.{Book}
 use Rattle.logic.specs.Runs.{leads}
 use Rattle.logic.specs.Tables.{Table}
 use Rattle.pending.specs.Pending.{Pending}
+use Rattle.pending.proofs.Weights.{pairs-weight}
 use Rattle.pending.specs.Pairs.{Pair, first-pair, over-pairs, most-pairs}
 use Rattle.outcome.specs.Game.{safe, safe-step}
 use Rattle.outcome.specs.Rows.{made-table}
 use Rattle.outcome.specs.Make.{table-for}
-use Rattle.outcome.specs.Check.{judge}
+use Rattle.outcome.specs.Check.{good-table, judge}
 use Rattle.outcome.specs.MadeRight.{Makeable, GivenTable}
 use Rattle.outcome.specs.Reached.{ReachedPair, ReachedItem, MoreThan}
 use Rattle.outcome.proofs.RowPairs.{row-number}
@@ -60,7 +61,7 @@ module _ (tower : Tower) (book : Book) (able : Makeable tower book)
   unfolding MoreThan
   items-few (vs, many, distinct, all) = (
     map pair vs,
-    subst (λ n. most-pairs < n) (sym (length-map vs pair)) many,
+    subst (λ n. most-pairs < n) (pairs-weight vs ∙ sym (length-map vs pair) ∙ sym (pairs-weight (map pair vs))) many,
     distinct-map pair vs (λ v w m n. pair-apart v w (all v m) (all w n)) distinct,
     λ z m.
         let (v, here, e) = Memᴰ·of-map pair vs m in
@@ -71,16 +72,16 @@ module _ (tower : Tower) (book : Book) (able : Makeable tower book)
       reached v to = unfold ReachedPair pair in (to .run, to .pair)
 
   -- What is made is accepted.
-  pub made-accepted : judge tower book (made-table tower book) ≡ give tt
+  pub made-accepted : judge tower book (made-table tower book) ≡ give good-table
   made-accepted =
       go
       (good-accepted tower book (made-table tower book)
       (record { listed = able .listed; fit = able .fit; is-table = so tower book able few first-safe .is-table })
       (made-good tower book able few first-safe))
     where
-      go : ((judge tower book (made-table tower book) ≡ give tt) × (MoreThan most-pairs (ReachedItem tower book (made-table tower book)) → ⊥))
+      go : ((judge tower book (made-table tower book) ≡ give good-table) × (MoreThan most-pairs (ReachedItem tower book (made-table tower book)) → ⊥))
           ⊎ ((judge tower book (made-table tower book) ≡ refuse Pairs) × MoreThan most-pairs (ReachedItem tower book (made-table tower book)))
-          → judge tower book (made-table tower book) ≡ give tt
+          → judge tower book (made-table tower book) ≡ give good-table
       go (inl (e, fewer)) = e
       go (inr (e, many)) = never-both (over-pairs-iff tower book (able .listed) .1 (items-few many)) few
 

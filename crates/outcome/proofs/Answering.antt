@@ -10,7 +10,7 @@ use lib.Dec.{ltb}
 use borrow.Author.Tests.{ltb-true, ltb-false, lt-ltb, le-ltb}
 use Rattle.base.specs.Lists.{some-of}
 use Rattle.base.specs.Bytes.{long-enough}
-use Rattle.base.specs.Answers.{refusal-said, Answer, give, refuse}
+use Rattle.base.specs.Answers.{Answer, give, refuse}
 use Rattle.base.proofs.Lists.{whether, never-both}
 use Rattle.base.proofs.Answers.{if-on, if-refuses, then-on, then-stays}
 use Rattle.base.specs.declared.Reason.{Reason}
@@ -40,7 +40,7 @@ use Rattle.reading.proofs.TableReading.{file-laid-out, file-table, made-same-fi
 use Rattle.pending.specs.Pairs.{most-pairs}
 use Rattle.outcome.specs.Areas.{book-areas, make-areas, check-areas}
 use Rattle.outcome.specs.ReadBook.{book-answer, book-under, read-outcome}
-use Rattle.outcome.specs.Check.{judge, checked-file, verdict, turned-down, check-outcome}
+use Rattle.outcome.specs.Check.{Finding, good-table, judge, checked-file, verdict, check-outcome}
 use Rattle.outcome.specs.Make.{table-for, made-file, written, make-outcome}
 use Rattle.outcome.specs.Reached.{ReachedPair, ReachedItem, MoreThan}
 use Rattle.outcome.specs.Calls.{FitFiles, Fit, FitTable, MadeCall}
@@ -52,9 +52,9 @@ use Rattle.outcome.specs.Shown.{HoldsGood, NoneGood, TooManyPairs, MadeW
 use Rattle.outcome.proofs.Checker.{judged, judge-is, accepted-good, good-accepted}
 use Rattle.outcome.proofs.Maker.{table-right, table-only, no-table-out, over-out}
 use Rattle.outcome.proofs.CallLaws.{made-call, refused-call, call-refused, check-call, accepted-files}
-use Rattle.outcome.proofs.Refusals.{number-said, One, make-enough, make-short, check-enough, check-short, book-enough, book-short}
+use Rattle.outcome.proofs.Refusals.{One, make-enough, make-short, check-enough, check-short, book-enough, book-short}
 use Rattle.outcome.proofs.Refusals.{table-only as layout-only}
-use Rattle.outcome.proofs.FitCalls.{makeable, judgeable, of-files, call-fit, one-tower, refused-fit, Wrote, wrote, table-answered, table-no-room, makes-table}
+use Rattle.outcome.proofs.FitCalls.{makeable, judgeable, of-files, call-fit, one-tower, refused-fit, CallWrote, wrote, table-answered, table-no-room, makes-table}
 
 -- ---- the book reader
 
@@ -98,7 +98,7 @@ module _ (marks : ℕ) (text : List ℕ) (areas : List (List ℕ)) where
 -- ---- the checker
 
 -- files that are judged well hold a good table
-pub accepted-holds : (tower-file text file : List ℕ) → checked-file tower-file text file ≡ give tt → HoldsGood tower-file text file
+pub accepted-holds : (tower-file text file : List ℕ) → checked-file tower-file text file ≡ give good-table → HoldsGood tower-file text file
 accepted-holds tower-file text file e =
     let (tower, (book, (table, fit, laid, j))) = accepted-files tower-file text file e in
     record {
@@ -115,7 +115,7 @@ pub good-or-size : (tower-file text file : List ℕ) (areas : List (List ℕ)) �
     → (check-outcome tower-file text file areas .answer ≡ Check.Good)
     ⊎ ((check-outcome tower-file text file areas .answer ≡ Check.Refused Pairs)
     × MoreThan most-pairs (ReachedItem (holds .tower) (holds .book) (holds .table)))
-unfolding verdict turned-down
+unfolding verdict
 good-or-size tower-file text file areas enough holds =
     go
     (good-accepted (holds .tower) (holds .book) (holds .table)
@@ -124,7 +124,7 @@ good-or-size tower-file text file areas enough holds =
     says : check-outcome tower-file text file areas .answer ≡ verdict (judge (holds .tower) (holds .book) (holds .table))
     says = check-call tower-file text file areas (holds .tower) (holds .book) (holds .table) (holds .fit) (holds .laid) enough
 
-    go : ((judge (holds .tower) (holds .book) (holds .table) ≡ give tt) × (MoreThan most-pairs (ReachedItem (holds .tower) (holds .book) (holds .table)) → ⊥))
+    go : ((judge (holds .tower) (holds .book) (holds .table) ≡ give good-table) × (MoreThan most-pairs (ReachedItem (holds .tower) (holds .book) (holds .table)) → ⊥))
         ⊎ ((judge (holds .tower) (holds .book) (holds .table) ≡ refuse Pairs) × MoreThan most-pairs (ReachedItem (holds .tower) (holds .book) (holds .table)))
         → (check-outcome tower-file text file areas .answer ≡ Check.Good)
         ⊎ ((check-outcome tower-file text file areas .answer ≡ Check.Refused Pairs) × MoreThan most-pairs (ReachedItem (holds .tower) (holds .book) (holds .table)))
@@ -136,12 +136,12 @@ pub checks : (tower-file text file : List ℕ) (areas : List (List ℕ)) (tower 
     → (MoreThan most-pairs (ReachedItem tower book table) → ⊥)
     → (check-outcome tower-file text file areas .answer ≡ Check.Good)
     ⊎ ((why : Reason) × (check-outcome tower-file text file areas .answer ≡ Check.NotGood why))
-unfolding verdict turned-down
+unfolding verdict
 checks tower-file text file areas tower book table fit laid enough few =
     go (judge tower book table) (judged tower book table (judgeable tower-file text file tower book table fit laid))
     (check-call tower-file text file areas tower book table fit laid enough)
   where
-    go : (o : Answer (Unit {0})) → FirstReason tower book table o → check-outcome tower-file text file areas .answer ≡ verdict o
+    go : (o : Answer Finding) → FirstReason tower book table o → check-outcome tower-file text file areas .answer ≡ verdict o
         → (check-outcome tower-file text file areas .answer ≡ Check.Good)
         ⊎ ((why : Reason) × (check-outcome tower-file text file areas .answer ≡ Check.NotGood why))
     go o (reason-a wrong) e = inr (Start, e)
@@ -154,7 +154,7 @@ checks tower-file text file areas tower book table fit laid enough few =
 
 -- the checker's answer in every case
 module _ (tower-file text file : List ℕ) (areas : List (List ℕ)) where
-  checks-as : long-enough check-areas areas ≡ true → (o : Answer (Unit {0})) → checked-file tower-file text file ≡ o
+  checks-as : long-enough check-areas areas ≡ true → (o : Answer Finding) → checked-file tower-file text file ≡ o
       → check-outcome tower-file text file areas .answer ≡ verdict o
   checks-as enough o e = check-enough tower-file text file areas enough .0 ∙ ap verdict e
 
@@ -177,7 +177,7 @@ module _ (tower-file text file : List ℕ) (areas : List (List ℕ)) where
   only-layout tower r e = layout-only (λ q. Layout ≡ q) refl tower file .only r e
 
   pub check-right : RightCheck tower-file text file areas (check-outcome tower-file text file areas .answer)
-  unfolding verdict turned-down
+  unfolding verdict
   check-right =
       whether (long-enough check-areas areas) (λ enough. by-tower enough (read-tower tower-file) refl)
       (λ short. subst (RightCheck tower-file text file areas) (sym (check-short tower-file text file areas short .0)) (check-area short))
@@ -208,7 +208,7 @@ module _ (tower-file text file : List ℕ) (areas : List (List ℕ)) where
       by-tower enough (give tower) e = by-book enough tower e (read-book (tower .marks) text) refl
 
   pub check-only : (x : Verdict) → RightCheck tower-file text file areas x → check-outcome tower-file text file areas .answer ≡ x
-  unfolding verdict turned-down
+  unfolding verdict
   check-only _ (check-area short) = check-short tower-file text file areas short .0
   check-only _ (check-tower enough r e) = checks-as enough (refuse r) (tower-refused r e)
   check-only _ (check-book enough tower r e f) = checks-as enough (refuse r) (book-refused tower r e f)
@@ -320,14 +320,14 @@ same-made tower-file text n m file other-file call other-call =
 -- a refusal whose number is neither about the files nor 16 says why there is no table for their tower and their book
 refused-table : (tower-file text output : List ℕ) (areas : List (List ℕ)) (r : Refusal) → (One of-files r → ⊥) → (Output ≡ r → ⊥)
     → make-outcome tower-file text output areas .answer ≡ Refused r → (it : Fit tower-file text) × (table-for (it .tower) (it .book) ≡ refuse r)
-unfolding One some-of number-said refusal-said
+unfolding One some-of
 refused-table tower-file text output areas r not-of-files not-output e =
     let it = refused-fit tower-file text output areas r not-of-files e in
     (it, call-refused tower-file text output areas (it .tower) (it .book) (it .fit) r (λ f. not-of-files (subst (One of-files) f refl)) not-output e)
 
 pub none-exists : (tower-file text output : List ℕ) (areas : List (List ℕ))
     → make-outcome tower-file text output areas .answer ≡ Refused NoTable → NoneGood tower-file text
-unfolding One some-of number-said refusal-said
+unfolding One some-of
 none-exists tower-file text output areas e =
     of-table
     (refused-table tower-file text output areas NoTable (λ f. never-both f refl) (λ f. let z : _≡_ {A = ℕ} 0 1 = cc in omega arith) e)
@@ -343,7 +343,7 @@ none-exists tower-file text output areas e =
 
 pub beyond-size : (tower-file text output : List ℕ) (areas : List (List ℕ))
     → make-outcome tower-file text output areas .answer ≡ Refused Pairs → TooManyPairs tower-file text
-unfolding One some-of number-said refusal-said
+unfolding One some-of
 beyond-size tower-file text output areas e =
     of-table (refused-table tower-file text output areas Pairs (λ f. never-both f refl) (λ f. let z : _≡_ {A = ℕ} 0 1 = cc in omega arith) e)
   where
@@ -360,7 +360,7 @@ beyond-size tower-file text output areas e =
 
 -- what was made for the tower and the book of fit files
 well-for : (tower-file text : List ℕ) (n : ℕ) (file : List ℕ) (tower : Tower) (book : Book) → FitFiles tower-file text tower book
-    → Wrote tower-file n file tower book → MadeWell tower-file text n file
+    → CallWrote tower-file n file tower book → MadeWell tower-file text n file
 well-for tower-file text n file tower book fit it =
     record {
       tower = tower;
@@ -425,7 +425,7 @@ same-bytes tower-file text other-text n m file other-file call other-call =
               go (wrote tower-file text file n tower book fit call) (wrote tower-file other-text other-file m tower other-book other-fit other-call);
         }
       where
-        go : Wrote tower-file n file tower book → Wrote tower-file m other-file tower other-book
+        go : CallWrote tower-file n file tower book → CallWrote tower-file m other-file tower other-book
             → ((n ≡ m) × (file ≡ other-file)) ↔ ((w : List ℕ) → GoodAllow tower book w ↔ GoodAllow tower other-book w)
         go one two = (
           λ (sizes, bytes). files .1 (one .same ∙ bytes ∙ sym (two .same)),

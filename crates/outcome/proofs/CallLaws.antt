@@ -1,7 +1,6 @@
 -- From the outcomes on bytes to the answers on towers, books and tables.
 use Prim.Native.Nat.{ℕ, _+_, _≤_}
 use mathlib.Core.Path.{_≡_, refl, sym, _∙_, ap, subst}
-use mathlib.Core.Logic.{_⊎_, inl, inr}
 use mathlib.Core.Bool.{Bool, true, false}
 use mathlib.Core.List.{List}
 use native.Mathlib.Omega.{arith}
@@ -12,13 +11,11 @@ use borrow.Author.Tests.{ltb-false}
 use Rattle.base.specs.Choice.{pick}
 use Rattle.base.specs.Bytes.{long-enough, cleared}
 use Rattle.base.specs.Answers.{Answer, refuse, give, _if_else_, _then_}
-use Rattle.base.proofs.Lists.{whether, never-both}
+use Rattle.base.proofs.Lists.{whether}
 use Rattle.base.proofs.Answers.{gives-not-refuses, if-gives, then-gives, then-on}
-use Rattle.base.specs.declared.Reason.{Reason}
 use Rattle.base.specs.declared.Refusal.{Refusal}
-use Rattle.base.specs.declared.Refusal.the-variants.{TowerSize, Range, Action, Target, Mask, Grammar, Number, Mark, Limit, Timed, Pairs, NoTable, Layout, NotGood, Area, Output, Outside, NotAllowed}
+use Rattle.base.specs.declared.Refusal.the-variants.{Area, Output}
 use Rattle.base.specs.declared.MakeAnswer.the-variants.{Made, Refused}
-use Rattle.base.specs.declared.Verdict.{Verdict}
 use Rattle.base.specs.declared.Verdict.the-variants as Check
 use Rattle.logic.specs.Tower.{Tower, layout-of}
 use Rattle.logic.specs.Book.{Book}
@@ -29,7 +26,7 @@ use Rattle.reading.specs.BookReading.{read-book}
 use Rattle.reading.specs.TableReading.{read-table}
 use Rattle.outcome.specs.Areas.{make-areas, check-areas}
 use Rattle.outcome.specs.Make.{MakeOutcome, table-for, made-file, fitting, written, make-outcome}
-use Rattle.outcome.specs.Check.{CheckOutcome, judge, checked-file, turned-down, verdict, check-outcome}
+use Rattle.outcome.specs.Check.{Finding, good-table, not-good, CheckOutcome, judge, checked-file, verdict, check-outcome}
 use Rattle.outcome.specs.Calls.{FitFiles, FitTable, MadeCall}
 
 give-one : {A : Type 0} {x y : A} → give x ≡ give y → x ≡ y
@@ -169,51 +166,16 @@ unfolding check-outcome
 check-call tower-file text file areas tower book table fit laid enough =
     rw enough (ap verdict (checks tower-file text file tower book table fit laid))
 
--- no refusal is called good
-good : Verdict → Bool
-good Check.Good = true
-good (Check.NotGood q) = false
-good (Check.Refused r) = false
-
--- a refusal is turned down as itself, but 14 with its reason
-pub turned-down-as : (r : Refusal) → (turned-down r ≡ Check.Refused r) ⊎ ((why : Reason) × (r ≡ NotGood why) × (turned-down r ≡ Check.NotGood why))
-unfolding turned-down
-turned-down-as TowerSize = inl refl
-turned-down-as Range = inl refl
-turned-down-as Action = inl refl
-turned-down-as Target = inl refl
-turned-down-as Mask = inl refl
-turned-down-as (Grammar l) = inl refl
-turned-down-as (Number l) = inl refl
-turned-down-as (Mark l) = inl refl
-turned-down-as (Limit l) = inl refl
-turned-down-as (Timed l) = inl refl
-turned-down-as Pairs = inl refl
-turned-down-as NoTable = inl refl
-turned-down-as Layout = inl refl
-turned-down-as (NotGood why) = inr (why, refl, refl)
-turned-down-as Area = inl refl
-turned-down-as Output = inl refl
-turned-down-as Outside = inl refl
-turned-down-as NotAllowed = inl refl
-
-not-good : (r : Refusal) → good (turned-down r) ≡ false
-unfolding good
-not-good r = go (turned-down-as r)
-  where
-    go : (turned-down r ≡ Check.Refused r) ⊎ ((why : Reason) × (r ≡ NotGood why) × (turned-down r ≡ Check.NotGood why)) → good (turned-down r) ≡ false
-    go (inl e) = ap good e
-    go (inr (why, f, e)) = ap good e
-
--- only what is given is called good
-verdict-good : (o : Answer (Unit {0})) → verdict o ≡ Check.Good → o ≡ give tt
-unfolding verdict good
-verdict-good (refuse r) e = never-both (ap good e) (not-good r)
-verdict-good (give u) e = refl
+-- only what is found to be good is called good
+verdict-good : (o : Answer Finding) → verdict o ≡ Check.Good → o ≡ give good-table
+unfolding verdict
+verdict-good (refuse r) e = let z : _≡_ {A = ℕ} 0 1 = cc in absurd (omega arith)
+verdict-good (give good-table) e = refl
+verdict-good (give (not-good q)) e = let z : _≡_ {A = ℕ} 0 1 = cc in absurd (omega arith)
 
 -- An accepted table is one for fit files, and judged to be good.
 pub accepted-call : (tower-file text file : List ℕ) (areas : List (List ℕ)) → check-outcome tower-file text file areas .answer ≡ Check.Good
-    → checked-file tower-file text file ≡ give tt
+    → checked-file tower-file text file ≡ give good-table
 unfolding check-outcome
 accepted-call tower-file text file areas e = go (long-enough check-areas areas) e
   where
@@ -221,12 +183,12 @@ accepted-call tower-file text file areas e = go (long-enough check-areas areas) 
         → pick {X = CheckOutcome} b (λ _. record { answer = verdict (checked-file tower-file text file); areas = cleared areas })
         (λ _. record { answer = verdict (refuse Area); areas = areas }) .answer
         ≡ Check.Good
-        → checked-file tower-file text file ≡ give tt
+        → checked-file tower-file text file ≡ give good-table
     go true f = verdict-good (checked-file tower-file text file) f
     go false f = gives-not-refuses (verdict-good (refuse Area) f) refl
 
-pub accepted-files : (tower-file text file : List ℕ) → checked-file tower-file text file ≡ give tt
-    → (tower : Tower) × ((book : Book) × ((table : Table) × FitFiles tower-file text tower book × FitTable tower file table × (judge tower book table ≡ give tt)))
+pub accepted-files : (tower-file text file : List ℕ) → checked-file tower-file text file ≡ give good-table
+    → (tower : Tower) × ((book : Book) × ((table : Table) × FitFiles tower-file text tower book × FitTable tower file table × (judge tower book table ≡ give good-table)))
 unfolding checked-file FitTable
 accepted-files tower-file text file e =
     let (tower, a, e1) = then-gives (read-tower tower-file) _ e in

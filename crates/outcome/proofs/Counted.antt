@@ -2,52 +2,25 @@
 use Prim.Native.Nat.{ℕ}
 use mathlib.Core.Path.{_≡_, subst}
 use mathlib.Core.Logic.{_↔_}
-use mathlib.Core.Bool.{Bool, true}
+use mathlib.Core.Bool.{true}
 use mathlib.Core.Option.{Option, some}
-use mathlib.Core.List.{List, [], _∷_, _++_, List·Memᴰ}
+use mathlib.Core.List.{List, [], _∷_, _++_, map, List·Memᴰ}
 use native.Mathlib.Omega.{arith}
-use lib.ListN.{length}
-use lib.Dec.{ltb}
-use borrow.Author.Tests.{ltb-true, ltb-false}
-use Rattle.base.specs.Lists.{below}
-use Rattle.base.specs.Search.{search-from}
+use borrow.Author.Tests.{ltb-true}
+use Rattle.base.specs.Lists.{below, total}
 use Rattle.base.proofs.Lists.{true-by, present-map-in, present-map-out, below-mem, some-one}
-use Rattle.base.proofs.Search.{Reached, start, onward, search-at-most, search-more}
+use Rattle.base.proofs.Search.{Reached, start, onward, search-reached, search-at-most, search-distinct}
 use Rattle.logic.specs.Tower.{Tower, Listed}
 use Rattle.logic.specs.Book.{Book}
 use Rattle.logic.specs.Runs.{leads}
 use Rattle.logic.specs.Tables.{Table, rows-tower}
 use Rattle.logic.proofs.Leads.{leads-nil, leads-out, snoc-in}
-use Rattle.pending.specs.Pairs.{Pair, same-pair, first-pair, pair-step, pair-followers, pairs, over-pairs, most-pairs}
+use Rattle.pending.specs.Pairs.{Pair, same-pair, first-pair, pair-step, pair-followers, pairs, pair-weight, over-pairs, most-pairs}
+use Rattle.pending.proofs.Weights.{pairs-few}
 use Rattle.pending.proofs.Same.{same-pair-eq, same-pair-refl}
 use Rattle.pending.proofs.Steps.{pair-step-listed}
 use Rattle.outcome.specs.Check.{over-items}
 use Rattle.outcome.specs.Reached.{ReachedPair, ReachedItem, MoreThan}
-
--- ---- any search whose test decides equality
-
-module _ {X : Type 0} (same : X → X → Bool) (eq : (x y : X) → same x y ≡ true → x ≡ y) (itself : (x : X) → same x x ≡ true) where
-  module _ (followers : X → List X) (most : ℕ) (x : X) (Kind : X → Type 0)
-      (reaches : (y : X) → Reached followers x y → Kind y) (reached : (y : X) → Kind y → Reached followers x y) where
-    -- the search finds too many exactly if there are more than the limit
-    counted : ltb most (length (search-from same followers most x)) ≡ true ↔ MoreThan most Kind
-    unfolding MoreThan
-    counted = (out, back)
-      where
-        found : List X
-        found = search-from same followers most x
-
-        out : ltb most (length found) ≡ true → MoreThan most Kind
-        out e =
-            let (ms, many, distinct, all) = search-more same followers most x eq itself (ltb-true most (length found) e) in
-            (ms, many, distinct, λ y m. reaches y (all y m))
-
-        back : MoreThan most Kind → ltb most (length found) ≡ true
-        back (ms, many, distinct, all) =
-            true-by (ltb most (length found))
-            (λ e.
-            let fewer = search-at-most same followers most x eq itself (ltb-false most (length found) e) ms distinct (λ y m. reached y (all y m)) in
-            omega arith)
 
 -- what moves lead to is reached by going to followers, if every move goes to one
 led-reached : {X : Type 0} (move : X → ℕ → Option X) (followers : X → List X)
@@ -87,10 +60,22 @@ module _ (tower : Tower) (book : Book) (listed : Listed tower) where
 
   -- 11 exactly if more than 1,000 distinct pairs are reached over unbroken steps
   pub over-pairs-iff : over-pairs tower book ≡ true ↔ MoreThan most-pairs (ReachedPair tower book)
-  unfolding over-pairs pairs
-  over-pairs-iff =
-      counted same-pair same-pair-eq same-pair-refl (pair-followers tower book) most-pairs (first-pair tower book) (ReachedPair tower book)
-      (λ v. pair-reached v .0) (λ v. pair-reached v .1)
+  unfolding MoreThan over-pairs pairs
+  over-pairs-iff = (
+    λ e. (
+      pairs tower book,
+      ltb-true most-pairs (total (map pair-weight (pairs tower book))) e,
+      search-distinct same-pair (pair-followers tower book) pair-weight most-pairs (first-pair tower book) same-pair-eq same-pair-refl,
+      λ v m.
+          pair-reached v .0 (search-reached same-pair (pair-followers tower book) pair-weight most-pairs (first-pair tower book) m),
+    ),
+    λ (vs, many, distinct, all).
+        true-by (over-pairs tower book)
+        (λ few.
+        let fewer = search-at-most same-pair (pair-followers tower book) pair-weight most-pairs (first-pair tower book) same-pair-eq same-pair-refl
+        (pairs-few tower book few) vs distinct (λ v m. pair-reached v .1 (all v m)) in
+        omega arith),
+  )
 
 -- ---- rows with what is pending
 

@@ -32,7 +32,7 @@ use Rattle.pending.specs.Pairs.{most-pairs}
 use Rattle.outcome.specs.Areas.{book-areas, make-areas, check-areas}
 use Rattle.outcome.specs.ReadBook.{read-outcome}
 use Rattle.outcome.specs.Make.{make-outcome}
-use Rattle.outcome.specs.Check.{verdict, check-outcome}
+use Rattle.outcome.specs.Check.{Finding, verdict, check-outcome}
 use Rattle.outcome.specs.Follow.{follow-outcome}
 use Rattle.outcome.specs.Reached.{ReachedPair, ReachedItem, MoreThan}
 use Rattle.outcome.specs.VerdictRight.{FirstReason}
@@ -183,7 +183,7 @@ good-or-size tower-file text file areas enough holds = Answering.good-or-size to
 -- The checker's answer in full: on fit files it is the first reason that holds, and no other.
 
 pub checker-says : (tower-file text file : List ℕ) (areas : List (List ℕ)) (tower : Tower) (book : Book) (table : Table)
-    → FitFiles tower-file text tower book → FitTable tower file table → long-enough check-areas areas ≡ true → (o : Answer (Unit {0}))
+    → FitFiles tower-file text tower book → FitTable tower file table → long-enough check-areas areas ≡ true → (o : Answer Finding)
     → FirstReason tower book table o → check-outcome tower-file text file areas .answer ≡ verdict o
 checker-says tower-file text file areas tower book table fit laid enough o first =
     Answering.check-only tower-file text file areas _ (check-judged enough tower book table fit laid o first)

@@ -12,12 +12,12 @@ use lib.Seq.{sets, sets-eq, take-at}
 use borrow.Author.Tests.{le-ltb}
 use Rattle.base.proofs.Answers.{if-on}
 use Rattle.base.specs.Answers.{Answer, give, refuse}
-use Rattle.base.specs.declared.Refusal.the-variants.{NoTable, NotGood, Output}
+use Rattle.base.specs.declared.Refusal.the-variants.{NoTable, Output}
 use Rattle.base.specs.declared.Reason.the-variants.{Broken}
 use Rattle.outcome.specs.SmallTower.{small-tower, book-1, book-2, book-3, book-4, book-5, book-6, book-7, book-8, book-9, book-10, made, table, checked, table-1, table-5, table-6, table-7, MadeTable, NotMade, TurnedDown, SmallTowerTable}
-use Rattle.base.specs.Answers.{row-of, letter-of, refusal-said, make-said, verdict-said, _if_else_, _then_}
+use Rattle.base.specs.Answers.{refusal-said, reason-said, make-said, verdict-said, _if_else_, _then_}
 use Rattle.base.specs.Bytes.{number-at, number-bytes, long-enough, cleared}
-use Rattle.base.specs.Lists.{every, some-of, count-from, below, present, is-there, there-with, only-if, same-option, same-list, place-of, joined, leading, begins}
+use Rattle.base.specs.Lists.{every, some-of, count-from, below, present, total, is-there, there-with, only-if, same-option, same-list, place-of, joined, leading, begins}
 use Rattle.base.specs.Recursion.{to-depth, run}
 use Rattle.base.specs.Search.{new-ones, search-on, search-from, rest-round}
 use Rattle.base.specs.Text.{byte, ascii}
@@ -26,17 +26,17 @@ use Rattle.logic.specs.TableFile.{most-rows, rows-at, row-size, step-size, step
 use Rattle.logic.specs.Tables.{row-at, step-to, move, rows-tower}
 use Rattle.logic.specs.Time.{minus, at-most, same-ticks, longer, shorter}
 use Rattle.logic.specs.Tower.{controllable, goes-on, last-kind, most-actions, most-marks, in-range, narrow, layout-of, states-of, start-of, actions-offset, states-offset, states-at, state-size, state-at, length-of, kind-of, mask-of, target-of, not-enabled, bit, no-header, bad-counts, bad-size, bad-actions, bad-targets, bad-masks, tower-of}
-use Rattle.reading.specs.BookReading.{most-bytes, most-nodes, most-brackets, most-ticks, ended, worded, line-at, over-number, over-mark, over-limit, judge-line, lines-step, read-lines, read-book}
-use Rattle.reading.specs.Grammar.{connectives, connective, usual-bound, onward, behind, bounded, compared-with, number-or-usual, bound-at, formula-one, formula-two, joining, bracketed, two-parts, with-bound, led, marked-unit, unit-at, read-level, read-step, rank, calls-left, formula-at}
+use Rattle.reading.specs.BookReading.{most-bytes, most-nodes, most-brackets, most-ticks, usual-bound, ended, worded, line-at, over-number, over-mark, over-limit, judge-line, lines-step, read-lines, read-book}
+use Rattle.reading.specs.Grammar.{connectives, connective, onward, behind, bounded, compared-with, number-or-usual, bound-at, formula-one, formula-two, joining, bracketed, two-parts, with-bound, led, marked-unit, unit-at, read-level, read-step, rank, calls-left, formula-at}
 use Rattle.reading.specs.TableReading.{table-layout, rows-of, steps-of, row-place, row-state, row-count, row-first, step-place, step-action, step-target, header-right, steps-right, rows-right, laid-out, step-of, row-of-table, table-of, read-table}
 use Rattle.reading.specs.Tokens.{stands, skip, is-digit, digits, value, numeral, number-token, mark-named, mark-at, mark-token, with-equals, comparison-token}
 use Rattle.reading.specs.TowerReading.{read-tower}
 use Rattle.pending.specs.Pending.{same-pending, holds, fresh, merge, coming, put, provided, progress, progress-nodes, root, progress-rule, progress-rules, none-pending, progressed, begin-rule, begin-rules, first-pending}
 use Rattle.outcome.specs.Areas.{check-areas, make-areas}
-use Rattle.outcome.specs.Check.{wrong-start, withheld, wrong-step, stopped, judge-row, judge-rows, over-items, broken-step, breaks, some-broken, judge, checked-file, turned-down, verdict, check-outcome}
+use Rattle.outcome.specs.Check.{not-good, _found-if_else_, wrong-start, withheld, wrong-step, stopped, judge-row, judge-rows, over-items, broken-step, breaks, some-broken, judge, checked-file, verdict, check-outcome}
 use Rattle.outcome.specs.Game.{forced-right, can-go, fine, safe-through, last-removal, safe, safe-step}
 use Rattle.outcome.specs.Make.{table-for, made-file, fitting, written, make-outcome}
-use Rattle.pending.specs.Pairs.{same-pair, most-pairs, first-pair, pair-at, pair-step, pair-followers, pairs, over-pairs}
+use Rattle.pending.specs.Pairs.{same-pair, pair-weight, most-pairs, first-pair, pair-at, pair-step, pair-followers, pairs, over-pairs}
 use Rattle.outcome.specs.Rows.{alike-for, twos, last-split, one-row, safe-followers, row-pairs, row-step, made-row, made-table}
 
 -- the file of the table for the small tower and a book, or the refusal
@@ -45,7 +45,7 @@ file-for book = made-file small-tower (ascii book)
 
 -- every definition on the way from bytes to bytes, opened
 unfoldable pub opened : Answer (List ℕ)
-unfolding small-tower bind row-of letter-of refusal-said make-said verdict-said _if_else_ _then_ number-at number-bytes every some-of count-from below present is-there there-with only-if same-option same-list place-of joined leading begins to-depth run new-ones search-on search-from rest-round ascii compares within timed timed-right parts size nodes second-part first-part most-rows rows-at row-size step-size steps-at all-steps step-bytes row-bytes header-bytes table-file row-at step-to move rows-tower minus at-most same-ticks longer shorter controllable goes-on last-kind most-actions most-marks in-range narrow layout-of states-of start-of actions-offset states-offset states-at state-size state-at length-of kind-of mask-of target-of not-enabled bit no-header bad-counts bad-size bad-actions bad-targets bad-masks tower-of most-bytes most-nodes most-brackets most-ticks ended worded line-at over-number over-mark over-limit judge-line lines-step read-lines read-book connectives connective usual-bound onward behind bounded compared-with number-or-usual bound-at formula-one formula-two joining bracketed two-parts with-bound led marked-unit unit-at read-level read-step rank calls-left formula-at table-layout row-place row-state row-count row-first step-place step-action step-target header-right steps-right rows-right laid-out step-of row-of-table table-of read-table stands skip is-digit digits value numeral number-token mark-named mark-at mark-token with-equals comparison-token read-tower same-pending holds fresh merge coming put provided progress progress-nodes root progress-rule progress-rules none-pending progressed begin-rule begin-rules first-pending wrong-start withheld wrong-step stopped judge-row judge-rows over-items broken-step breaks some-broken judge checked-file turned-down verdict forced-right can-go fine safe-through last-removal safe safe-step table-for made-file fitting same-pair most-pairs first-pair pair-at pair-step pair-followers pairs over-pairs alike-for twos last-split one-row safe-followers row-pairs row-step made-row made-table
+unfolding small-tower bind refusal-said reason-said make-said verdict-said _if_else_ _then_ number-at number-bytes every some-of count-from below present total is-there there-with only-if same-option same-list place-of joined leading begins to-depth run new-ones search-on search-from rest-round ascii compares within timed timed-right parts size nodes second-part first-part most-rows rows-at row-size step-size steps-at all-steps step-bytes row-bytes header-bytes table-file row-at step-to move rows-tower minus at-most same-ticks longer shorter controllable goes-on last-kind most-actions most-marks in-range narrow layout-of states-of start-of actions-offset states-offset states-at state-size state-at length-of kind-of mask-of target-of not-enabled bit no-header bad-counts bad-size bad-actions bad-targets bad-masks tower-of most-bytes most-nodes most-brackets most-ticks ended worded line-at over-number over-mark over-limit judge-line lines-step read-lines read-book connectives connective usual-bound onward behind bounded compared-with number-or-usual bound-at formula-one formula-two joining bracketed two-parts with-bound led marked-unit unit-at read-level read-step rank calls-left formula-at table-layout row-place row-state row-count row-first step-place step-action step-target header-right steps-right rows-right laid-out step-of row-of-table table-of read-table stands skip is-digit digits value numeral number-token mark-named mark-at mark-token with-equals comparison-token read-tower same-pending holds fresh merge coming put provided progress progress-nodes root progress-rule progress-rules none-pending progressed begin-rule begin-rules first-pending _found-if_else_ wrong-start withheld wrong-step stopped judge-row judge-rows over-items broken-step breaks some-broken judge checked-file verdict forced-right can-go fine safe-through last-removal safe safe-step table-for made-file fitting same-pair pair-weight most-pairs first-pair pair-at pair-step pair-followers pairs over-pairs alike-for twos last-split one-row safe-followers row-pairs row-step made-row made-table
 opened = refuse NoTable
 
 pub file-1 : file-for book-1 ≡ give table-1
@@ -88,7 +88,7 @@ file-10 : file-for book-10 ≡ give table-5
 unfolding opened table-5
 file-10 = refl
 
-check-11 : checked-file small-tower (ascii book-1) table-5 ≡ refuse (NotGood Broken)
+check-11 : checked-file small-tower (ascii book-1) table-5 ≡ give (not-good Broken)
 unfolding opened table-5
 check-11 = refl
 
@@ -144,9 +144,9 @@ module _ (output : List ℕ) (areas lent : List (List ℕ)) (room : 50 ≤ lengt
   unfolding written table
   bytes-so book file few e = rw (ends-made book file few e) (begins-so file few)
 
-  turned-down-so : (book : String) (file : List ℕ) → checked-file small-tower (ascii book) file ≡ refuse (NotGood Broken)
+  turned-down-so : (book : String) (file : List ℕ) → checked-file small-tower (ascii book) file ≡ give (not-good Broken)
       → TurnedDown file lent book (byte "e")
-  unfolding checked check-outcome verdict turned-down verdict-said refusal-said row-of letter-of
+  unfolding checked check-outcome verdict verdict-said reason-said
   turned-down-so book file e = record { said = rw (lent-enough, e); clear = rw lent-enough }
 
   pub eleven-outcomes : SmallTowerTable output areas lent

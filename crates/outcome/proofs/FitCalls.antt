@@ -12,7 +12,7 @@ use lib.Dec.{ltb}
 use borrow.Author.Tests.{ltb-true, lt-ltb, le-ltb}
 use Rattle.base.specs.Lists.{some-of}
 use Rattle.base.specs.Bytes.{long-enough}
-use Rattle.base.specs.Answers.{refusal-said, Answer, refuse, give, _then_}
+use Rattle.base.specs.Answers.{Answer, refuse, give, _then_}
 use Rattle.base.proofs.Lists.{whether, never-both}
 use Rattle.base.proofs.Answers.{gives-not-refuses, if-on, if-refuses, then-gives, then-on, then-stays}
 use Rattle.base.specs.declared.Refusal.{Refusal}
@@ -39,7 +39,7 @@ use Rattle.outcome.proofs.Counted.{over-pairs-iff}
 use Rattle.outcome.proofs.Maker.{table-made}
 use Rattle.outcome.proofs.Accepted.{given-table}
 use Rattle.outcome.proofs.CallLaws.{made-call, file-of, of-file}
-use Rattle.outcome.proofs.Refusals.{number-said, One, tower-only, book-only, make-enough, make-output, make-short}
+use Rattle.outcome.proofs.Refusals.{One, tower-only, book-only, make-enough, make-output, make-short}
 
 -- ---- what fit files give
 
@@ -93,7 +93,7 @@ refuse-one e = cc
 -- a refusal with another number comes from files that are fit
 chain-fit : (tower-file text : List ℕ) (room : ℕ) (r : Refusal) → (One of-files r → ⊥)
     → (made-file tower-file text then λ file. fitting room file) ≡ refuse r → Fit tower-file text
-unfolding One some-of number-said refusal-said made-file
+unfolding One some-of made-file
 chain-fit tower-file text room r not-of-files e = by-tower (read-tower tower-file) refl
   where
     bad-tower : (q : Refusal) → read-tower tower-file ≡ refuse q → q ≡ r
@@ -116,7 +116,7 @@ chain-fit tower-file text room r not-of-files e = by-tower (read-tower tower-fil
 -- From a refusal whose number is not about the files, such as 11 and 12.
 pub refused-fit : (tower-file text output : List ℕ) (areas : List (List ℕ)) (r : Refusal) → (One of-files r → ⊥)
     → make-outcome tower-file text output areas .answer ≡ Make.Refused r → Fit tower-file text
-unfolding One some-of number-said refusal-said
+unfolding One some-of
 refused-fit tower-file text output areas r not-of-files e =
     whether (long-enough make-areas areas)
     (λ enough.
@@ -129,7 +129,7 @@ refused-fit tower-file text output areas r not-of-files e =
 
 -- ---- what a call that made a table wrote: the file of a table that is given
 
-pub record Wrote (tower-file : List ℕ) (n : ℕ) (file : List ℕ) (tower : Tower) (book : Book) : Type 0 where
+pub record CallWrote (tower-file : List ℕ) (n : ℕ) (file : List ℕ) (tower : Tower) (book : Book) : Type 0 where
   pub table : Table
   pub given : GivenTable tower book table
   pub few : MoreThan most-pairs (ReachedPair tower book) → ⊥
@@ -143,7 +143,7 @@ table-few tower book able table is many =
     never-both (over-pairs-iff tower book (able .listed) .1 many) (table-made tower book able table is .few)
 
 pub wrote : (tower-file text file : List ℕ) (n : ℕ) (tower : Tower) (book : Book) → FitFiles tower-file text tower book
-    → MadeCall tower-file text n file → Wrote tower-file n file tower book
+    → MadeCall tower-file text n file → CallWrote tower-file n file tower book
 wrote tower-file text file n tower book fit call =
     let (gives, size) = made-call tower-file text n file call in
     let (table, is, same) = file-of tower-file text file tower book fit gives in

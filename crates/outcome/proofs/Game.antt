@@ -18,7 +18,8 @@ use Rattle.logic.specs.Runs.{leads, IsRun, Unbroken}
 use Rattle.logic.specs.Tables.{Table, row-at, move, AllowsAction, AllowsFrom, Allows, NoneWithheld, GoesOn, StepsRight, NoneBroken, Good}
 use Rattle.logic.proofs.Leads.{snoc-in, snoc-out}
 use Rattle.logic.proofs.Canonical.{good-arrives, good-run}
-use Rattle.pending.specs.Pairs.{Pair, same-pair, first-pair, pair-step, pair-followers, pairs, over-pairs, most-pairs}
+use Rattle.pending.proofs.Weights.{pairs-few}
+use Rattle.pending.specs.Pairs.{Pair, same-pair, first-pair, pair-step, pair-followers, pairs, over-pairs, pair-weight, most-pairs}
 use Rattle.pending.proofs.Same.{same-pair-eq, same-pair-refl}
 use Rattle.pending.proofs.Steps.{pair-step-listed}
 use Rattle.outcome.specs.Game.{forced-right, can-go, fine, safe-through, last-removal, safe}
@@ -102,12 +103,12 @@ module _ (tower : Tower) (book : Book) (listed : Listed tower) (exact : Exact to
 module _ (tower : Tower) (book : Book) (listed : Listed tower) (few : over-pairs tower book ≡ false) where
   -- the steps of a pair that is met are met
   pub met-step : (v : Pair) (a : ℕ) (w : Pair) → List·Memᴰ v (pairs tower book) → pair-step tower book v a ≡ some w → List·Memᴰ w (pairs tower book)
-  unfolding pairs over-pairs pair-followers
+  unfolding pairs pair-followers
   met-step v a w m e =
-      search-finds same-pair (pair-followers tower book) most-pairs (first-pair tower book) same-pair-eq same-pair-refl
-      (ltb-false most-pairs (length (pairs tower book)) few)
+      search-finds same-pair (pair-followers tower book) pair-weight most-pairs (first-pair tower book) same-pair-eq same-pair-refl
+      (pairs-few tower book few)
       (Search.onward
-      (search-reached same-pair (pair-followers tower book) most-pairs (first-pair tower book) m)
+      (search-reached same-pair (pair-followers tower book) pair-weight most-pairs (first-pair tower book) m)
       (present-map-in (pair-step tower book v) (below (tower .actions)) (below-mem (tower .actions) a (pair-step-listed tower book listed v w a e)) e))
 
   -- a pair is fine among the staying, whichever of two tests that agree on its steps says what stays

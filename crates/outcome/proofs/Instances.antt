@@ -23,7 +23,7 @@ use Rattle.logic.proofs.Leads.{leads-one}
 use Rattle.pending.proofs.Theorems.{start-false-breaks}
 use Rattle.outcome.specs.Areas.{book-area, pairs-area, index-area, graph-area, flags-area, classes-area, book-areas, make-areas, check-areas}
 use Rattle.outcome.specs.Calls.{MadeCall}
-use Rattle.outcome.specs.Check.{checked-file}
+use Rattle.outcome.specs.Check.{good-table, checked-file}
 use Rattle.outcome.specs.Make.{made-file, written}
 use Rattle.outcome.specs.Shown.{HoldsGood, MadeWell, MakesTable}
 use Rattle.outcome.specs.Follow.{stepped, row-after, follow-answer, follow-outcome}
@@ -35,7 +35,7 @@ use Rattle.outcome.proofs.Demands.{makes, makes-well}
 use Rattle.outcome.proofs.Answering.{accepted-holds}
 
 -- the checker's definition accepts table 1 under book 1
-accepted-1 : checked-file small-tower (ascii book-1) table-1 ≡ give tt
+accepted-1 : checked-file small-tower (ascii book-1) table-1 ≡ give good-table
 unfolding opened table-1
 accepted-1 = refl
 

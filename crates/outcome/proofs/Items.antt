@@ -15,9 +15,10 @@ use Rattle.logic.specs.Book.{Book}
 use Rattle.logic.specs.Runs.{leads}
 use Rattle.logic.specs.Tables.{Table, row-at, step-to, move, rows-tower, AllowsFrom, Allows, GoodStart, StepsRight}
 use Rattle.logic.proofs.Leads.{leads-nil, leads-in, leads-out, snoc-in, snoc-out}
-use Rattle.logic.proofs.Canonical.{Follows}
+use Rattle.logic.proofs.Canonical.{FollowsRuns}
 use Rattle.pending.specs.Pending.{Pending, progressed, first-pending}
-use Rattle.pending.specs.Pairs.{Pair, same-pair, first-pair, pair-step, pair-followers, pairs, over-pairs, most-pairs}
+use Rattle.pending.proofs.Weights.{pairs-few}
+use Rattle.pending.specs.Pairs.{Pair, same-pair, first-pair, pair-step, pair-followers, pairs, over-pairs, pair-weight, most-pairs}
 use Rattle.pending.proofs.Marks.{progressed-same}
 use Rattle.pending.proofs.Same.{same-pair-eq, same-pair-refl}
 use Rattle.pending.proofs.Steps.{pair-step-in, pair-step-out, pair-leads-state}
@@ -35,7 +36,7 @@ move-inside table r a s e =
     outside h = unfold move row-at step-to in (rw (List·getD-eq-default table (record { state = 0; steps = [] }) h) refl)
 
 -- Where a table follows a tower, what it allows is one of the tower's actions.
-pub rows-listed : (tower : Tower) (table : Table) → Listed tower → Follows tower table → Listed (rows-tower tower table)
+pub rows-listed : (tower : Tower) (table : Table) → Listed tower → FollowsRuns tower table → Listed (rows-tower tower table)
 unfolding Listed rows-tower StepsRight
 rows-listed tower table listed follows r a s e =
     listed (row-at table r .state) a (row-at table s .state) (follows .steps r (move-inside table r a s e) a s e)
@@ -76,7 +77,7 @@ module _ (tower : Tower) (book : Book) (table : Table) where
     pub row : leads (move table) 0 run ≡ some (v .state)
     pub pair : leads (pair-step tower book) (first-pair tower book) run ≡ some (pair-of (v .state) (v .pending))
 
-  module _ (follows : Follows tower table) where
+  module _ (follows : FollowsRuns tower table) where
     -- It is a step of its pair.
     item-pair : (v w : Pair) (a : ℕ) → pair-step rows book v a ≡ some w
         → pair-step tower book (pair-of (v .state) (v .pending)) a ≡ some (pair-of (w .state) (w .pending))
@@ -91,12 +92,12 @@ module _ (tower : Tower) (book : Book) (table : Table) where
     module _ (listed : Listed rows) (few : over-items tower book table ≡ false) (whole : some-broken rows book ≡ false) where
       -- all that are reached are looked at, since they are not too many
       item-listed : (v : Pair) → Reached (pair-followers rows book) (first-pair rows book) v → List·Memᴰ v (pairs rows book)
-      unfolding over-items over-pairs pairs
+      unfolding over-items pairs
       item-listed v reached =
           let (z, m, e) =
-          search-all same-pair (pair-followers rows book) most-pairs (first-pair rows book)
+          search-all same-pair (pair-followers rows book) pair-weight most-pairs (first-pair rows book)
           (decides-fitting same-pair (pair-followers rows book) (first-pair rows book) same-pair-eq same-pair-refl)
-          (ltb-false most-pairs (length (pairs rows book)) few) reached in
+          (pairs-few rows book few) reached in
           Memᴰ·cast (same-pair-eq v z e) m
 
       -- an allowed action makes an unbroken step
@@ -178,7 +179,7 @@ module _ (tower : Tower) (book : Book) (table : Table) where
     none-found listed all =
         none-of (breaks rows book) (pairs rows book)
         (λ v m.
-        let before = run-to v (pair-reached rows book listed v .0 (search-reached same-pair (pair-followers rows book) most-pairs (first-pair rows book) m)) in
+        let before = run-to v (pair-reached rows book listed v .0 (search-reached same-pair (pair-followers rows book) pair-weight most-pairs (first-pair rows book) m)) in
         none-of (broken-step rows book v) (below (rows .actions)) (λ a here. sound v a before))
       where
         sound : (v : Pair) (a : ℕ) → RunTo v → broken-step rows book v a ≡ false

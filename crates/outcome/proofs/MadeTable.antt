@@ -11,7 +11,8 @@ use native.Mathlib.Omega.{arith}
 use Rattle.base.specs.Lists.{every, below, is-there, there-with, same-option}
 use Rattle.base.proofs.Lists.{Rising, same-truth, never-both, and-left, and-right, or-cases, is-there-in, is-there-out, whether-there, none-some, some-one, there-with-out, only-if-in, every-below, some-below, below-mem, mem-below, present-map-out, present-map-in, present-map-same, below-ascending}
 use borrow.Author.Tests.{not-true}
-use Rattle.base.proofs.Search.{MeetsAll, MetInOrder, search-order}
+use Rattle.base.proofs.Search.{MeetsAll, MetInOrder, few-once, search-order}
+use Rattle.base.specs.Search.{once}
 use Rattle.logic.specs.Tower.{Tower, Listed, controllable, goes-on}
 use Rattle.logic.specs.Book.{Book}
 use Rattle.logic.specs.Runs.{leads}
@@ -336,8 +337,8 @@ module _ (tower : Tower) (book : Book) where
     unfolding made-table row-pairs row-number
     made-first-met =
         rows-met (row-pairs tower book) 0 1
-        (search-order (one-row tower book) (safe-followers tower book) (length (pairs tower book)) (first-pair tower book)
-        (one-row-same tower book) (rows-few tower book known))
+        (search-order (one-row tower book) (safe-followers tower book) once (length (pairs tower book)) (first-pair tower book)
+        (one-row-same tower book) (few-once (length (pairs tower book)) (row-pairs tower book) (rows-few tower book known)))
 
     -- (a) Row 0 has the tower's start state.
     made-start : GoodStart tower (made-table tower book)

@@ -15,7 +15,7 @@ use Rattle.logic.specs.Book.{Book}
 use Rattle.logic.specs.Runs.{leads, IsRun}
 use Rattle.logic.specs.Tables.{Table, row-at, move, Allows, AllowsFrom, NoneBroken, Good, GoodAllow, IsMade}
 use Rattle.logic.proofs.Leads.{leads-nil, leads-in, leads-out}
-use Rattle.logic.proofs.Canonical.{Follows, arrives, made-unique}
+use Rattle.logic.proofs.Canonical.{FollowsRuns, arrives, made-unique}
 use Rattle.pending.specs.Pairs.{Pair, first-pair, pair-step, over-pairs, most-pairs}
 use Rattle.pending.proofs.Theorems.{unbroken-iff, pair-leads-state}
 use Rattle.outcome.specs.Game.{last-removal, safe, safe-step}
@@ -95,7 +95,7 @@ module _ (tower : Tower) (book : Book) (able : Makeable tower book) where
     pub so : MadeSo tower book
     so = made-so tower book known
 
-    pub follows : Follows tower (made-table tower book)
+    pub follows : FollowsRuns tower (made-table tower book)
     follows = record { is-table = so .is-table; start = so .a; steps = so .c }
 
     -- what the made table allows goes over safe steps, and the other way round

@@ -8,13 +8,13 @@ use Rattle.base.specs.Text.{ascii}
 use Rattle.base.specs.Bytes.{long-enough}
 use Rattle.base.specs.Answers.{answered, refusal-said, book-said, make-said, verdict-said, follow-said, Answer, give, refuse}
 use Rattle.base.specs.declared.Refusal.{Refusal}
-use Rattle.base.specs.declared.Refusal.the-variants.{TowerSize, Range, Action, Target, Mask, NoTable, Layout, NotGood}
+use Rattle.base.specs.declared.Refusal.the-variants.{TowerSize, Range, Action, Target, Mask, NoTable, Layout}
 use Rattle.base.specs.declared.Reason.the-variants.{Stopped}
 use Rattle.logic.specs.Book.{Book}
 use Rattle.outcome.specs.Areas.{book-area, book-areas, make-areas}
 use Rattle.outcome.specs.ReadBook.{book-answer, book-under}
 use Rattle.outcome.specs.Make.{made-file}
-use Rattle.outcome.specs.Check.{checked-file, turned-down, verdict}
+use Rattle.outcome.specs.Check.{Finding, not-good, checked-file, verdict}
 use Rattle.outcome.specs.Follow.{stepped, row-after, follow-answer, follow-outcome}
 use Rattle.outcome.specs.SmallTower.{small-tower, book-1, table-1, table-5}
 use Rattle.outcome.specs.RefusalTable.{TowerSays, BookSays, TableSays, with-byte, true-lines, spaced, in-brackets, no-step, with-target, RefusalTable}
@@ -37,10 +37,10 @@ book-as : (text : List ℕ) (o : Answer Book) → book-under 3 text ≡ o → Bo
 unfolding BookSays
 book-as text o e areas enough = ap book-said (book-enough 3 text areas enough .0 ∙ ap book-answer e)
 
--- a table is turned down
-table-not : (file : List ℕ) (r : Refusal) → checked-file small-tower [] file ≡ refuse r → TableSays file (verdict-said (turned-down r))
-unfolding TableSays verdict
-table-not file r e areas enough = ap verdict-said (check-enough small-tower [] file areas enough .0 ∙ ap verdict e)
+-- a table is said as it is judged
+table-as : (file : List ℕ) (o : Answer Finding) → checked-file small-tower [] file ≡ o → TableSays file (verdict-said (verdict o))
+unfolding TableSays
+table-as file o e areas enough = ap verdict-said (check-enough small-tower [] file areas enough .0 ∙ ap verdict e)
 
 -- All of them.
 pub refusal-table : RefusalTable
@@ -84,9 +84,9 @@ refusal-table =
       fit-timed = book-as (ascii "start E 1 p0 | p1\n") (book-under 3 (ascii "start E 1 p0 | p1\n")) refl;
       no-10-until = book-as (ascii "start U 1 (T, A 1 p0)\n") (book-under 3 (ascii "start U 1 (T, A 1 p0)\n")) refl;
       fit-until = book-as (ascii "start U 1 (A 1 p0, T)\n") (book-under 3 (ascii "start U 1 (A 1 p0, T)\n")) refl;
-      no-13 = table-not (with-target 5) Layout refl;
+      no-13 = table-as (with-target 5) (refuse Layout) refl;
       no-13-followed = refl;
-      no-14 = table-not no-step (NotGood (Stopped 0)) refl;
+      no-14 = table-as no-step (give (not-good (Stopped 0))) refl;
       no-17 = refl;
       no-17-action = refl;
       fit-row = refl;

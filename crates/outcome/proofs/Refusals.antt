@@ -1,7 +1,6 @@
 -- Which refusals the definitions can give at all, for every input; and what becomes of the lent areas.
 use Prim.Native.Nat.{ℕ, zero, suc, _-_}
 use mathlib.Core.Path.{_≡_, refl, sym, _∙_, ap, subst}
-use mathlib.Core.Logic.{_⊎_, inl, inr}
 use mathlib.Core.Bool.{Bool, true, false, _||_, not}
 use mathlib.Core.Option.{Option, none, some}
 use mathlib.Core.List.{List, [], _∷_}
@@ -12,12 +11,12 @@ use Rattle.base.specs.Choice.{pick}
 use Rattle.base.specs.Lists.{some-of, below}
 use Rattle.base.specs.Bytes.{long-enough, cleared}
 use Rattle.base.specs.Recursion.{to-depth, run}
-use Rattle.base.specs.Answers.{Said, answered, refused, refusal-said, book-said, make-said, verdict-said, follow-said, Answer, refuse, give, _if_else_, _then_}
+use Rattle.base.specs.Answers.{Said, answered, refused, row-of, letter-of, refusal-number, refusal-place, refusal-said, reason-said, book-said, make-said, verdict-said, follow-said, Answer, refuse, give, _if_else_, _then_}
 use Rattle.base.specs.declared.Reason.{Reason}
 use Rattle.base.specs.declared.Reason.the-variants.{Start, Withheld, Stopped, Broken}
 use Rattle.base.specs.declared.Reason.the-variants as Why
 use Rattle.base.specs.declared.Refusal.{Refusal}
-use Rattle.base.specs.declared.Refusal.the-variants.{TowerSize, Range, Action, Target, Mask, Grammar, Number, Mark, Limit, Timed, Pairs, NoTable, Layout, NotGood, Area, Output, Outside, NotAllowed}
+use Rattle.base.specs.declared.Refusal.the-variants.{TowerSize, Range, Action, Target, Mask, Grammar, Number, Mark, Limit, Timed, Pairs, NoTable, Layout, Area, Output, Outside, NotAllowed}
 use Rattle.base.specs.declared.BookAnswer.the-variants as Book
 use Rattle.base.specs.declared.MakeAnswer.the-variants as Make
 use Rattle.base.specs.declared.Verdict.the-variants as Check
@@ -27,7 +26,7 @@ use Rattle.logic.specs.Tower.{Tower, most-marks, tower-of, no-header, bad-count
 use Rattle.logic.specs.Book.{Book, timed-right}
 use Rattle.logic.specs.Tables.{Table, move}
 use Rattle.reading.specs.TowerReading.{read-tower}
-use Rattle.reading.specs.BookReading.{Line, no-line, line, line-at, ReadSoFar, most-bytes, over-number, over-mark, over-limit, judge-line, lines-step, read-lines, read-book}
+use Rattle.reading.specs.BookReading.{Line, no-line, line, line-at, ReadSoFar, most-bytes, usual-bound, over-number, over-mark, over-limit, judge-line, lines-step, read-lines, read-book}
 use Rattle.reading.specs.TableReading.{laid-out, rows-of, table-actions, table-of, read-table}
 use Rattle.pending.specs.Pairs.{first-pair, over-pairs}
 use Rattle.outcome.specs.Areas.{book-areas, make-areas, check-areas}
@@ -35,10 +34,9 @@ use Rattle.outcome.specs.Game.{safe}
 use Rattle.outcome.specs.Rows.{made-table}
 use Rattle.outcome.specs.ReadBook.{book-answer, book-under, read-outcome}
 use Rattle.outcome.specs.Make.{table-for, made-file, fitting, written, make-outcome}
-use Rattle.outcome.specs.Check.{judge-row, judge-rows, judge, checked-file, turned-down, verdict, check-outcome}
+use Rattle.outcome.specs.Check.{Finding, good-table, not-good, _found-if_else_, judge-row, judge-rows, judge, checked-file, verdict, check-outcome}
 use Rattle.outcome.specs.Follow.{stepped, row-after, follow-answer, follow-outcome}
 use Rattle.outcome.specs.EveryCall.{book-numbers, make-numbers, check-numbers, follow-numbers, RefusesWith, AreasRight}
-use Rattle.outcome.proofs.CallLaws.{turned-down-as}
 
 -- ---- the refusals of a chain
 
@@ -98,12 +96,12 @@ module _ (P : Refusal → Type 0) where
     stuck : ReadSoFar → Answer Book
     stuck here = refuse (Grammar (length (here .rules)))
 
-    rest-only : (n : ℕ) (here : ReadSoFar) → Only P (to-depth left stuck (lines-step marks text) n here)
+    rest-only : (n : ℕ) (here : ReadSoFar) → Only P (to-depth left stuck (lines-step usual-bound marks text) n here)
     unfolding to-depth stuck lines-step
     rest-only zero here = refuse-only (Grammar (length (here .rules))) (grammar (length (here .rules)))
     rest-only (suc n) here =
         pick-only (leb (length text) (here .place)) _ _ (give-only (here .rules))
-        (then-only (judge-line marks (here .rules) (line-at text (here .place))) _ (line-only (here .rules) (line-at text (here .place)))
+        (then-only (judge-line marks (here .rules) (line-at usual-bound text (here .place))) _ (line-only (here .rules) (line-at usual-bound text (here .place)))
         (λ on. rest-only n on))
 
     pub book-only : Only P (read-book marks text)
@@ -129,46 +127,50 @@ module _ (P : Refusal → Type 0) where
   unfolding fitting
   fitting-only output room file = if-only Output (ltb room (length file)) _ output (give-only file)
 
-  -- the checker: 14 and 11
-  module _ (not-good : (why : Reason) → P (NotGood why)) (pairs : P Pairs) (tower : Tower) (book : Book) (table : Table) where
-    rows-only : (rs : List ℕ) (after : Answer (Unit {0})) → Only P after → Only P (judge-rows tower table rs after)
+  -- the checker: 11
+  found-only : (q : Reason) (b : Bool) (o : Answer Finding) → Only P o → Only P (q found-if b else o)
+  unfolding _found-if_else_
+  found-only q true o rest = give-only (not-good q)
+  found-only q false o rest = rest
+
+  module _ (pairs : P Pairs) (tower : Tower) (book : Book) (table : Table) where
+    rows-only : (rs : List ℕ) (after : Answer Finding) → Only P after → Only P (judge-rows tower table rs after)
     unfolding judge-rows judge-row
     rows-only [] after rest = rest
     rows-only (r ∷ rs) after rest =
-        if-only (NotGood (Withheld r)) _ _ (not-good (Withheld r))
-        (if-only (NotGood (Why.WrongStep r)) _ _ (not-good (Why.WrongStep r))
-        (if-only (NotGood (Stopped r)) _ _ (not-good (Stopped r))
-        (rows-only rs after rest)))
+        found-only (Withheld r) _ _ (found-only (Why.WrongStep r) _ _ (found-only (Stopped r) _ _ (rows-only rs after rest)))
 
     judge-only : Only P (judge tower book table)
     unfolding judge
     judge-only =
-        if-only (NotGood Start) _ _ (not-good Start)
+        found-only Start _ _
         (rows-only (below (length table)) _
         (if-only Pairs _ _ pairs
-        (if-only (NotGood Broken) _ _ (not-good Broken) (give-only tt))))
+        (found-only Broken _ _ (give-only good-table))))
 
 -- ---- the numbers
 
--- the number of a refusal
-unfoldable pub number-said : Said → ℕ
-number-said (answered values) = 0
-number-said (refused number place inside) = number
-
 -- a refusal whose number is one of these
 unfoldable pub One : List ℕ → Refusal → Type 0
-One numbers r = some-of (eqb (number-said (refusal-said r))) numbers ≡ true
+One numbers r = some-of (eqb (refusal-number r)) numbers ≡ true
 
--- what is said of an answer that is given is no refusal, and a refusal is said as itself
+-- what is refused is refused with its number
+refused-with : (numbers : List ℕ) (n p : ℕ) (letters : List ℕ) → some-of (eqb n) numbers ≡ true → RefusesWith numbers (refused n p letters)
+unfolding RefusesWith
+refused-with numbers n p letters one number place inside e = let f : n ≡ number = cc in subst (λ k. some-of (eqb k) numbers ≡ true) f one
+
+-- values are no refusal
+answered-with : (numbers values : List ℕ) → RefusesWith numbers (answered values)
+unfolding RefusesWith
+answered-with numbers values number place inside e = let z : _≡_ {A = ℕ} 0 1 = cc in absurd (omega arith)
+
+-- where a refusal is said as itself, the numbers are those of the refusals, and of what is said of a value
 said-only : {A : Type 0} (say : Answer A → Said) (numbers : List ℕ) → ((r : Refusal) → say (refuse r) ≡ refusal-said r)
-    → ((x : A) → (values : List ℕ) × (say (give x) ≡ answered values)) → (o : Answer A) → Only (One numbers) o → RefusesWith numbers (say o)
-unfolding RefusesWith One number-said
-said-only say numbers refusals values (refuse r) only number place inside e =
-    subst (λ n. some-of (eqb n) numbers ≡ true) (ap number-said (sym (refusals r) ∙ e)) (only .only r refl)
-said-only say numbers refusals values (give x) only number place inside e = no-refusal (values x)
-  where
-    no-refusal : (vs : List ℕ) × (say (give x) ≡ answered vs) → some-of (eqb number) numbers ≡ true
-    no-refusal (vs, f) = let g : answered vs ≡ refused number place inside = sym f ∙ e in let z : _≡_ {A = ℕ} 0 1 = cc in absurd (omega arith)
+    → ((x : A) → RefusesWith numbers (say (give x))) → (o : Answer A) → Only (One numbers) o → RefusesWith numbers (say o)
+unfolding One refusal-said
+said-only say numbers refusals values (refuse r) only =
+    subst (RefusesWith numbers) (sym (refusals r)) (refused-with numbers (refusal-number r) (refusal-place r) [] (only .only r refl))
+said-only say numbers refusals values (give x) only = values x
 
 -- ---- a call: 15 if an area is too short, and else what the files say
 
@@ -204,9 +206,9 @@ module _ {X : Type 0} (say : X → Said) (numbers lengths : List ℕ) (areas aft
 -- ---- the book reader
 
 book-inner : (marks : ℕ) (text : List ℕ) → RefusesWith (2 ∷ 6 ∷ 7 ∷ 8 ∷ 9 ∷ 10 ∷ []) (book-said (book-answer (book-under marks text)))
-unfolding One some-of number-said refusal-said book-said book-answer book-under
+unfolding One some-of book-said book-answer book-under
 book-inner marks text =
-    said-only (λ o. book-said (book-answer o)) (2 ∷ 6 ∷ 7 ∷ 8 ∷ 9 ∷ 10 ∷ []) (λ r. refl) (λ book. (_, refl)) (book-under marks text)
+    said-only (λ o. book-said (book-answer o)) (2 ∷ 6 ∷ 7 ∷ 8 ∷ 9 ∷ 10 ∷ []) (λ r. refl) (λ book. answered-with _ _) (book-under marks text)
     (if-only (One (2 ∷ 6 ∷ 7 ∷ 8 ∷ 9 ∷ 10 ∷ [])) Range (ltb most-marks marks) _ refl
     (book-only (One (2 ∷ 6 ∷ 7 ∷ 8 ∷ 9 ∷ 10 ∷ [])) (λ l. refl) (λ l. refl) (λ l. refl) (λ l. refl) (λ l. refl) marks text))
 
@@ -243,7 +245,7 @@ module _ (tower-file text output : List ℕ) where
   make-chain = made-file tower-file text then λ file. fitting (length output) file
 
   make-only : Only (One making) make-chain
-  unfolding One some-of number-said refusal-said made-file
+  unfolding One some-of made-file
   make-only =
       then-only (One making) (made-file tower-file text) _
       (then-only (One making) (read-tower tower-file) _ (tower-only (One making) refl refl refl refl refl tower-file)
@@ -261,7 +263,7 @@ module _ (tower-file text output : List ℕ) where
 
   make-inner : RefusesWith making (make-said (written make-chain output [] .answer))
   unfolding said-made written make-said
-  make-inner = said-only said-made making (λ r. refl) (λ file. (_, refl)) make-chain make-only
+  make-inner = said-only said-made making (λ r. refl) (λ file. answered-with _ _) make-chain make-only
 
   -- neither the answer nor the output that a call ends with depends on the areas, and the areas end as they are handed on
   written-answer : (o : Answer (List ℕ)) (areas lent : List (List ℕ)) → written o output areas .answer ≡ written o output lent .answer
@@ -344,19 +346,15 @@ make-same-answer tower-file text output other areas lent enough lent-enough same
 abbrev checking : List ℕ
 checking = 1 ∷ 2 ∷ 3 ∷ 4 ∷ 5 ∷ 6 ∷ 7 ∷ 8 ∷ 9 ∷ 10 ∷ 13 ∷ 14 ∷ 11 ∷ []
 
--- a refusal that the checker turns down with is said as itself
-turned-down-said : (r : Refusal) → verdict-said (turned-down r) ≡ refusal-said r
-unfolding verdict-said
-turned-down-said r = go (turned-down-as r)
-  where
-    go : (turned-down r ≡ Check.Refused r) ⊎ ((why : Reason) × (r ≡ NotGood why) × (turned-down r ≡ Check.NotGood why))
-        → verdict-said (turned-down r) ≡ refusal-said r
-    go (inl e) = ap verdict-said e
-    go (inr (why, f, e)) = ap verdict-said e ∙ ap refusal-said (sym f)
+-- 14 is one of them
+finding-with : (x : Finding) → RefusesWith checking (verdict-said (verdict (give x)))
+unfolding verdict verdict-said reason-said some-of
+finding-with good-table = answered-with checking []
+finding-with (not-good q) = refused-with checking 14 (row-of q) (letter-of q ∷ []) refl
 
 module _ (tower-file text file : List ℕ) where
   check-only : Only (One checking) (checked-file tower-file text file)
-  unfolding One some-of number-said refusal-said checked-file
+  unfolding One some-of checked-file
   check-only =
       then-only (One checking) (read-tower tower-file) _ (tower-only (One checking) refl refl refl refl refl tower-file)
       (λ tower.
@@ -364,12 +362,12 @@ module _ (tower-file text file : List ℕ) where
       (book-only (One checking) (λ l. refl) (λ l. refl) (λ l. refl) (λ l. refl) (λ l. refl) (tower .marks) text)
       (λ book.
       then-only (One checking) (read-table tower file) _ (table-only (One checking) refl tower file)
-      (λ table. judge-only (One checking) (λ why. refl) refl tower book table)))
+      (λ table. judge-only (One checking) refl tower book table)))
 
   check-inner : RefusesWith checking (verdict-said (verdict (checked-file tower-file text file)))
   unfolding verdict verdict-said
   check-inner =
-      said-only (λ o. verdict-said (verdict o)) checking (λ r. turned-down-said r) (λ u. (_, refl)) (checked-file tower-file text file) check-only
+      said-only (λ o. verdict-said (verdict o)) checking (λ r. refl) finding-with (checked-file tower-file text file) check-only
 
   module _ (areas : List (List ℕ)) where
     pub check-enough : long-enough check-areas areas ≡ true
@@ -380,7 +378,7 @@ module _ (tower-file text file : List ℕ) where
 
     pub check-short : long-enough check-areas areas ≡ false
         → (check-outcome tower-file text file areas .answer ≡ Check.Refused Area) × (check-outcome tower-file text file areas .areas ≡ areas)
-    unfolding check-outcome verdict turned-down
+    unfolding check-outcome verdict
     check-short e = (rw e refl, rw e refl)
 
     pub check-refuses : RefusesWith check-numbers (verdict-said (check-outcome tower-file text file areas .answer))
@@ -406,9 +404,9 @@ stepped-only P not-allowed none = refuse-only P NotAllowed not-allowed
 stepped-only P not-allowed (some row) = give-only P row
 
 pub follow-refuses : (file : List ℕ) (row action : ℕ) → RefusesWith follow-numbers (follow-said (follow-outcome file row action))
-unfolding One some-of number-said refusal-said follow-numbers follow-said follow-answer follow-outcome row-after
+unfolding One some-of follow-numbers follow-said follow-answer follow-outcome row-after
 follow-refuses file row action =
-    said-only (λ o. follow-said (follow-answer o)) (13 ∷ 17 ∷ 18 ∷ []) (λ r. refl) (λ s. (_, refl)) (row-after file row action)
+    said-only (λ o. follow-said (follow-answer o)) (13 ∷ 17 ∷ 18 ∷ []) (λ r. refl) (λ s. answered-with _ _) (row-after file row action)
     (if-only (One (13 ∷ 17 ∷ 18 ∷ [])) Layout (not (laid-out file)) _ refl
     (if-only (One (13 ∷ 17 ∷ 18 ∷ [])) Outside (leb (rows-of file) row || leb (table-actions file) action) _ refl
     (stepped-only (One (13 ∷ 17 ∷ 18 ∷ [])) refl (move (table-of file) row action))))

@@ -10,14 +10,15 @@ use native.Mathlib.Omega.{arith}
 use borrow.Author.Tests.{ltb-false}
 use Rattle.base.specs.Lists.{some-of, below, place-of}
 use Rattle.base.proofs.Lists.{same-truth, same-option-out, none-some, some-one, some-of-mem, mem-getD, mem-along, present-map-out, present-map-in, below-mem, place-of-some, place-of-at}
-use Rattle.base.specs.Search.{Apart}
-use Rattle.base.proofs.Search.{Reached, start, onward, Fitting, apart-at, apart-few, search-first, search-reached, search-apart, search-all}
+use Rattle.base.specs.Search.{Apart, once}
+use Rattle.base.proofs.Search.{Reached, start, onward, Fitting, apart-at, apart-few, few-once, search-first, search-reached, search-apart, search-all}
 use Rattle.logic.specs.Tower.{Tower}
 use Rattle.logic.specs.Book.{Book}
 use Rattle.logic.specs.Runs.{leads}
 use Rattle.logic.specs.TableFile.{most-rows}
 use Rattle.logic.proofs.Leads.{leads-nil, leads-out, snoc-in}
-use Rattle.pending.specs.Pairs.{Pair, pairs, most-pairs, first-pair, over-pairs, pair-followers, same-pair}
+use Rattle.pending.proofs.Weights.{pairs-most}
+use Rattle.pending.specs.Pairs.{Pair, pairs, pair-weight, most-pairs, first-pair, over-pairs, pair-followers, same-pair}
 use Rattle.outcome.specs.Game.{safe, safe-step}
 use Rattle.outcome.specs.Rows.{one-row, safe-followers, row-pairs}
 use Rattle.outcome.proofs.Alike.{Known, one-row-same, safe-step-out, safe-met, safe-listed, one-row-step}
@@ -77,12 +78,12 @@ module _ (tower : Tower) (book : Book) where
   pub first-met : List·Memᴰ (first-pair tower book) (pairs tower book)
   unfolding pairs
   first-met =
-      mem-along (sym (search-first same-pair (pair-followers tower book) most-pairs (first-pair tower book) .1)) (List·Memᴰ·head refl)
+      mem-along (sym (search-first same-pair (pair-followers tower book) pair-weight most-pairs (first-pair tower book) .1)) (List·Memᴰ·head refl)
 
   -- The first pair is that of the first row.
   first-row : (rest : List Pair) × (row-pairs tower book ≡ first-pair tower book ∷ rest)
   unfolding row-pairs
-  first-row = search-first (one-row tower book) (safe-followers tower book) (length (pairs tower book)) (first-pair tower book)
+  first-row = search-first (one-row tower book) (safe-followers tower book) once (length (pairs tower book)) (first-pair tower book)
 
   -- There is a row.
   pub rows-some : 0 < length (row-pairs tower book)
@@ -98,14 +99,14 @@ module _ (tower : Tower) (book : Book) where
   unfolding pair-of row-pairs
   pair-led r l =
       reached-led
-      (search-reached (one-row tower book) (safe-followers tower book) (length (pairs tower book)) (first-pair tower book)
+      (search-reached (one-row tower book) (safe-followers tower book) once (length (pairs tower book)) (first-pair tower book)
       (mem-getD (row-pairs tower book) r (first-pair tower book) l))
 
   -- The pairs of the rows are apart.
   rows-apart : Apart (one-row tower book) (row-pairs tower book)
   unfolding row-pairs
   rows-apart =
-      search-apart (one-row tower book) (safe-followers tower book) (length (pairs tower book)) (first-pair tower book)
+      search-apart (one-row tower book) (safe-followers tower book) once (length (pairs tower book)) (first-pair tower book)
       (one-row-same tower book)
 
   -- Rows whose pairs make one row are one.
@@ -167,22 +168,23 @@ module _ (tower : Tower) (book : Book) where
           y,
           led-stands y
               (reached-led
-              (search-reached (one-row tower book) (safe-followers tower book) (length (pairs tower book)) (first-pair tower book) m))
+              (search-reached (one-row tower book) (safe-followers tower book) once (length (pairs tower book)) (first-pair tower book) m))
               .met,
           one-row-same tower book .itself y,
         ))
 
     -- There are at most 1,000 rows.
     pub rows-limit : length (row-pairs tower book) ≤ most-rows
-    unfolding over-pairs most-pairs most-rows
-    rows-limit = omega (arith, ltb-false 1000 (length (pairs tower book)) (known .few), rows-few)
+    unfolding most-rows
+    rows-limit = omega (arith, pairs-most tower book (known .few), rows-few)
 
     -- Every pair that is led to has a row.
     has-row : (v : Pair) → Led tower book v → some-of (one-row tower book v) (row-pairs tower book) ≡ true
     unfolding row-pairs
     has-row v l =
         let (w, m, e) =
-        search-all (one-row tower book) (safe-followers tower book) (length (pairs tower book)) (first-pair tower book) fits rows-few
+        search-all (one-row tower book) (safe-followers tower book) once (length (pairs tower book)) (first-pair tower book) fits
+        (few-once (length (pairs tower book)) (row-pairs tower book) rows-few)
         (led-reached v l) in
         some-of-mem (one-row tower book v) m e
 

@@ -8,10 +8,10 @@ use Rattle.base.specs.Choice.{pick}
 use Rattle.base.specs.Lists.{every, some-of, below, is-there, there-with}
 use Rattle.base.specs.Bytes.{long-enough, cleared}
 use Rattle.base.specs.Answers.{Answer, refuse, give, _if_else_, _then_}
+use Rattle.base.specs.declared.Reason.{Reason}
 use Rattle.base.specs.declared.Reason.the-variants.{Start, Withheld, Stopped, Broken}
 use Rattle.base.specs.declared.Reason.the-variants as Why
-use Rattle.base.specs.declared.Refusal.{Refusal}
-use Rattle.base.specs.declared.Refusal.the-variants.{TowerSize, Range, Action, Target, Mask, Grammar, Number, Mark, Limit, Timed, Pairs, NoTable, Layout, NotGood, Area, Output, Outside, NotAllowed}
+use Rattle.base.specs.declared.Refusal.the-variants.{Pairs, Area}
 use Rattle.base.specs.declared.Verdict.{Verdict}
 use Rattle.base.specs.declared.Verdict.the-variants as Check
 use Rattle.logic.specs.Tower.{Tower, controllable, goes-on}
@@ -22,6 +22,16 @@ use Rattle.reading.specs.BookReading.{read-book}
 use Rattle.reading.specs.TableReading.{read-table}
 use Rattle.pending.specs.Pairs.{Pair, pair-step, pairs, over-pairs}
 use Rattle.outcome.specs.Areas.{check-areas}
+
+-- What is found of a table that is judged: that it is good, or the first reason why not.
+pub data Finding : Type 0 where
+  good-table : Finding
+  not-good : Reason → Finding
+
+infixr 10 _found-if_else_
+-- 'q found-if b else o': reason q is found if b holds, and else o
+unfoldable pub _found-if_else_ : Reason → Bool → Answer Finding → Answer Finding
+_found-if_else_ q b o = pick b (λ _. give (not-good q)) (λ _. o)
 
 -- ---- reasons a to d
 
@@ -44,15 +54,15 @@ unfoldable pub stopped : Tower → Table → ℕ → Bool
 stopped tower table r = every (λ s. not (goes-on (tower .kind (s .action)))) (row-at table r .steps)
 
 -- the first reason of a row, in the order b, c, d; or what comes after
-unfoldable pub judge-row : Tower → Table → ℕ → Answer (Unit {0}) → Answer (Unit {0})
+unfoldable pub judge-row : Tower → Table → ℕ → Answer Finding → Answer Finding
 judge-row tower table r after =
-    NotGood (Withheld r) if some-of (withheld tower table r) (below (tower .actions)) else
-    NotGood (Why.WrongStep r) if some-of (wrong-step tower table r) (row-at table r .steps) else
-    NotGood (Stopped r) if stopped tower table r else
+    Withheld r found-if some-of (withheld tower table r) (below (tower .actions)) else
+    Why.WrongStep r found-if some-of (wrong-step tower table r) (row-at table r .steps) else
+    Stopped r found-if stopped tower table r else
     after
 
 -- the rows in turn
-unfoldable pub judge-rows : Tower → Table → List ℕ → Answer (Unit {0}) → Answer (Unit {0})
+unfoldable pub judge-rows : Tower → Table → List ℕ → Answer Finding → Answer Finding
 judge-rows tower table [] after = after
 judge-rows tower table (r ∷ rs) after = judge-row tower table r (judge-rows tower table rs after)
 
@@ -77,46 +87,27 @@ some-broken tower book = some-of (breaks tower book) (pairs tower book)
 -- ---- the verdict
 
 -- a table for a tower and a book: 14 a; 14 b to d; 11; 14 e, that some allowed run is broken
-unfoldable pub judge : Tower → Book → Table → Answer (Unit {0})
+unfoldable pub judge : Tower → Book → Table → Answer Finding
 judge tower book table =
-    NotGood Start if wrong-start tower table else
+    Start found-if wrong-start tower table else
     judge-rows tower table (below (length table))
     (Pairs if over-items tower book table else
-    NotGood Broken if some-broken (rows-tower tower table) book else
-    give tt)
+    Broken found-if some-broken (rows-tower tower table) book else
+    give good-table)
 
 -- files of a tower, a book and a table
-unfoldable pub checked-file : List ℕ → List ℕ → List ℕ → Answer (Unit {0})
+unfoldable pub checked-file : List ℕ → List ℕ → List ℕ → Answer Finding
 checked-file tower text table =
     read-tower tower then λ t.
     read-book (t .marks) text then λ book.
     read-table t table then λ rows.
     judge t book rows
 
--- a refusal as a verdict: 14 is the case that carries its reason
-unfoldable pub turned-down : Refusal → Verdict
-turned-down TowerSize = Check.Refused TowerSize
-turned-down Range = Check.Refused Range
-turned-down Action = Check.Refused Action
-turned-down Target = Check.Refused Target
-turned-down Mask = Check.Refused Mask
-turned-down (Grammar l) = Check.Refused (Grammar l)
-turned-down (Number l) = Check.Refused (Number l)
-turned-down (Mark l) = Check.Refused (Mark l)
-turned-down (Limit l) = Check.Refused (Limit l)
-turned-down (Timed l) = Check.Refused (Timed l)
-turned-down Pairs = Check.Refused Pairs
-turned-down NoTable = Check.Refused NoTable
-turned-down Layout = Check.Refused Layout
-turned-down (NotGood reason) = Check.NotGood reason
-turned-down Area = Check.Refused Area
-turned-down Output = Check.Refused Output
-turned-down Outside = Check.Refused Outside
-turned-down NotAllowed = Check.Refused NotAllowed
-
-unfoldable pub verdict : Answer (Unit {0}) → Verdict
-verdict (refuse r) = turned-down r
-verdict (give _) = Check.Good
+-- the checker's answer: a refusal, good, or 14 with its reason
+unfoldable pub verdict : Answer Finding → Verdict
+verdict (refuse r) = Check.Refused r
+verdict (give good-table) = Check.Good
+verdict (give (not-good reason)) = Check.NotGood reason
 
 -- How a call of the checker ends: the answer, and what the lent areas hold then.
 pub record CheckOutcome : Type 0 where

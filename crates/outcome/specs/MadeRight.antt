@@ -9,7 +9,7 @@ use Rattle.logic.specs.Book.{Book, FitBook}
 use Rattle.logic.specs.Tables.{Table, Good, IsMade}
 use Rattle.logic.specs.TableFile.{most-rows}
 use Rattle.pending.specs.Pairs.{most-pairs}
-use Rattle.outcome.specs.Check.{judge}
+use Rattle.outcome.specs.Check.{good-table, judge}
 use Rattle.outcome.specs.Reached.{ReachedPair, MoreThan}
 
 -- What the maker may take for granted when it makes: a fit tower and a fit book.
@@ -28,4 +28,4 @@ pub data RightTable (tower : Tower) (book : Book) : Answer Table → Type 0 wher
 pub record GivenTable (tower : Tower) (book : Book) (table : Table) : Type 0 where
   pub made : IsMade tower book table
   pub few-rows : length table ≤ most-rows
-  pub accepted : judge tower book table ≡ give tt
+  pub accepted : judge tower book table ≡ give good-table

@@ -2,14 +2,13 @@
 use Prim.Native.Nat.{ℕ, _<_}
 use mathlib.Core.Path.{_≡_}
 use mathlib.Core.Option.{some}
-use mathlib.Core.List.{List, List·Memᴰ}
-use lib.ListN.{length}
-use Rattle.base.specs.Lists.{Distinct}
+use mathlib.Core.List.{List, map, List·Memᴰ}
+use Rattle.base.specs.Lists.{total, Distinct}
 use Rattle.logic.specs.Tower.{Tower}
 use Rattle.logic.specs.Book.{Book}
 use Rattle.logic.specs.Runs.{leads}
 use Rattle.logic.specs.Tables.{Table, rows-tower}
-use Rattle.pending.specs.Pairs.{Pair, first-pair, pair-step}
+use Rattle.pending.specs.Pairs.{Pair, pair-weight, first-pair, pair-step}
 
 -- some run over unbroken steps leads to the pair
 unfoldable pub ReachedPair : Tower → Book → Pair → Type 0
@@ -19,6 +18,6 @@ ReachedPair tower book v = (w : List ℕ) × (leads (pair-step tower book) (firs
 unfoldable pub ReachedItem : Tower → Book → Table → Pair → Type 0
 ReachedItem tower book table v = ReachedPair (rows-tower tower table) book v
 
--- There are more than n distinct ones of the kind.
-unfoldable pub MoreThan : {X : Type 0} → ℕ → (X → Type 0) → Type 0
-MoreThan {X} n Kind = (xs : List X) × (n < length xs) × Distinct xs × ((x : X) → List·Memᴰ x xs → Kind x)
+-- Distinct pairs of the kind count more than n together.
+unfoldable pub MoreThan : ℕ → (Pair → Type 0) → Type 0
+MoreThan n Kind = (vs : List Pair) × (n < total (map pair-weight vs)) × Distinct vs × ((v : Pair) → List·Memᴰ v vs → Kind v)

@@ -28,7 +28,7 @@ use Rattle.reading.specs.BookReading.{read-book}
 use Rattle.reading.specs.TableReading.{laid-out, rows-of, table-actions, table-of, read-table}
 use Rattle.pending.specs.Pairs.{most-pairs}
 use Rattle.outcome.specs.Areas.{book-areas, make-areas, check-areas}
-use Rattle.outcome.specs.Check.{turned-down, verdict}
+use Rattle.outcome.specs.Check.{Finding, verdict}
 use Rattle.outcome.specs.Reached.{ReachedPair, MoreThan}
 use Rattle.outcome.specs.Calls.{FitFiles, FitTable}
 use Rattle.outcome.specs.VerdictRight.{FirstReason}
@@ -67,13 +67,13 @@ pub data RightMake (tower-file text output : List ℕ) (areas : List (List ℕ))
 pub data RightCheck (tower-file text file : List ℕ) (areas : List (List ℕ)) : Verdict → Type 0 where
   check-area : long-enough check-areas areas ≡ false → RightCheck tower-file text file areas (Check.Refused Area)
   check-tower : long-enough check-areas areas ≡ true → (r : Refusal) → read-tower tower-file ≡ refuse r
-      → RightCheck tower-file text file areas (turned-down r)
+      → RightCheck tower-file text file areas (Check.Refused r)
   check-book : long-enough check-areas areas ≡ true → (tower : Tower) (r : Refusal) → read-tower tower-file ≡ give tower
-      → read-book (tower .marks) text ≡ refuse r → RightCheck tower-file text file areas (turned-down r)
+      → read-book (tower .marks) text ≡ refuse r → RightCheck tower-file text file areas (Check.Refused r)
   check-layout : long-enough check-areas areas ≡ true → (tower : Tower) (book : Book) → FitFiles tower-file text tower book
       → read-table tower file ≡ refuse Layout → RightCheck tower-file text file areas (Check.Refused Layout)
   check-judged : long-enough check-areas areas ≡ true → (tower : Tower) (book : Book) (table : Table) → FitFiles tower-file text tower book
-      → FitTable tower file table → (o : Answer (Unit {0})) → FirstReason tower book table o → RightCheck tower-file text file areas (verdict o)
+      → FitTable tower file table → (o : Answer Finding) → FirstReason tower book table o → RightCheck tower-file text file areas (verdict o)
 
 -- The follower: 13, 17, 18, or the target row.
 pub data RightFollow (file : List ℕ) (row action : ℕ) : FollowAnswer → Type 0 where

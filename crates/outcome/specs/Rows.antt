@@ -9,7 +9,7 @@ use Rattle.base.specs.Lists.{every, below, present, joined, same-option, place-
 use Rattle.logic.specs.Tower.{Tower}
 use Rattle.logic.specs.Book.{Book}
 use Rattle.logic.specs.Tables.{Step, Row, Table}
-use Rattle.base.specs.Search.{search-from, rest-round}
+use Rattle.base.specs.Search.{search-from, once, rest-round}
 use Rattle.pending.specs.Pairs.{Pair, first-pair, pairs}
 use Rattle.outcome.specs.Game.{safe-step}
 
@@ -49,7 +49,7 @@ safe-followers tower book v = present (map (safe-step tower book v) (below (towe
 
 -- one pair for each row: the start, then the others as first met, rows in order, actions ascending
 unfoldable pub row-pairs : Tower → Book → List Pair
-row-pairs tower book = search-from (one-row tower book) (safe-followers tower book) (length (pairs tower book)) (first-pair tower book)
+row-pairs tower book = search-from (one-row tower book) (safe-followers tower book) once (length (pairs tower book)) (first-pair tower book)
 
 -- the step of action a, if it is allowed: its target is the row of the pair reached
 unfoldable pub row-step : Tower → Book → ℕ → Option Pair → Option Step

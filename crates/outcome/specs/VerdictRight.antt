@@ -4,11 +4,12 @@ use lib.ListN.{length}
 use Rattle.base.specs.Answers.{Answer, refuse, give}
 use Rattle.base.specs.declared.Reason.the-variants.{Start, Withheld, Stopped, Broken}
 use Rattle.base.specs.declared.Reason.the-variants as Why
-use Rattle.base.specs.declared.Refusal.the-variants.{Pairs, NotGood}
+use Rattle.base.specs.declared.Refusal.the-variants.{Pairs}
 use Rattle.logic.specs.Tower.{Tower, Listed}
 use Rattle.logic.specs.Book.{Book, FitBook}
 use Rattle.logic.specs.Tables.{Table, IsTable, GoodStart, NoneWithheld, StepsRight, GoesOn, NoneBroken, Good}
 use Rattle.pending.specs.Pairs.{most-pairs}
+use Rattle.outcome.specs.Check.{Finding, good-table, not-good}
 use Rattle.outcome.specs.Reached.{ReachedItem, MoreThan}
 
 -- What the checker may take for granted when it judges: a fit tower, a fit book, and bytes that are laid out as a table.
@@ -29,16 +30,16 @@ pub record RightBelow (tower : Tower) (table : Table) (r : ℕ) : Type 0 where
   pub rows : (s : ℕ) → s < r → RowRight tower table s
 
 -- The right answer and why it is the right one.
-pub data FirstReason (tower : Tower) (book : Book) (table : Table) : Answer (Unit {0}) → Type 0 where
-  reason-a : (GoodStart tower table → ⊥) → FirstReason tower book table (refuse (NotGood Start))
+pub data FirstReason (tower : Tower) (book : Book) (table : Table) : Answer Finding → Type 0 where
+  reason-a : (GoodStart tower table → ⊥) → FirstReason tower book table (give (not-good Start))
   reason-b : (r : ℕ) → r < length table → RightBelow tower table r → (NoneWithheld tower table r → ⊥)
-      → FirstReason tower book table (refuse (NotGood (Withheld r)))
+      → FirstReason tower book table (give (not-good (Withheld r)))
   reason-c : (r : ℕ) → r < length table → RightBelow tower table r → NoneWithheld tower table r → (StepsRight tower table r → ⊥)
-      → FirstReason tower book table (refuse (NotGood (Why.WrongStep r)))
+      → FirstReason tower book table (give (not-good (Why.WrongStep r)))
   reason-d : (r : ℕ) → r < length table → RightBelow tower table r → NoneWithheld tower table r → StepsRight tower table r
-      → (GoesOn tower table r → ⊥) → FirstReason tower book table (refuse (NotGood (Stopped r)))
+      → (GoesOn tower table r → ⊥) → FirstReason tower book table (give (not-good (Stopped r)))
   too-many : RightBelow tower table (length table) → MoreThan most-pairs (ReachedItem tower book table)
       → FirstReason tower book table (refuse Pairs)
   reason-e : RightBelow tower table (length table) → (MoreThan most-pairs (ReachedItem tower book table) → ⊥)
-      → (NoneBroken tower book table → ⊥) → FirstReason tower book table (refuse (NotGood Broken))
-  good : Good tower book table → (MoreThan most-pairs (ReachedItem tower book table) → ⊥) → FirstReason tower book table (give tt)
+      → (NoneBroken tower book table → ⊥) → FirstReason tower book table (give (not-good Broken))
+  good : Good tower book table → (MoreThan most-pairs (ReachedItem tower book table) → ⊥) → FirstReason tower book table (give good-table)

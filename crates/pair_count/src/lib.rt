@@ -3,6 +3,8 @@
 ghost use Prim.Native.Nat.{_≤_};
 ghost use lib.ListN.{length};
 ghost use Rattle.logic.specs.Tower.{FitTower};
+ghost use Rattle.area_index.specs.Entries.{entries-size, index-size};
+ghost use Rattle.pair_graph.specs.Steps.{graph-size};
 ghost use Rattle.pair_entries.specs.PendingEntries.{TowerWithBook};
 use base::BookAnswer;
 use file_tower::TowerRead;
@@ -12,31 +14,13 @@ use pair_search::Found;
 const BY_ROWS: bool = false;
 
 // The pairs of a book that was read, or 0 if there are too many.
-fn search(
-    tower: &[u8],
-    nodes: &[u8],
-    lines: usize,
-    count: usize,
-    pairs: &mut [u8],
-    index: &mut [u8],
-    graph: &mut [u8],
-) -> usize
-    requires { ⌜ TowerWithBook (now tower) (now nodes) lines count ⌝ }
-    requires { ⌜ 62062 ≤ length (now pairs) ⌝ }
-    requires { ⌜ 8192 ≤ length (now index) ⌝ }
-    requires { ⌜ 34000 ≤ length (now graph) ⌝ }
+fn search(tower: &[u8], nodes: &[u8], pairs: &mut [u8], index: &mut [u8], graph: &mut [u8]) -> usize
+    requires { ⌜ TowerWithBook (now tower) (now nodes) ⌝ }
+    requires { ⌜ entries-size ≤ length (now pairs) ⌝ }
+    requires { ⌜ index-size ≤ length (now index) ⌝ }
+    requires { ⌜ graph-size ≤ length (now graph) ⌝ }
 {
-    let found = pair_search::explore(
-        tower,
-        tower,
-        BY_ROWS,
-        nodes,
-        lines,
-        count,
-        pairs,
-        index,
-        graph,
-    );
+    let found = pair_search::explore(tower, tower, BY_ROWS, nodes, pairs, index, graph);
     match found {
         Found::TooMany => 0,
         Found::Met(n) => n,
@@ -44,21 +28,13 @@ fn search(
 }
 
 // The same with areas of its own.
-fn search_here(tower: &[u8], nodes: &[u8], lines: usize, count: usize) -> usize
-    requires { ⌜ TowerWithBook (now tower) (now nodes) lines count ⌝ }
+fn search_here(tower: &[u8], nodes: &[u8]) -> usize
+    requires { ⌜ TowerWithBook (now tower) (now nodes) ⌝ }
 {
     let mut pairs = [0u8; 62062];
     let mut index = [0u8; 8192];
     let mut graph = [0u8; 34000];
-    search(
-        tower,
-        nodes,
-        lines,
-        count,
-        &mut pairs,
-        &mut index,
-        &mut graph,
-    )
+    search(tower, nodes, &mut pairs, &mut index, &mut graph)
 }
 
 // The pairs of a fit tower and a book, or 0 if the book is refused.
@@ -69,10 +45,7 @@ fn of_book(tower: &[u8], text: &[u8], nodes: &mut [u8]) -> usize
     let book = book_reader::read_lines(file_tower::marks(tower), text, nodes);
     match book {
         BookAnswer::Refused(why) => 0,
-        BookAnswer::Read {
-            lines,
-            nodes: count,
-        } => search_here(tower, nodes, lines, count),
+        BookAnswer::Read { .. } => search_here(tower, nodes),
     }
 }
 

@@ -7,8 +7,11 @@ use mathlib.Core.Logic.{_⊎_, inl, inr}
 use mathlib.Core.List.{List}
 use lib.ListN.{length, getD, set, length-set}
 use lib.Seq.{getD-set-same, getD-set-other, ext-getD}
+use Rattle.area_index.specs.Entries.{entries-size}
 use Rattle.base.specs.Bytes.{byte-at}
+use Rattle.reading.specs.BookArea.{nodes-in}
 use Rattle.book_progression.specs.PendingBytes.{part}
+use Rattle.book_progression.specs.NodeBytes.{IsHeld}
 use Rattle.book_progression.specs.Contracts.{Beside}
 use Rattle.book_progression.proofs.Areas.{part-length, part-at}
 use Rattle.area_bytes.proofs.Numbers.{stored, stored-read}
@@ -18,17 +21,18 @@ use Rattle.pair_entries.proofs.Entries.{number-of-entry, cells-of-entry
 -- Before byte k is copied from entry j to entry n, where `first` was in the area.
 pub record Copying (count : ℕ) (first : List ℕ) (j n k : ℕ) (area : List ℕ) : Type 0 where
   pub few : count ≤ 60
-  pub room : 62062 ≤ length first
+  pub room : entries-size ≤ length first
   pub low : j < n
   pub most : n ≤ 1000
   pub inside : k ≤ count
   pub else : Elsewhere first n count area
   pub same : (p : ℕ) → p < k → byte-at area (62 * n + 2 + p) ≡ byte-at first (62 * j + 2 + p)
 
-pub copy-start : (count : ℕ) (area : List ℕ) (j n : ℕ) → count ≤ 60 → 62062 ≤ length area → j < n → n ≤ 1000 → Copying count area j n 0 area
-copy-start count area j n few room low most =
+pub copy-start : (count : ℕ) (nodes area : List ℕ) (j n : ℕ) → count ≡ nodes-in nodes → IsHeld nodes → entries-size ≤ length area → j < n → n ≤ 1000
+    → Copying count area j n 0 area
+copy-start count nodes area j n all held room low most =
     record {
-      few = few;
+      few = omega (arith, held .few);
       room = room;
       low = low;
       most = most;
@@ -101,12 +105,12 @@ module _ (count : ℕ) (first : List ℕ) (j n k : ℕ) (area : List ℕ) (c : C
         from-size : length (part first (62 * j + 2) count) ≡ count
         from-size = part-length first (62 * j + 2) count (omega (arith, c .few, c .room, c .low, c .most))
 
-    pub copy-done : Copied count first j number n after
-    copy-done =
+    pub copy-done : (nodes : List ℕ) → count ≡ nodes-in nodes → IsHeld nodes → Copied nodes first j number n after
+    copy-done nodes all held =
         record {
           size = there .size;
-          kept = still-there count first n after there;
-          blank = still-blank count first n after there;
+          kept = still-there nodes first n after (rw (← all) there);
+          blank = still-blank nodes first n after (rw (← all) there);
           number-is = number-of-entry after n ∙ (rw written (stored-read area (62 * n) number number-fits small));
-          cells = cells-of-entry after n count (c .few) ∙ cells ∙ sym (cells-of-entry first j count (c .few));
+          cells = cells-of-entry after n nodes held ∙ (rw (← all) cells) ∙ sym (cells-of-entry first j nodes held);
         }

@@ -12,7 +12,9 @@ use mir.Syntax.{w8}
 use mir.Val.{Fits}
 use Rattle.base.specs.Bytes.{byte-at, number-at, number-bytes}
 use Rattle.area_bytes.proofs.Numbers.{stored, take-stored, length-stored}
+use Rattle.reading.specs.BookArea.{nodes-in}
 use Rattle.book_progression.specs.PendingBytes.{part}
+use Rattle.book_progression.specs.NodeBytes.{IsHeld}
 use Rattle.book_progression.specs.Contracts.{Beside}
 use Rattle.area_index.specs.Entries.{entry-size, entry-at}
 use Rattle.area_index.proofs.Laws.{entry-byte, entry-length, entries-agree}
@@ -34,11 +36,11 @@ drop-two (x ∷ []) = refl
 drop-two (x ∷ y ∷ l) = refl
 
 -- What is pending stands behind it.
-pub cells-of-entry : (area : List ℕ) (j count : ℕ) → count ≤ 60 → entry-cells count area j ≡ part area (entry-size * j + 2) count
+pub cells-of-entry : (area : List ℕ) (j : ℕ) (nodes : List ℕ) → IsHeld nodes → entry-cells nodes area j ≡ part area (entry-size * j + 2) (nodes-in nodes)
 unfolding part entry-at
-cells-of-entry area j count few =
-    ap (take count) (drop-two (drop (62 * j) area) ∙ ap (take 60) (drop-drop 2 (62 * j) area))
-    ∙ take-take count 60 (drop (62 * j + 2) area) few
+cells-of-entry area j nodes held =
+    ap (take (nodes-in nodes)) (drop-two (drop (62 * j) area) ∙ ap (take 60) (drop-drop 2 (62 * j) area))
+    ∙ take-take (nodes-in nodes) 60 (drop (62 * j + 2) area) (held .few)
 
 -- Bytes beside a part that was written stay.
 pub beside-byte : (area : List ℕ) (to n : ℕ) (after : List ℕ) → Beside area to n after → (p : ℕ) → (p < to) ⊎ (to + n ≤ p)
@@ -72,14 +74,14 @@ pub record Elsewhere (area : List ℕ) (n count : ℕ) (after : List ℕ) : Type
   pub size : length after ≡ length area
   pub bytes : (p : ℕ) → (p < 62 * n) ⊎ (62 * n + 2 + count ≤ p) → byte-at after p ≡ byte-at area p
 
-module _ (count : ℕ) (area : List ℕ) (n : ℕ) (after : List ℕ) (else : Elsewhere area n count after) where
+module _ (nodes area : List ℕ) (n : ℕ) (after : List ℕ) (else : Elsewhere area n (nodes-in nodes) after) where
   pub still-there : (j : ℕ) → j < n → entry-at after j ≡ entry-at area j
   still-there = entries-agree after area n (else .size) (λ p l. else .bytes p (inl l))
 
-  pub still-blank : Blank count area → Blank count after
+  pub still-blank : Blank nodes area → Blank nodes after
   still-blank blank = record { zeros = λ j p l m. else .bytes (62 * j + p) (beside j p l m) ∙ blank .zeros j p l m }
     where
-      beside : (j p : ℕ) → 2 + count ≤ p → p < 62 → (62 * j + p < 62 * n) ⊎ (62 * n + 2 + count ≤ 62 * j + p)
+      beside : (j p : ℕ) → 2 + nodes-in nodes ≤ p → p < 62 → (62 * j + p < 62 * n) ⊎ (62 * n + 2 + nodes-in nodes ≤ 62 * j + p)
       beside j p l m = elim (decLt j n) [ yes k ↦ inl (omega arith) | no k ↦ inr (omega arith) ]
 
 pub cells-else : (area : List ℕ) (n count : ℕ) (after : List ℕ) → Beside area (62 * n + 2) count after → Elsewhere area n count after
@@ -99,32 +101,32 @@ number-else area n count mid after m b = record { size = b .size ∙ m .size; by
 
 -- ---- entries that hold the same are equal
 
-module _ (area : List ℕ) (count : ℕ) (few : count ≤ 60) (blank : Blank count area) (bytes : (p : ℕ) → Fits w8 (getD area p 0)) where
+module _ (area nodes : List ℕ) (held : IsHeld nodes) (blank : Blank nodes area) (bytes : (p : ℕ) → Fits w8 (getD area p 0)) where
   -- Each byte of an entry is one.
   entry-small : (i k : ℕ) → k < 62 → getD (entry-at area i) k 0 < 256
   entry-small i k l = omega (arith, entry-byte area i k l, bytes (62 * i + k))
 
   pub entries-equal : (i j : ℕ) → 62 * i + 62 ≤ length area → 62 * j + 62 ≤ length area → entry-number area i ≡ entry-number area j
-      → entry-cells count area i ≡ entry-cells count area j → entry-at area i ≡ entry-at area j
+      → entry-cells nodes area i ≡ entry-cells nodes area j → entry-at area i ≡ entry-at area j
   unfolding number-at part
   entries-equal i j fits-i fits-j numbers cells =
       ext-getD 0 (entry-at area i) (entry-at area j) (entry-length area i fits-i ∙ sym (entry-length area j fits-j)) (λ k l.
       let inside : k < 62 = omega (arith, entry-length area i fits-i) in
-      at k inside (decLt k 2) (decLt k (2 + count)))
+      at k inside (decLt k 2) (decLt k (2 + nodes-in nodes)))
     where
-      cell : (z k : ℕ) → k < count → getD (part (entry-at area z) 2 count) k 0 ≡ getD (entry-at area z) (2 + k) 0
-      cell z k l = getD-take count (drop 2 (entry-at area z)) k 0 l ∙ getD-drop 2 (entry-at area z) k 0
+      cell : (z k : ℕ) → k < nodes-in nodes → getD (part (entry-at area z) 2 (nodes-in nodes)) k 0 ≡ getD (entry-at area z) (2 + k) 0
+      cell z k l = getD-take (nodes-in nodes) (drop 2 (entry-at area z)) k 0 l ∙ getD-drop 2 (entry-at area z) k 0
 
       first : (k : ℕ) → k < 2 → getD (entry-at area i) k 0 ≡ getD (entry-at area j) k 0
       first zero l = omega (arith, numbers, entry-small i 0 (omega arith), entry-small j 0 (omega arith))
       first (suc zero) l = omega (arith, numbers, entry-small i 0 (omega arith), entry-small j 0 (omega arith))
       first (suc (suc k)) l = absurd (omega arith)
 
-      at : (k : ℕ) → k < 62 → Dec (k < 2) → Dec (k < 2 + count) → getD (entry-at area i) k 0 ≡ getD (entry-at area j) k 0
+      at : (k : ℕ) → k < 62 → Dec (k < 2) → Dec (k < 2 + nodes-in nodes) → getD (entry-at area i) k 0 ≡ getD (entry-at area j) k 0
       at k l (yes low) high = first k low
       at k l (no low) (yes high) =
           let f : 2 + (k - 2) ≡ k = omega arith in
-          let inside : k - 2 < count = omega arith in
+          let inside : k - 2 < nodes-in nodes = omega arith in
           ap (λ q. getD (entry-at area i) q 0) (sym f) ∙ sym (cell i (k - 2) inside)
           ∙ ap (λ (z : List ℕ). getD z (k - 2) 0) cells
           ∙ cell j (k - 2) inside ∙ ap (λ q. getD (entry-at area j) q 0) f

@@ -13,6 +13,7 @@ use Rattle.base.specs.Choice.{pick}
 use Rattle.base.specs.Lists.{some-of, below, count-from, present}
 use Rattle.base.specs.Search.{new-ones}
 use Rattle.base.proofs.Lists.{some-of-mem, none-of, mem-getD, mem-below, false-by}
+use Rattle.book_progression.specs.NodeBytes.{IsHeld}
 use Rattle.area_index.specs.Entries.{entry-at, entries-of}
 use Rattle.area_index.proofs.Laws.{entries-length, entries-at, entries-more, entries-same}
 use Rattle.pair_entries.specs.PendingEntries.{entry-number, entry-cells, Blank, Noted, with-one}
@@ -38,10 +39,10 @@ module _ {X : Type 0} (value : List ℕ → X) where
   -- ---- looking up entry n
 
   -- It is one of those before it, or one more, where what is equal has the same number and the same cells.
-  module _ (same : X → X → Bool) (same-eq : (x y : X) → same x y ≡ true → x ≡ y) (same-refl : (x : X) → same x x ≡ true) (count : ℕ)
-      (few : count ≤ 60) (area : List ℕ) (n : ℕ) (index : List ℕ) (out : Place) (blank : Blank count area) (noted : Noted out area n index)
+  module _ (same : X → X → Bool) (same-eq : (x y : X) → same x y ≡ true → x ≡ y) (same-refl : (x : X) → same x x ≡ true) (nodes : List ℕ)
+      (held : IsHeld nodes) (area : List ℕ) (n : ℕ) (index : List ℕ) (out : Place) (blank : Blank nodes area) (noted : Noted out area n index)
       (numbers : (j : ℕ) → value (entry-at area j) ≡ value (entry-at area n) → entry-number area j ≡ entry-number area n)
-      (cells : (j : ℕ) → value (entry-at area j) ≡ value (entry-at area n) → entry-cells count area j ≡ entry-cells count area n) where
+      (cells : (j : ℕ) → value (entry-at area j) ≡ value (entry-at area n) → entry-cells nodes area j ≡ entry-cells nodes area n) where
     old-one : out .met ≤ n → some-of (same (value (entry-at area n))) (map value (entries-of area n)) ≡ true
     old-one l =
         some-of-mem (same (value (entry-at area n)))
@@ -61,7 +62,7 @@ module _ {X : Type 0} (value : List ℕ → X) where
         other x j low e =
             false-by (same (value (entry-at area n)) x) (λ t.
             let equal = e ∙ sym (same-eq (value (entry-at area n)) x t) in
-            noted .fresh l count few blank j low (numbers j equal) (cells j equal))
+            noted .fresh l nodes held blank j low (numbers j equal) (cells j equal))
 
     -- The first `met` are those of before, with this one if it is new.
     pub noted-values : map value (entries-of area (out .met)) ≡ with-one same (map value (entries-of area n)) (some (value (entry-at area n)))

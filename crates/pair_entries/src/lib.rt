@@ -30,8 +30,6 @@ pub fn number(entries: &[u8], i: usize) -> usize
 // entry n, which gets the number. False if the step is broken; then entry n is of no use.
 pub fn follow(
     nodes: &[u8],
-    lines: usize,
-    count: usize,
     mask: usize,
     d: Tick,
     entries: &mut [u8],
@@ -39,34 +37,34 @@ pub fn follow(
     number: usize,
     n: usize,
 ) -> bool
-    requires { ⌜ IsHeld (now nodes) lines count ⌝ }
-    requires { ⌜ count ≤ 60 ⌝ }
+    requires { ⌜ IsHeld (now nodes) ⌝ }
     requires { ⌜ entries-size ≤ length (now entries) ⌝ }
     requires { ⌜ i < n ⌝ }
     requires { ⌜ n ≤ most-entries ⌝ }
     requires { ⌜ number < 65536 ⌝ }
-    ensures { λ b. ⌜ Entered b (now (nodes .entry)) lines count mask d (now (entries .entry)) i number n (now (entries .exit)) ⌝ }
+    ensures { λ b. ⌜ Entered b (now (nodes .entry)) mask d (now (entries .entry)) i number n (now (entries .exit)) ⌝ }
 {
     let from = ENTRY_SIZE * i + PENDING;
     let to = ENTRY_SIZE * n + PENDING;
-    if !book_progression::progressed(nodes, lines, count, mask, d, entries, from, to) {
+    if !book_progression::progressed(nodes, mask, d, entries, from, to) {
         return false;
     }
     area_bytes::put_two_bytes(entries, ENTRY_SIZE * n, number);
     true
 }
 
-// Entry n gets the number, and what is pending in entry j.
-pub fn copy(count: usize, entries: &mut [u8], j: usize, number: usize, n: usize)
-    requires { ⌜ count ≤ 60 ⌝ }
+// Entry n gets the number, and what is pending in entry j, a byte for each node.
+pub fn copy(nodes: &[u8], entries: &mut [u8], j: usize, number: usize, n: usize)
+    requires { ⌜ IsHeld (now nodes) ⌝ }
     requires { ⌜ entries-size ≤ length (now entries) ⌝ }
     requires { ⌜ j < n ⌝ }
     requires { ⌜ n ≤ most-entries ⌝ }
     requires { ⌜ number < 65536 ⌝ }
-    ensures { λ _. ⌜ Copied count (now (entries .entry)) j number n (now (entries .exit)) ⌝ }
+    ensures { λ _. ⌜ Copied (now (nodes .entry)) (now (entries .entry)) j number n (now (entries .exit)) ⌝ }
 {
     let from = ENTRY_SIZE * j + PENDING;
     let to = ENTRY_SIZE * n + PENDING;
+    let count = book_progression::node_count(nodes);
     let mut k = 0;
     while k < count {
         entries[to + k] = entries[from + k];
@@ -92,14 +90,13 @@ pub fn note(entries: &[u8], index: &mut [u8], n: usize) -> Place
 }
 
 // Clears the entries. Entry 0 gets the number, and what is pending when the run begins.
-pub fn begin(nodes: &[u8], lines: usize, count: usize, number: usize, entries: &mut [u8])
-    requires { ⌜ IsHeld (now nodes) lines count ⌝ }
-    requires { ⌜ count ≤ 60 ⌝ }
+pub fn begin(nodes: &[u8], number: usize, entries: &mut [u8])
+    requires { ⌜ IsHeld (now nodes) ⌝ }
     requires { ⌜ number < 65536 ⌝ }
     requires { ⌜ entries-size ≤ length (now entries) ⌝ }
-    ensures { λ _. ⌜ First (now (nodes .entry)) lines count number (now (entries .exit)) ⌝ }
+    ensures { λ _. ⌜ First (now (nodes .entry)) number (now (entries .exit)) ⌝ }
 {
     area_bytes::clear(entries);
     area_bytes::put_two_bytes(entries, 0, number);
-    book_progression::begin(nodes, lines, count, entries, PENDING);
+    book_progression::begin(nodes, entries, PENDING);
 }

@@ -41,14 +41,14 @@ one-target m j k e f = cc
 -- ---- the loops
 
 -- A loop has come to cell k, and does not go further than to cell `end`.
-pub record Listing (n actions : ℕ) (graph : List ℕ) (end k : ℕ) (old area : List ℕ) : Type 0 where
+pub record ListingCells (n actions : ℕ) (graph : List ℕ) (end k : ℕ) (old area : List ℕ) : Type 0 where
   pub listed : Listed n actions graph k area
   pub long : length area ≡ length old
   pub most : k ≤ end
 
 -- At first no cell is in a list.
 pub listing-none : (n actions : ℕ) (graph area : List ℕ) (size : ℕ) → area ≡ replicate size 0
-    → Listing n actions graph (16 * n) (16 * 0) area area
+    → ListingCells n actions graph (16 * n) (16 * 0) area area
 listing-none n actions graph area size e =
     record {
       listed = record { chained = cleared-chains (CellTo actions graph) n 1000 3000 size area e };
@@ -58,19 +58,19 @@ listing-none n actions graph area size e =
 
 -- The cells of a pair begin with that of action 0.
 pub listing-first : (n actions : ℕ) (graph area : List ℕ) (i : ℕ) → Listed n actions graph (16 * i) area
-    → Listing n actions graph (16 * i + actions) (16 * i + 0) area area
+    → ListingCells n actions graph (16 * i + actions) (16 * i + 0) area area
 listing-first n actions graph area i h = record { listed = rw (add-zero (16 * i)) h; long = refl; most = omega arith }
 
 -- One more cell of a pair,
 pub listing-cell : (n actions : ℕ) (graph : List ℕ) (i a : ℕ) (old area after : List ℕ)
-    → Listing n actions graph (16 * i + actions) (16 * i + a) old area → a < actions → Listed n actions graph (16 * i + (a + 1)) after
-    → length after ≡ length area → Listing n actions graph (16 * i + actions) (16 * i + (a + 1)) old after
+    → ListingCells n actions graph (16 * i + actions) (16 * i + a) old area → a < actions → Listed n actions graph (16 * i + (a + 1)) after
+    → length after ≡ length area → ListingCells n actions graph (16 * i + actions) (16 * i + (a + 1)) old after
 listing-cell n actions graph i a old area after h l more e = record { listed = more; long = e ∙ h .long; most = omega arith }
 
 -- and one more pair.
 pub listing-pair : (n actions : ℕ) (graph : List ℕ) (i : ℕ) (old area after : List ℕ)
-    → Listing n actions graph (16 * n) (16 * i) old area → i < n → Listed n actions graph (16 * (i + 1)) after
-    → length after ≡ length area → Listing n actions graph (16 * n) (16 * (i + 1)) old after
+    → ListingCells n actions graph (16 * n) (16 * i) old area → i < n → Listed n actions graph (16 * (i + 1)) after
+    → length after ≡ length area → ListingCells n actions graph (16 * n) (16 * (i + 1)) old after
 listing-pair n actions graph i old area after h l more e = record { listed = more; long = e ∙ h .long; most = omega arith }
 
 module _ (n actions : ℕ) (graph area : List ℕ) (i a m : ℕ) (held : HoldsGraph n actions graph) (l : i < n) (k : a < actions)
@@ -124,7 +124,7 @@ module _ (n actions : ℕ) (graph area : List ℕ) (i a m : ℕ) (held : HoldsGr
 
 -- The cells behind the last action of a pair are in no list.
 pub listed-pair : (n actions : ℕ) (graph old area : List ℕ) (i a : ℕ) → HoldsGraph n actions graph
-    → Listing n actions graph (16 * i + actions) (16 * i + a) old area → actions ≤ a → Listed n actions graph (16 * (i + 1)) area
+    → ListingCells n actions graph (16 * i + actions) (16 * i + a) old area → actions ≤ a → Listed n actions graph (16 * (i + 1)) area
 listed-pair n actions graph old area i a held h ge =
     let most = held .actions-most in
     record {
@@ -134,7 +134,7 @@ listed-pair n actions graph old area i a held h ge =
     }
 
 -- All pairs have their cells in the lists.
-pub listed-all : (n actions : ℕ) (graph old area : List ℕ) (i : ℕ) → Listing n actions graph (16 * n) (16 * i) old area → n ≤ i
+pub listed-all : (n actions : ℕ) (graph old area : List ℕ) (i : ℕ) → ListingCells n actions graph (16 * n) (16 * i) old area → n ≤ i
     → Listed n actions graph (16 * n) area
 listed-all n actions graph old area i h ge =
     let same : i ≡ n = omega (arith, h .most) in subst (λ k. Listed n actions graph (16 * k) area) same (h .listed)

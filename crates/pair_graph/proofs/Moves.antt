@@ -10,6 +10,7 @@ use lib.Dec.{eqb}
 use borrow.Author.Tests.{ne-eqb}
 use Rattle.base.specs.Choice.{pick}
 use Rattle.base.specs.Bytes.{number-at}
+use Rattle.base.proofs.Lists.{none-some}
 use Rattle.pair_graph.specs.Graph.{Move, not-enabled, broken, to, allowed-to}
 use Rattle.pair_graph.specs.Steps.{cell, move-of, move-at, safe-in, is-enabled, led-to, led-of, FlaggedGraph}
 use Rattle.pair_graph.specs.declared.Led.{Led}
@@ -94,20 +95,20 @@ unfolding led-of
 led-none none r e f = refl
 led-none (some k) r e f = let z : _≡_ {A = ℕ} 0 1 = cc in absurd (omega arith)
 
--- An allowed move leads to the pair that it names.
-move-led : (safe : ℕ → Bool) (m : Move) (j : ℕ) → allowed-to safe m ≡ some j → m ≡ to j
+-- An allowed move leads to the pair that it names, and that is safe.
+pub allowed-out : (safe : ℕ → Bool) (m : Move) (j : ℕ) → allowed-to safe m ≡ some j → (m ≡ to j) × (safe j ≡ true)
 unfolding allowed-to
-move-led safe not-enabled j e = let z : _≡_ {A = ℕ} 0 1 = cc in absurd (omega arith)
-move-led safe broken j e = let z : _≡_ {A = ℕ} 0 1 = cc in absurd (omega arith)
-move-led safe (to k) j e = go (safe k) e
+allowed-out safe not-enabled j e = none-some refl e
+allowed-out safe broken j e = none-some refl e
+allowed-out safe (to k) j e = go (safe k) refl e
   where
-    go : (b : Bool) → pick b (λ _. some k) (λ _. none) ≡ some j → to k ≡ to j
-    go true e = ap to (let z : k ≡ j = cc in z)
-    go false e = let z : _≡_ {A = ℕ} 0 1 = cc in absurd (omega arith)
+    go : (b : Bool) → safe k ≡ b → pick b (λ _. some k) (λ _. none) ≡ some j → (to k ≡ to j) × (safe j ≡ true)
+    go true p f = let same : k ≡ j = cc in (ap to same, ap safe (sym same) ∙ p)
+    go false p f = none-some refl f
 
 -- The pair that an allowed action leads to is one of the n.
 pub allowed-below : (area flags : List ℕ) (n actions i a j : ℕ) → FlaggedGraph n actions area flags → i < n → a < actions
     → led-to area flags i a ≡ some j → j < n
 unfolding led-to
 allowed-below area flags n actions i a j held l k e =
-    held .graph .targets i a j l k (move-led (safe-in flags) (move-at area i a) j e)
+    held .graph .targets i a j l k (allowed-out (safe-in flags) (move-at area i a) j e .0)

@@ -6,7 +6,7 @@ use mathlib.Core.Option.{Option, none, some}
 use mathlib.Core.List.{List, map}
 use lib.Dec.{eqb}
 use Rattle.base.specs.Lists.{below, present, place-of}
-use Rattle.base.specs.Search.{search-from}
+use Rattle.base.specs.Search.{search-from, once}
 use Rattle.logic.specs.Tables.{Step, Row, Table}
 use Rattle.pair_graph.specs.Graph.{Graph, allowed-to}
 
@@ -24,7 +24,7 @@ module _ (graph : Graph) (safe : ℕ → Bool) (class : ℕ → ℕ) where
 
   -- one pair for each row, in the order of the rows
   unfoldable pub row-order : List ℕ
-  row-order = search-from same-class allowed-all (graph .pairs) 0
+  row-order = search-from same-class allowed-all once (graph .pairs) 0
 
   -- the step of action a, if it is allowed
   unfoldable pub graph-step : ℕ → Option ℕ → Option Step

@@ -2,19 +2,21 @@
 use Prim.Native.Nat.{ℕ, _+_, _-_, _*_, _≤_, _<_}
 use native.Mathlib.Omega.{arith}
 use mathlib.Core.Path.{_≡_, refl, sym, _∙_, ap}
+use mathlib.Core.Bool.{Bool}
 use mathlib.Core.List.{List, _++_, map, append-nil}
 use lib.ListN.{length, length-append}
+use Rattle.pair_graph.specs.Steps.{graph-size}
 use Rattle.base.specs.Lists.{count-from, below, present}
 use Rattle.base.specs.Search.{new-ones}
 use Rattle.logic.specs.Tower.{Tower}
 use Rattle.logic.specs.Book.{Book}
 use Rattle.pending.specs.Pairs.{Pair, same-pair, pair-step, pair-followers}
 use Rattle.book_progression.specs.NodeBytes.{IsHeld}
-use Rattle.area_index.specs.Entries.{entry-at, Indexed}
+use Rattle.area_index.specs.Entries.{entry-at, Indexed, index-size}
 use Rattle.pair_entries.specs.PendingEntries.{with-one}
 use Rattle.pair_entries.proofs.Seen.{numbers-cons, one-more}
-use Rattle.pair_search.specs.Walked.{Searchable}
-use Rattle.pair_search.specs.Explored.{pair-of, pairs-of, pair-in, Filled, RightGraph, Stepped, with-new, Grown}
+use Rattle.pair_search.specs.Walked.{walked, Searchable, Walkable}
+use Rattle.pair_search.specs.Explored.{pair-of, pairs-of, pair-in, PairsFilled, RightGraph, Searching, Stepped, with-new, Grown}
 use Rattle.pair_search.proofs.PairEntries.{pairs-length}
 
 -- ---- the actions by their numbers
@@ -26,28 +28,28 @@ led-to tower book v a end = present (map (pair-step tower book v) (count-from a 
 -- ---- the loop
 
 -- At action a of pair i: the areas hold n pairs, and the actions that are left decide what is new in the end.
-pub record Growing (tower : Tower) (nodes : List ℕ) (lines count : ℕ) (first : List ℕ) (i met end a : ℕ) (area index graph : List ℕ) (n : ℕ) : Type 0 where
+pub record Growing (tower : Tower) (nodes first : List ℕ) (i met end a : ℕ) (area index graph : List ℕ) (n : ℕ) : Type 0 where
   pub low : i < met
   pub last : end ≡ tower .actions
   pub inside : a ≤ end
   pub least : met ≤ n
   pub most : n ≤ 1000
-  pub filled : Filled tower count area n
+  pub filled : PairsFilled tower nodes area n
   pub indexed : Indexed area index n
-  pub right : RightGraph tower nodes lines count area n graph (i + 1) (16 * i + a)
-  pub room : 8192 ≤ length index
-  pub graph-room : 34000 ≤ length graph
+  pub right : RightGraph tower nodes area n graph (i + 1) (16 * i + a)
+  pub room : index-size ≤ length index
+  pub graph-room : graph-size ≤ length graph
   pub entry : entry-at area i ≡ entry-at first i
-  pub grown : (h : IsHeld nodes lines count)
-      → pairs-of count area n
-      ++ new-ones same-pair (pairs-of count area n) (led-to tower (h .book) (pair-in count first i) a end)
-      ≡ with-new tower (h .book) (pairs-of count first met) (pair-in count first i)
+  pub grown : (h : IsHeld nodes)
+      → pairs-of nodes area n
+      ++ new-ones same-pair (pairs-of nodes area n) (led-to tower (h .book) (pair-in nodes first i) a end)
+      ≡ with-new tower (h .book) (pairs-of nodes first met) (pair-in nodes first i)
 
-pub grow-start : (tower : Tower) (nodes : List ℕ) (lines count : ℕ) (area index graph : List ℕ) (i met end : ℕ) → end ≡ tower .actions
-    → Filled tower count area met → Indexed area index met → RightGraph tower nodes lines count area met graph (i + 1) (16 * i) → 8192 ≤ length index
-    → 34000 ≤ length graph → i < met → met ≤ 1000 → Growing tower nodes lines count area i met end 0 area index graph met
+pub grow-start : (tower : Tower) (nodes area index graph : List ℕ) (i met end : ℕ) → end ≡ tower .actions
+    → PairsFilled tower nodes area met → Indexed area index met → RightGraph tower nodes area met graph (i + 1) (16 * i) → index-size ≤ length index
+    → graph-size ≤ length graph → i < met → met ≤ 1000 → Growing tower nodes area i met end 0 area index graph met
 unfolding with-new pair-followers below
-grow-start tower nodes lines count area index graph i met end last filled indexed right room graph-room low most =
+grow-start tower nodes area index graph i met end last filled indexed right room graph-room low most =
     record {
       low = low;
       last = last;
@@ -60,23 +62,23 @@ grow-start tower nodes lines count area index graph i met end last filled indexe
       room = room;
       graph-room = graph-room;
       entry = refl;
-      grown = λ h. ap (λ z. pairs-of count area met
-          ++ new-ones same-pair (pairs-of count area met) (present (map (pair-step tower (h .book) (pair-in count area i)) (count-from 0 z)))) none-before;
+      grown = λ h. ap (λ z. pairs-of nodes area met
+          ++ new-ones same-pair (pairs-of nodes area met) (present (map (pair-step tower (h .book) (pair-in nodes area i)) (count-from 0 z)))) none-before;
     }
   where
     none-before : end - 0 ≡ tower .actions
     none-before = omega (arith, last)
 
-module _ (tower : Tower) (nodes : List ℕ) (lines count : ℕ) (first : List ℕ) (i met end a : ℕ) (area index graph : List ℕ) (n : ℕ)
-    (g : Growing tower nodes lines count first i met end a area index graph n) where
-  pub grow-low : i < n
+module _ (tower : Tower) (nodes first : List ℕ) (i met end a : ℕ) (area index graph : List ℕ) (n : ℕ)
+    (g : Growing tower nodes first i met end a area index graph n) where
+  grow-low : i < n
   grow-low = omega (arith, g .low, g .least)
 
   pub grow-listed : a < end → a < tower .actions
   grow-listed l = omega (arith, g .last)
 
   -- No more actions are left.
-  pub grow-end : Searchable tower → end ≤ a → Grown n tower nodes lines count first i met area index graph
+  pub grow-end : Searchable tower → end ≤ a → Grown n tower nodes first i met area index graph
   unfolding count-from present new-ones
   grow-end bounds l =
       record {
@@ -84,7 +86,7 @@ module _ (tower : Tower) (nodes : List ℕ) (lines count : ℕ) (first : List �
         most = omega (arith, g .most);
         filled = g .filled;
         indexed = g .indexed;
-        done = λ few h. sym (append-nil (pairs-of count area n)) ∙ (rw none-left at (g .grown h));
+        done = λ few h. sym (append-nil (pairs-of nodes area n)) ∙ (rw none-left at (g .grown h));
         right = λ few. record {
           states = g .right .states;
           says = λ h j b m k. g .right .says h j b m (omega (arith, g .last, g .inside, bounds .actions-most));
@@ -96,22 +98,22 @@ module _ (tower : Tower) (nodes : List ℕ) (lines count : ℕ) (first : List �
       none-left = omega arith
 
   module _ (m : ℕ) (after later later-graph : List ℕ) (l : a < end)
-      (stepped : Stepped m tower nodes lines count area i a n after later later-graph) where
-    grown-on : (h : IsHeld nodes lines count)
-        → pairs-of count after m
-        ++ new-ones same-pair (pairs-of count after m) (led-to tower (h .book) (pair-in count first i) (a + 1) end)
-        ≡ with-new tower (h .book) (pairs-of count first met) (pair-in count first i)
+      (stepped : Stepped m tower nodes area i a n after later later-graph) where
+    grown-on : (h : IsHeld nodes)
+        → pairs-of nodes after m
+        ++ new-ones same-pair (pairs-of nodes after m) (led-to tower (h .book) (pair-in nodes first i) (a + 1) end)
+        ≡ with-new tower (h .book) (pairs-of nodes first met) (pair-in nodes first i)
     grown-on h =
-        one-more same-pair (pairs-of count area n) (pair-step tower (h .book) (pair-in count first i) a)
-        (map (pair-step tower (h .book) (pair-in count first i)) (count-from (a + 1) (end - (a + 1)))) (pairs-of count after m)
-        (stepped .grown h ∙ ap (λ z. with-one same-pair (pairs-of count area n) (pair-step tower (h .book) (pair-of count z) a)) (g .entry))
-        ∙ ap (λ z. pairs-of count area n
-        ++ new-ones same-pair (pairs-of count area n) (present (map (pair-step tower (h .book) (pair-in count first i)) z)))
+        one-more same-pair (pairs-of nodes area n) (pair-step tower (h .book) (pair-in nodes first i) a)
+        (map (pair-step tower (h .book) (pair-in nodes first i)) (count-from (a + 1) (end - (a + 1)))) (pairs-of nodes after m)
+        (stepped .grown h ∙ ap (λ z. with-one same-pair (pairs-of nodes area n) (pair-step tower (h .book) (pair-of nodes z) a)) (g .entry))
+        ∙ ap (λ z. pairs-of nodes area n
+        ++ new-ones same-pair (pairs-of nodes area n) (present (map (pair-step tower (h .book) (pair-in nodes first i)) z)))
         (sym (numbers-cons a end l))
         ∙ g .grown h
 
     pub grow-more : m ≤ 1000 → length later ≡ length index → length later-graph ≡ length graph
-        → Growing tower nodes lines count first i met end (a + 1) after later later-graph m
+        → Growing tower nodes first i met end (a + 1) after later later-graph m
     grow-more small kept kept-graph =
         record {
           low = g .low;
@@ -129,7 +131,7 @@ module _ (tower : Tower) (nodes : List ℕ) (lines count : ℕ) (first : List �
         }
 
     -- It is one too many.
-    pub grow-many : 1000 < m → Grown m tower nodes lines count first i met after later later-graph
+    pub grow-many : 1000 < m → Grown m tower nodes first i met after later later-graph
     grow-many over =
         record {
           least = omega (arith, g .least, stepped .least);
@@ -140,9 +142,25 @@ module _ (tower : Tower) (nodes : List ℕ) (lines count : ℕ) (first : List �
           right = λ small. absurd (omega arith);
           many = λ big h. omega (
             arith,
-            pairs-length count after m,
+            pairs-length nodes after m,
             ap length (sym (grown-on h)),
-            length-append (pairs-of count after m)
-                (new-ones same-pair (pairs-of count after m) (led-to tower (h .book) (pair-in count first i) (a + 1) end)),
+            length-append (pairs-of nodes after m)
+                (new-ones same-pair (pairs-of nodes after m) (led-to tower (h .book) (pair-in nodes first i) (a + 1) end)),
           );
         }
+
+-- What is asked before the next action is followed.
+pub grow-ready : (tower table : List ℕ) (rows : Bool) (nodes first : List ℕ) (i met end a : ℕ) (area index graph : List ℕ) (n : ℕ)
+    → Growing (walked tower table rows) nodes first i met end a area index graph n → Walkable tower table rows nodes
+    → Searching tower table rows nodes area n index graph i (i + 1) (16 * i + a)
+grow-ready tower table rows nodes first i met end a area index graph n g world =
+    record {
+      world = world;
+      filled = g .filled;
+      indexed = g .indexed;
+      right = g .right;
+      index-room = g .room;
+      graph-room = g .graph-room;
+      low = omega (arith, g .low, g .least);
+      most = g .most;
+    }

@@ -10,7 +10,7 @@ use Rattle.logic.specs.Tables.{row-at, move, rows-tower}
 use Rattle.logic.specs.TableFile.{most-rows}
 use Rattle.reading.specs.TableReading.{rows-of, row-first, row-count, table-states, row-state, row-of-table, header-right, laid-out, table-of}
 use Rattle.reading.proofs.LaidOut.{length-table-of, row-of-table-at}
-use Rattle.book_progression.specs.NodeBytes.{Marked}
+use Rattle.book_progression.specs.NodeBytes.{MarkedState}
 use Rattle.file_tower.specs.TowerRead.{target-read}
 use Rattle.file_tower.specs.declared.Reached.{Reached}
 use Rattle.file_tower.specs.declared.Reached.the-variants.{State, NotEnabled}
@@ -36,9 +36,9 @@ tower-searchable tower fit =
     }
 
 -- A fit tower by its states.
-pub tower-walkable : (tower table nodes : List ℕ) (lines count : ℕ) → TowerWithBook tower nodes lines count → Walkable tower table false nodes lines count
+pub tower-walkable : (tower table nodes : List ℕ) → TowerWithBook tower nodes → Walkable tower table false nodes
 unfolding walked tower-state
-tower-walkable tower table nodes lines count world =
+tower-walkable tower table nodes world =
     record {
       files =
           record {
@@ -48,7 +48,6 @@ tower-walkable tower table nodes lines count world =
             states = λ x l. l;
           };
       held = world .held;
-      few = world .few;
     }
 
 -- By its states it is the tower itself.
@@ -85,10 +84,10 @@ rows-searchable tower table fit layout =
     }
 
 -- A table for a fit tower by its rows.
-pub rows-walkable : (tower table nodes : List ℕ) (lines count : ℕ) → TowerWithBook tower nodes lines count → laid-out table ≡ true
-    → table-states table ≡ tower-of tower .states → Walkable tower table true nodes lines count
+pub rows-walkable : (tower table nodes : List ℕ) → TowerWithBook tower nodes → laid-out table ≡ true
+    → table-states table ≡ tower-of tower .states → Walkable tower table true nodes
 unfolding walked tower-state rows-tower
-rows-walkable tower table nodes lines count world layout states =
+rows-walkable tower table nodes world layout states =
     record {
       files =
           record {
@@ -98,7 +97,6 @@ rows-walkable tower table nodes lines count world layout states =
             states = λ r l. inside r (subst (λ n. r < n) (length-table-of table) l);
           };
       held = world .held;
-      few = world .few;
     }
   where
     inside : (r : ℕ) → r < rows-of table → row-at (table-of table) r .state < tower-of tower .states
@@ -128,7 +126,7 @@ module _ (tower table : List ℕ) where
   marked-so false x k = refl
 
   -- A state has the marks of the tower's state that it stands for.
-  unfoldable pub walked-marks : (rows : Bool) (x : ℕ) → Marked (mask-of tower (tower-state table rows x))
+  unfoldable pub walked-marks : (rows : Bool) (x : ℕ) → MarkedState (mask-of tower (tower-state table rows x))
   walked-marks rows x = record { tower = walked tower table rows; state = x; marks = marked-so rows x }
 
 -- ---- the ways of `start`, `tower_state` and `target`

@@ -33,8 +33,7 @@ pub record Files (tower table : List ℕ) (by-rows : Bool) : Type 0 where
   pub search : Searchable (walked tower table by-rows)
   pub states : (x : ℕ) → x < walked tower table by-rows .states → tower-state table by-rows x < tower-of tower .states
 
--- The same with an area that holds a book of at most 60 nodes.
-pub record Walkable (tower table : List ℕ) (by-rows : Bool) (nodes : List ℕ) (lines count : ℕ) : Type 0 where
+-- The same with an area that holds a book.
+pub record Walkable (tower table : List ℕ) (by-rows : Bool) (nodes : List ℕ) : Type 0 where
   pub files : Files tower table by-rows
-  pub held : IsHeld nodes lines count
-  pub few : count ≤ 60
+  pub held : IsHeld nodes

@@ -6,14 +6,17 @@ ghost use Prim.Native.Nat.{_+_, _*_, _<_, _≤_};
 ghost use mathlib.Core.Path.{_≡_};
 ghost use lib.ListN.{length};
 ghost use mathlib.Core.Bool.{true};
+ghost use mathlib.Core.Option.{some};
 ghost use Rattle.logic.specs.Tower.{FitTower, tower-of};
 ghost use Rattle.logic.specs.Tables.{move};
 ghost use Rattle.reading.specs.TableReading.{rows-of, laid-out, table-of};
+ghost use Rattle.book_progression.specs.NodeBytes.{IsHeld};
 ghost use Rattle.file_tower.specs.TowerRead.{target-read};
-ghost use Rattle.area_index.specs.Entries.{most-entries, entries-size, index-size, Indexed};
+ghost use Rattle.area_index.specs.Entries.{most-entries, entries-size, index-size};
+ghost use Rattle.pair_entries.specs.PendingEntries.{entry-number};
 ghost use Rattle.pair_graph.specs.Steps.{graph-size, pair-room, action-room};
 ghost use Rattle.pair_search.specs.Walked.{walked, tower-state, Files, Walkable};
-ghost use Rattle.pair_search.specs.Explored.{Filled, RightGraph, Earlier, Leads, TakenOver, NextEntered, Followed, Stepped, Grown, Begun, Explored};
+ghost use Rattle.pair_search.specs.Explored.{PairsFilled, RightGraph, Searching, Earlier, MoveLeads, TakenOver, NextEntered, Followed, Stepped, Grown, SearchBegun, Explored};
 use file_table::Target;
 use file_tower::Reached;
 
@@ -113,7 +116,7 @@ fn earlier(tower: &[u8], graph: &[u8], x: usize, i: usize, a: usize) -> usize
 // Entry n gets the number, and what is pending behind the step of action b from pair i, whose move is
 // written. False if that step is broken.
 fn take_over(
-    count: usize,
+    nodes: &[u8],
     pairs: &mut [u8],
     graph: &[u8],
     i: usize,
@@ -121,21 +124,21 @@ fn take_over(
     number: usize,
     n: usize,
 ) -> bool
-    requires { ⌜ Leads (now graph) i b n ⌝ }
-    requires { ⌜ count ≤ 60 ⌝ }
+    requires { ⌜ MoveLeads (now graph) i b n ⌝ }
+    requires { ⌜ IsHeld (now nodes) ⌝ }
     requires { ⌜ entries-size ≤ length (now pairs) ⌝ }
     requires { ⌜ graph-size ≤ length (now graph) ⌝ }
     requires { ⌜ i < pair-room ⌝ }
     requires { ⌜ b < action-room ⌝ }
     requires { ⌜ n ≤ most-entries ⌝ }
     requires { ⌜ number < 65536 ⌝ }
-    ensures { λ r. ⌜ TakenOver count (now (graph .entry)) (now (pairs .entry)) i b number n (now (pairs .exit)) r ⌝ }
+    ensures { λ r. ⌜ TakenOver (now (nodes .entry)) (now (graph .entry)) (now (pairs .entry)) i b number n (now (pairs .exit)) r ⌝ }
 {
     let m = pair_graph::move_number(graph, i, b);
     if m < pair_graph::FIRST_PAIR {
         return false;
     }
-    pair_entries::copy(count, pairs, m - pair_graph::FIRST_PAIR, number, n);
+    pair_entries::copy(nodes, pairs, m - pair_graph::FIRST_PAIR, number, n);
     true
 }
 
@@ -147,8 +150,6 @@ fn enter(
     table: &[u8],
     rows: bool,
     nodes: &[u8],
-    lines: usize,
-    count: usize,
     pairs: &mut [u8],
     graph: &[u8],
     i: usize,
@@ -156,76 +157,49 @@ fn enter(
     number: usize,
     n: usize,
 ) -> bool
-    requires { ⌜ Walkable (now tower) (now table) rows (now nodes) lines count ⌝ }
-    requires { ⌜ Filled (walked (now tower) (now table) rows) count (now pairs) n ⌝ }
-    requires { ⌜ RightGraph (walked (now tower) (now table) rows) (now nodes) lines count (now pairs) n (now graph) (i + 1) (16 * i + a) ⌝ }
+    requires { ⌜ Walkable (now tower) (now table) rows (now nodes) ⌝ }
+    requires { ⌜ PairsFilled (walked (now tower) (now table) rows) (now nodes) (now pairs) n ⌝ }
+    requires { ⌜ RightGraph (walked (now tower) (now table) rows) (now nodes) (now pairs) n (now graph) (i + 1) (16 * i + a) ⌝ }
     requires { ⌜ graph-size ≤ length (now graph) ⌝ }
     requires { ⌜ i < n ⌝ }
     requires { ⌜ n ≤ most-entries ⌝ }
     requires { ⌜ a < walked (now tower) (now table) rows .actions ⌝ }
     requires { ⌜ number < 65536 ⌝ }
-    ensures { λ b. ⌜ NextEntered b (walked (now (tower .entry)) (now (table .entry)) rows) (now (nodes .entry)) lines count (now (pairs .entry)) i a number n (now (pairs .exit)) ⌝ }
+    ensures { λ b. ⌜ NextEntered b (walked (now (tower .entry)) (now (table .entry)) rows) (now (nodes .entry)) (now (pairs .entry)) i a number n (now (pairs .exit)) ⌝ }
 {
     let x = tower_state(tower, table, rows, pair_entries::number(pairs, i));
     let b = earlier(tower, graph, x, i, a);
     if b < a {
-        return take_over(count, pairs, graph, i, b, number, n);
+        return take_over(nodes, pairs, graph, i, b, number, n);
     }
     let d = file_tower::step_length(tower, x, a);
     let mask = file_tower::mask(tower, x);
-    pair_entries::follow(nodes, lines, count, mask, d, pairs, i, number, n)
+    pair_entries::follow(nodes, mask, d, pairs, i, number, n)
 }
 
 // ---- the search
 
-// Follows action a from pair i. The pair that it leads to is looked up as entry n, and is one more
-// if it is new.
-fn follow(
+// Follows action a from pair i to state y. The pair that it leads to is looked up as entry n, and is
+// one more if it is new.
+fn lead(
     tower: &[u8],
     table: &[u8],
     rows: bool,
     nodes: &[u8],
-    lines: usize,
-    count: usize,
     pairs: &mut [u8],
     index: &mut [u8],
     graph: &[u8],
     i: usize,
     a: usize,
+    y: usize,
     n: usize,
 ) -> Way
-    requires { ⌜ Walkable (now tower) (now table) rows (now nodes) lines count ⌝ }
-    requires { ⌜ Filled (walked (now tower) (now table) rows) count (now pairs) n ⌝ }
-    requires { ⌜ Indexed (now pairs) (now index) n ⌝ }
-    requires { ⌜ RightGraph (walked (now tower) (now table) rows) (now nodes) lines count (now pairs) n (now graph) (i + 1) (16 * i + a) ⌝ }
-    requires { ⌜ index-size ≤ length (now index) ⌝ }
-    requires { ⌜ graph-size ≤ length (now graph) ⌝ }
-    requires { ⌜ i < n ⌝ }
-    requires { ⌜ n ≤ most-entries ⌝ }
+    requires { ⌜ Searching (now tower) (now table) rows (now nodes) (now pairs) n (now index) (now graph) i (i + 1) (16 * i + a) ⌝ }
     requires { ⌜ a < walked (now tower) (now table) rows .actions ⌝ }
-    ensures { λ way. ⌜ Followed way (walked (now (tower .entry)) (now (table .entry)) rows) (now (nodes .entry)) lines count (now (pairs .entry)) i a n (now (pairs .exit)) (now (index .exit)) ⌝ }
+    requires { ⌜ walked (now tower) (now table) rows .target (entry-number (now pairs) i) a ≡ some y ⌝ }
+    ensures { λ way. ⌜ Followed way (walked (now (tower .entry)) (now (table .entry)) rows) (now (nodes .entry)) (now (pairs .entry)) i a n (now (pairs .exit)) (now (index .exit)) ⌝ }
 {
-    let reached = target(tower, table, rows, pair_entries::number(pairs, i), a);
-    let Reached::State(y) = reached else {
-        return Way {
-            code: pair_graph::NOT_ENABLED,
-            met: n,
-        };
-    };
-    if !enter(
-        tower,
-        table,
-        rows,
-        nodes,
-        lines,
-        count,
-        pairs,
-        graph,
-        i,
-        a,
-        y,
-        n,
-    ) {
+    if !enter(tower, table, rows, nodes, pairs, graph, i, a, y, n) {
         return Way {
             code: pair_graph::BROKEN,
             met: n,
@@ -238,14 +212,39 @@ fn follow(
     }
 }
 
+// Follows action a from pair i, if it is enabled there.
+fn follow(
+    tower: &[u8],
+    table: &[u8],
+    rows: bool,
+    nodes: &[u8],
+    pairs: &mut [u8],
+    index: &mut [u8],
+    graph: &[u8],
+    i: usize,
+    a: usize,
+    n: usize,
+) -> Way
+    requires { ⌜ Searching (now tower) (now table) rows (now nodes) (now pairs) n (now index) (now graph) i (i + 1) (16 * i + a) ⌝ }
+    requires { ⌜ a < walked (now tower) (now table) rows .actions ⌝ }
+    ensures { λ way. ⌜ Followed way (walked (now (tower .entry)) (now (table .entry)) rows) (now (nodes .entry)) (now (pairs .entry)) i a n (now (pairs .exit)) (now (index .exit)) ⌝ }
+{
+    let reached = target(tower, table, rows, pair_entries::number(pairs, i), a);
+    match reached {
+        Reached::State(y) => lead(tower, table, rows, nodes, pairs, index, graph, i, a, y, n),
+        Reached::NotEnabled => Way {
+            code: pair_graph::NOT_ENABLED,
+            met: n,
+        },
+    }
+}
+
 // Follows action a from pair i and writes where it leads. Answers how many pairs are met then.
 fn step(
     tower: &[u8],
     table: &[u8],
     rows: bool,
     nodes: &[u8],
-    lines: usize,
-    count: usize,
     pairs: &mut [u8],
     index: &mut [u8],
     graph: &mut [u8],
@@ -253,31 +252,11 @@ fn step(
     a: usize,
     n: usize,
 ) -> usize
-    requires { ⌜ Walkable (now tower) (now table) rows (now nodes) lines count ⌝ }
-    requires { ⌜ Filled (walked (now tower) (now table) rows) count (now pairs) n ⌝ }
-    requires { ⌜ Indexed (now pairs) (now index) n ⌝ }
-    requires { ⌜ RightGraph (walked (now tower) (now table) rows) (now nodes) lines count (now pairs) n (now graph) (i + 1) (16 * i + a) ⌝ }
-    requires { ⌜ index-size ≤ length (now index) ⌝ }
-    requires { ⌜ graph-size ≤ length (now graph) ⌝ }
-    requires { ⌜ i < n ⌝ }
-    requires { ⌜ n ≤ most-entries ⌝ }
+    requires { ⌜ Searching (now tower) (now table) rows (now nodes) (now pairs) n (now index) (now graph) i (i + 1) (16 * i + a) ⌝ }
     requires { ⌜ a < walked (now tower) (now table) rows .actions ⌝ }
-    ensures { λ m. ⌜ Stepped m (walked (now (tower .entry)) (now (table .entry)) rows) (now (nodes .entry)) lines count (now (pairs .entry)) i a n (now (pairs .exit)) (now (index .exit)) (now (graph .exit)) ⌝ }
+    ensures { λ m. ⌜ Stepped m (walked (now (tower .entry)) (now (table .entry)) rows) (now (nodes .entry)) (now (pairs .entry)) i a n (now (pairs .exit)) (now (index .exit)) (now (graph .exit)) ⌝ }
 {
-    let way = follow(
-        tower,
-        table,
-        rows,
-        nodes,
-        lines,
-        count,
-        pairs,
-        index,
-        graph,
-        i,
-        a,
-        n,
-    );
+    let way = follow(tower, table, rows, nodes, pairs, index, graph, i, a, n);
     pair_graph::put_move(graph, i, a, way.code);
     way.met
 }
@@ -288,23 +267,14 @@ fn follow_all(
     table: &[u8],
     rows: bool,
     nodes: &[u8],
-    lines: usize,
-    count: usize,
     pairs: &mut [u8],
     index: &mut [u8],
     graph: &mut [u8],
     i: usize,
     met: usize,
 ) -> usize
-    requires { ⌜ Walkable (now tower) (now table) rows (now nodes) lines count ⌝ }
-    requires { ⌜ Filled (walked (now tower) (now table) rows) count (now pairs) met ⌝ }
-    requires { ⌜ Indexed (now pairs) (now index) met ⌝ }
-    requires { ⌜ RightGraph (walked (now tower) (now table) rows) (now nodes) lines count (now pairs) met (now graph) (i + 1) (16 * i) ⌝ }
-    requires { ⌜ index-size ≤ length (now index) ⌝ }
-    requires { ⌜ graph-size ≤ length (now graph) ⌝ }
-    requires { ⌜ i < met ⌝ }
-    requires { ⌜ met ≤ most-entries ⌝ }
-    ensures { λ m. ⌜ Grown m (walked (now (tower .entry)) (now (table .entry)) rows) (now (nodes .entry)) lines count (now (pairs .entry)) i met (now (pairs .exit)) (now (index .exit)) (now (graph .exit)) ⌝ }
+    requires { ⌜ Searching (now tower) (now table) rows (now nodes) (now pairs) met (now index) (now graph) i (i + 1) (16 * i) ⌝ }
+    ensures { λ m. ⌜ Grown m (walked (now (tower .entry)) (now (table .entry)) rows) (now (nodes .entry)) (now (pairs .entry)) i met (now (pairs .exit)) (now (index .exit)) (now (graph .exit)) ⌝ }
 {
     let actions = file_tower::actions(tower);
     let mut a = 0;
@@ -312,20 +282,7 @@ fn follow_all(
     while a < actions {
         let at = a;
         a += 1;
-        n = step(
-            tower,
-            table,
-            rows,
-            nodes,
-            lines,
-            count,
-            pairs,
-            index,
-            graph,
-            i,
-            at,
-            n,
-        );
+        n = step(tower, table, rows, nodes, pairs, index, graph, i, at, n);
         if MOST < n {
             return n;
         }
@@ -339,38 +296,17 @@ fn expand(
     table: &[u8],
     rows: bool,
     nodes: &[u8],
-    lines: usize,
-    count: usize,
     pairs: &mut [u8],
     index: &mut [u8],
     graph: &mut [u8],
     i: usize,
     met: usize,
 ) -> usize
-    requires { ⌜ Walkable (now tower) (now table) rows (now nodes) lines count ⌝ }
-    requires { ⌜ Filled (walked (now tower) (now table) rows) count (now pairs) met ⌝ }
-    requires { ⌜ Indexed (now pairs) (now index) met ⌝ }
-    requires { ⌜ RightGraph (walked (now tower) (now table) rows) (now nodes) lines count (now pairs) met (now graph) i (16 * i) ⌝ }
-    requires { ⌜ index-size ≤ length (now index) ⌝ }
-    requires { ⌜ graph-size ≤ length (now graph) ⌝ }
-    requires { ⌜ i < met ⌝ }
-    requires { ⌜ met ≤ most-entries ⌝ }
-    ensures { λ m. ⌜ Grown m (walked (now (tower .entry)) (now (table .entry)) rows) (now (nodes .entry)) lines count (now (pairs .entry)) i met (now (pairs .exit)) (now (index .exit)) (now (graph .exit)) ⌝ }
+    requires { ⌜ Searching (now tower) (now table) rows (now nodes) (now pairs) met (now index) (now graph) i i (16 * i) ⌝ }
+    ensures { λ m. ⌜ Grown m (walked (now (tower .entry)) (now (table .entry)) rows) (now (nodes .entry)) (now (pairs .entry)) i met (now (pairs .exit)) (now (index .exit)) (now (graph .exit)) ⌝ }
 {
     pair_graph::put_state(graph, i, pair_entries::number(pairs, i));
-    follow_all(
-        tower,
-        table,
-        rows,
-        nodes,
-        lines,
-        count,
-        pairs,
-        index,
-        graph,
-        i,
-        met,
-    )
+    follow_all(tower, table, rows, nodes, pairs, index, graph, i, met)
 }
 
 // Expands each pair in turn, from the first on.
@@ -379,36 +315,22 @@ fn explore_on(
     table: &[u8],
     rows: bool,
     nodes: &[u8],
-    lines: usize,
-    count: usize,
     pairs: &mut [u8],
     index: &mut [u8],
     graph: &mut [u8],
 ) -> Found
-    requires { ⌜ Walkable (now tower) (now table) rows (now nodes) lines count ⌝ }
-    requires { ⌜ Begun (walked (now tower) (now table) rows) (now nodes) lines count (now pairs) (now index) ⌝ }
+    requires { ⌜ Walkable (now tower) (now table) rows (now nodes) ⌝ }
+    requires { ⌜ SearchBegun (walked (now tower) (now table) rows) (now nodes) (now pairs) (now index) ⌝ }
     requires { ⌜ index-size ≤ length (now index) ⌝ }
     requires { ⌜ graph-size ≤ length (now graph) ⌝ }
-    ensures { λ r. ⌜ Explored r (walked (now (tower .entry)) (now (table .entry)) rows) (now (nodes .entry)) lines count (now (graph .exit)) ⌝ }
+    ensures { λ r. ⌜ Explored r (walked (now (tower .entry)) (now (table .entry)) rows) (now (nodes .entry)) (now (graph .exit)) ⌝ }
 {
     let mut i = 0;
     let mut n = 1;
     while i < n {
         let at = i;
         i += 1;
-        n = expand(
-            tower,
-            table,
-            rows,
-            nodes,
-            lines,
-            count,
-            pairs,
-            index,
-            graph,
-            at,
-            n,
-        );
+        n = expand(tower, table, rows, nodes, pairs, index, graph, at, n);
         if MOST < n {
             return Found::TooMany;
         }
@@ -417,22 +339,13 @@ fn explore_on(
 }
 
 // The first pair: the start, with what is pending there. It is the only one that the index knows.
-fn begin(
-    tower: &[u8],
-    table: &[u8],
-    rows: bool,
-    nodes: &[u8],
-    lines: usize,
-    count: usize,
-    pairs: &mut [u8],
-    index: &mut [u8],
-)
-    requires { ⌜ Walkable (now tower) (now table) rows (now nodes) lines count ⌝ }
+fn begin(tower: &[u8], table: &[u8], rows: bool, nodes: &[u8], pairs: &mut [u8], index: &mut [u8])
+    requires { ⌜ Walkable (now tower) (now table) rows (now nodes) ⌝ }
     requires { ⌜ entries-size ≤ length (now pairs) ⌝ }
     requires { ⌜ index-size ≤ length (now index) ⌝ }
-    ensures { λ _. ⌜ Begun (walked (now (tower .entry)) (now (table .entry)) rows) (now (nodes .entry)) lines count (now (pairs .exit)) (now (index .exit)) ⌝ }
+    ensures { λ _. ⌜ SearchBegun (walked (now (tower .entry)) (now (table .entry)) rows) (now (nodes .entry)) (now (pairs .exit)) (now (index .exit)) ⌝ }
 {
-    pair_entries::begin(nodes, lines, count, start(tower, table, rows), pairs);
+    pair_entries::begin(nodes, start(tower, table, rows), pairs);
     area_index::begin(pairs, index);
 }
 
@@ -443,18 +356,16 @@ pub fn explore(
     table: &[u8],
     rows: bool,
     nodes: &[u8],
-    lines: usize,
-    count: usize,
     pairs: &mut [u8],
     index: &mut [u8],
     graph: &mut [u8],
 ) -> Found
-    requires { ⌜ Walkable (now tower) (now table) rows (now nodes) lines count ⌝ }
+    requires { ⌜ Walkable (now tower) (now table) rows (now nodes) ⌝ }
     requires { ⌜ entries-size ≤ length (now pairs) ⌝ }
     requires { ⌜ index-size ≤ length (now index) ⌝ }
     requires { ⌜ graph-size ≤ length (now graph) ⌝ }
-    ensures { λ r. ⌜ Explored r (walked (now (tower .entry)) (now (table .entry)) rows) (now (nodes .entry)) lines count (now (graph .exit)) ⌝ }
+    ensures { λ r. ⌜ Explored r (walked (now (tower .entry)) (now (table .entry)) rows) (now (nodes .entry)) (now (graph .exit)) ⌝ }
 {
-    begin(tower, table, rows, nodes, lines, count, pairs, index);
-    explore_on(tower, table, rows, nodes, lines, count, pairs, index, graph)
+    begin(tower, table, rows, nodes, pairs, index);
+    explore_on(tower, table, rows, nodes, pairs, index, graph)
 }

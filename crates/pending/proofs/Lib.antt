@@ -6,3 +6,4 @@ pub mod Progress
 pub mod Steps
 pub mod Same
 pub mod Marks
+pub mod Weights

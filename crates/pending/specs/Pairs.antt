@@ -3,9 +3,8 @@ use Prim.Native.Nat.{ℕ}
 use mathlib.Core.Bool.{Bool, _&&_}
 use mathlib.Core.Option.{Option, none, some, bind}
 use mathlib.Core.List.{List, map}
-use lib.ListN.{length}
 use lib.Dec.{ltb, eqb}
-use Rattle.base.specs.Lists.{below, present}
+use Rattle.base.specs.Lists.{below, present, total}
 use Rattle.logic.specs.Tower.{Tower}
 use Rattle.logic.specs.Book.{Book}
 use Rattle.pending.specs.Pending.{Pending, same-pending, progressed, first-pending}
@@ -18,7 +17,11 @@ pub record Pair : Type 0 where
 unfoldable pub same-pair : Pair → Pair → Bool
 same-pair v w = eqb (v .state) (w .state) && same-pending (v .pending) (w .pending)
 
--- at most 1,000
+-- A pair counts once,
+unfoldable pub pair-weight : Pair → ℕ
+pair-weight v = 1
+
+-- and there are at most 1,000.
 unfoldable pub most-pairs : ℕ
 most-pairs = 1000
 
@@ -43,8 +46,8 @@ pair-followers tower book v = present (map (pair-step tower book v) (below (towe
 
 -- Pairs are counted over all unbroken steps from the start.
 unfoldable pub pairs : Tower → Book → List Pair
-pairs tower book = search-from same-pair (pair-followers tower book) most-pairs (first-pair tower book)
+pairs tower book = search-from same-pair (pair-followers tower book) pair-weight most-pairs (first-pair tower book)
 
 -- 11: over 1,000 pairs
 unfoldable pub over-pairs : Tower → Book → Bool
-over-pairs tower book = ltb most-pairs (length (pairs tower book))
+over-pairs tower book = ltb most-pairs (total (map pair-weight (pairs tower book)))

@@ -10,7 +10,7 @@ use Rattle.io.specs.Counts as Io
 use Rattle.base.specs.Text.{byte, ascii}
 use Rattle.base.specs.Bytes.{number-at}
 use Rattle.program_texts.specs.Decimal.{decimal}
-use Rattle.program_texts.specs.Putting.{Puts, Line}
+use Rattle.program_texts.specs.Putting.{Puts, PrintedLine}
 use Rattle.program_texts.proofs.Fitting.{more, last, line-cut}
 use Rattle.program_files.specs.declared.reading.Contents.{Contents}
 use Rattle.program_files.specs.declared.reading.Contents.the-variants as Contents
@@ -18,7 +18,7 @@ use Rattle.program_files.specs.declared.reading.Progress.{Progress}
 use Rattle.program_files.specs.declared.reading.Progress.the-variants as Progress
 use Rattle.program_files.specs.declared.writing.Written.{Written}
 use Rattle.program_files.specs.declared.writing.Written.the-variants as Written
-use Rattle.program_files.specs.Counts.{Counts, Holds, Goes, Writes}
+use Rattle.program_files.specs.Counts.{Counts, HoldsContents, Goes, WritesBytes}
 use Rattle.program_files.specs.Names.{temporary-name, FolderEnd}
 
 -- ---- reading
@@ -41,18 +41,18 @@ pub goes-failed : (most : ℕ) → Goes Progress.Failed most
 goes-failed most = record { within = λ m e. absurd (let z : _≡_ {A = ℕ} 0 1 = cc in omega arith) }
 
 -- The bytes read so far are inside the area.
-pub record ReadSoFar (area₀ area : List ℕ) (done : ℕ) : Type 0 where
+pub record FileReadSoFar (area₀ area : List ℕ) (done : ℕ) : Type 0 where
   pub within : done ≤ length area
   pub same-length : length area ≡ length area₀
 
-pub read-none : (area : List ℕ) → ReadSoFar area area 0
+pub read-none : (area : List ℕ) → FileReadSoFar area area 0
 read-none area = record { within = omega arith; same-length = refl }
 
-pub read-more : (area₀ area after : List ℕ) (done n : ℕ) (p : Progress) → ReadSoFar area₀ area done → p ≡ Progress.On n → Goes p (length area)
-    → length after ≡ length area → ReadSoFar area₀ after n
+pub read-more : (area₀ area after : List ℕ) (done n : ℕ) (p : Progress) → FileReadSoFar area₀ area done → p ≡ Progress.On n → Goes p (length area)
+    → length after ≡ length area → FileReadSoFar area₀ after n
 read-more area₀ area after done n p s e g l = record { within = omega (arith, g .within n e); same-length = l ∙ s .same-length }
 
-holds-bytes : (n : ℕ) (area : List ℕ) → n ≤ length area → Holds (Contents.Bytes n) area
+holds-bytes : (n : ℕ) (area : List ℕ) → n ≤ length area → HoldsContents (Contents.Bytes n) area
 holds-bytes n area l = record { counts = λ m e. go m e }
   where
     back : Contents → ℕ
@@ -65,22 +65,22 @@ holds-bytes n area l = record { counts = λ m e. go m e }
         let k : m ≤ length area = omega arith in
         record { within = k; taken = sym (length-take-le m area k) }
 
-pub read-ended : (area₀ area after : List ℕ) (done : ℕ) → ReadSoFar area₀ area done → length after ≡ length area
-    → Holds (Contents.Bytes done) after
+pub read-ended : (area₀ area after : List ℕ) (done : ℕ) → FileReadSoFar area₀ area done → length after ≡ length area
+    → HoldsContents (Contents.Bytes done) after
 read-ended area₀ area after done s e = holds-bytes done after (omega (arith, s .within))
 
-pub read-full : (area₀ area : List ℕ) (done : ℕ) → ReadSoFar area₀ area done → Holds (Contents.Bytes done) area
+pub read-full : (area₀ area : List ℕ) (done : ℕ) → FileReadSoFar area₀ area done → HoldsContents (Contents.Bytes done) area
 read-full area₀ area done s = holds-bytes done area (s .within)
 
-pub argument-read : (n : ℕ) (area : List ℕ) → Io.Counts n area → Holds (Contents.Bytes n) area
+pub argument-read : (n : ℕ) (area : List ℕ) → Io.Counts n area → HoldsContents (Contents.Bytes n) area
 argument-read n area c = holds-bytes n area (c .0)
 
-pub holds-nothing : (area : List ℕ) → Holds Contents.Failed area
+pub holds-nothing : (area : List ℕ) → HoldsContents Contents.Failed area
 holds-nothing area = record { counts = λ m e. absurd (let z : _≡_ {A = ℕ} 0 1 = cc in omega arith) }
 
 -- ---- writing
 
-pub writes-on : (n most : ℕ) → n ≤ most → Writes (Written.On n) most
+pub writes-on : (n most : ℕ) → n ≤ most → WritesBytes (Written.On n) most
 writes-on n most l = record { within = λ m e. go m e }
   where
     back : Written → ℕ
@@ -90,10 +90,10 @@ writes-on n most l = record { within = λ m e. go m e }
     go : (m : ℕ) → Written.On n ≡ Written.On m → m ≤ most
     go m e = let f : n ≡ m = ap back e in omega arith
 
-pub writes-failed : (most : ℕ) → Writes Written.Failed most
+pub writes-failed : (most : ℕ) → WritesBytes Written.Failed most
 writes-failed most = record { within = λ m e. absurd (let z : _≡_ {A = ℕ} 0 1 = cc in omega arith) }
 
-pub written-within : (w : Written) (n most : ℕ) → w ≡ Written.On n → Writes w most → n ≤ most
+pub written-within : (w : Written) (n most : ℕ) → w ≡ Written.On n → WritesBytes w most → n ≤ most
 written-within w n most e h = h .within n e
 
 -- ---- names
@@ -152,7 +152,7 @@ number-way b w₀ w₁ w₂ w₃ p q r s = omega arith
 -- The name of a temporary file.
 pub temporary-way : (path : List ℕ) (k : ℕ) (o₀ o₁ o₂ o₃ o₄ : List ℕ) (n r₁ r₂ r₃ r₄ : ℕ) → Puts r₄ (ascii ".tmp") o₃ r₃ o₄
     → Puts r₃ (decimal n) o₂ r₂ o₃ → n ≡ k → Puts r₂ (46 ∷ []) o₁ r₁ o₂ → Puts r₁ path o₀ 0 o₁ → length o₀ ≡ 4096
-    → Line r₄ (take 4096 (temporary-name path k)) o₄
+    → PrintedLine r₄ (take 4096 (temporary-name path k)) o₄
 unfolding temporary-name ascii
 temporary-way path k o₀ o₁ o₂ o₃ o₄ n r₁ r₂ r₃ r₄ s r e q p f =
     rw (← f) (line-cut r₄ (temporary-name path k) o₀ o₄
@@ -161,10 +161,3 @@ temporary-way path k o₀ o₁ o₂ o₃ o₄ n r₁ r₂ r₃ r₄ s r e q p f 
     (more r₃ r₄ r₂ (decimal k) (ascii ".tmp" ∷ []) o₂ o₃ o₄ (rw e at r) (last r₄ r₃ (ascii ".tmp") o₃ o₄ s)))))
 
 -- ---- for the programs
-
--- What was read is a part of the area.
-pub contents-within : (r : Contents) (n : ℕ) (area : List ℕ) → r ≡ Contents.Bytes n → Holds r area → n ≤ length area
-contents-within r n area e h = h .counts n e .within
-
-pub contents-taken : (r : Contents) (n : ℕ) (area : List ℕ) → r ≡ Contents.Bytes n → Holds r area → n ≡ length (take n area)
-contents-taken r n area e h = h .counts n e .taken

@@ -16,7 +16,7 @@ pub record Counts (n : ℕ) (area : List ℕ) : Type 0 where
   pub taken : n ≡ length (take n area)
 
 -- What was read stands at the start of the area.
-pub record Holds (contents : Contents) (area : List ℕ) : Type 0 where
+pub record HoldsContents (contents : Contents) (area : List ℕ) : Type 0 where
   pub counts : (n : ℕ) → contents ≡ Contents.Bytes n → Counts n area
 
 -- Reading goes on within so many bytes.
@@ -24,5 +24,5 @@ pub record Goes (progress : Progress) (most : ℕ) : Type 0 where
   pub within : (n : ℕ) → progress ≡ Progress.On n → n ≤ most
 
 -- Writing goes on within so many bytes.
-pub record Writes (written : Written) (most : ℕ) : Type 0 where
+pub record WritesBytes (written : Written) (most : ℕ) : Type 0 where
   pub within : (n : ℕ) → written ≡ Written.On n → n ≤ most

@@ -3,7 +3,7 @@ ghost use Prim.Native.Nat.{_<_};
 ghost use mathlib.Core.Path.{_≡_};
 ghost use lib.ListN.{take};
 ghost use Rattle.base.specs.Bytes.{number-at};
-ghost use Rattle.program_texts.specs.Putting.{Line};
+ghost use Rattle.program_texts.specs.Putting.{PrintedLine};
 ghost use Rattle.program_files.specs.Names.{temporary-name, FolderEnd};
 
 // A byte as a number.
@@ -24,7 +24,7 @@ fn number(b: &[u8; 4]) -> usize
 // The name of a temporary file in the same folder: the file's own, a number and `tmp`. One that is
 // too long for a path is cut at 4,096 bytes, a length that no path has.
 pub fn temporary(path: &[u8], random: &[u8; 4], name: &mut [u8; 4096]) -> usize
-    ensures { λ r. ⌜ Line r (take 4096 (temporary-name (now (path .entry)) (number-at 4 (now (random .entry)) 0))) (now (name .exit)) ⌝ }
+    ensures { λ r. ⌜ PrintedLine r (take 4096 (temporary-name (now (path .entry)) (number-at 4 (now (random .entry)) 0))) (now (name .exit)) ⌝ }
 {
     let a = program_texts::put_bytes(name, 0, path);
     let b = program_texts::put_byte(name, a, b'.');

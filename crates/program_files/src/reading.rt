@@ -2,7 +2,7 @@
 // A read that fails is told apart from the end of the file.
 ghost use Prim.Native.Nat.{_≤_};
 ghost use lib.ListN.{length};
-ghost use Rattle.program_files.specs.Counts.{Holds, Goes};
+ghost use Rattle.program_files.specs.Counts.{HoldsContents, Goes};
 
 // How many bytes were read, or that the file could not be read.
 pub enum Contents {
@@ -39,7 +39,7 @@ fn read_more(fd: i32, path: &[u8], buf: &mut [u8], done: usize) -> Progress
 
 // All calls. Nothing says that they come to an end, so their number is bounded, by one that no run reaches.
 fn read_all(fd: i32, path: &[u8], buf: &mut [u8]) -> Contents
-    ensures { λ r. ⌜ Holds r (now (buf .exit)) ⌝ }
+    ensures { λ r. ⌜ HoldsContents r (now (buf .exit)) ⌝ }
 {
     let mut done = 0;
     let mut turns = u64::MAX;
@@ -66,7 +66,7 @@ fn read_all(fd: i32, path: &[u8], buf: &mut [u8]) -> Contents
 // Reads the file of that name. Who lends one byte more than the longest file that is of use sees that
 // a file is too long.
 pub fn read_file(path: &[u8], buf: &mut [u8]) -> Contents
-    ensures { λ r. ⌜ Holds r (now (buf .exit)) ⌝ }
+    ensures { λ r. ⌜ HoldsContents r (now (buf .exit)) ⌝ }
 {
     let fd = os::open_read(path);
     if fd < 0 {
@@ -80,7 +80,7 @@ pub fn read_file(path: &[u8], buf: &mut [u8]) -> Contents
 
 // The program's argument of that number, or that it is empty or too long. The usage calls it `what`.
 pub fn argument(number: usize, what: &[u8], buf: &mut [u8]) -> Contents
-    ensures { λ r. ⌜ Holds r (now (buf .exit)) ⌝ }
+    ensures { λ r. ⌜ HoldsContents r (now (buf .exit)) ⌝ }
 {
     let n = os::arg(number, buf);
     if os::errno() != 0 {

@@ -1,7 +1,7 @@
 // Writing: to standard output, and a file that takes the place of another only when it is whole.
 ghost use Prim.Native.Nat.{_≤_};
 ghost use lib.ListN.{length};
-ghost use Rattle.program_files.specs.Counts.{Writes};
+ghost use Rattle.program_files.specs.Counts.{WritesBytes};
 use crate::naming;
 
 // How writing goes on after a call: with so many bytes in all, or not at all.
@@ -13,7 +13,7 @@ pub enum Written {
 // One call, of the bytes that are left. One that a signal interrupts is to be made again.
 fn write_more(fd: i32, path: &[u8], bytes: &[u8], done: usize) -> Written
     requires { ⌜ done ≤ length (now bytes) ⌝ }
-    ensures { λ r. ⌜ Writes r (length (now (bytes .entry))) ⌝ }
+    ensures { λ r. ⌜ WritesBytes r (length (now (bytes .entry))) ⌝ }
 {
     let put = libc::write(fd, &bytes[done..]);
     if put < 0 {
@@ -49,7 +49,7 @@ fn write_whole(fd: i32, path: &[u8], bytes: &[u8]) -> bool {
     done == bytes.len()
 }
 
-// Writes to standard output, or says that it cannot.
+// WritesBytes to standard output, or says that it cannot.
 pub fn print(bytes: &[u8]) -> bool {
     write_whole(libc::STDOUT_FILENO, b"standard output", bytes)
 }
@@ -69,7 +69,7 @@ fn sync(fd: i32) -> bool {
     false
 }
 
-// Writes a new file that is open, and closes it: the bytes are on the device.
+// WritesBytes a new file that is open, and closes it: the bytes are on the device.
 fn fill(fd: i32, path: &[u8], bytes: &[u8]) -> bool {
     if !write_whole(fd, path, bytes) {
         libc::close(fd);
@@ -158,7 +158,7 @@ fn put_in_place(path: &[u8], bytes: &[u8]) -> bool {
     replace_by(&name[..n], path, bytes)
 }
 
-// Writes a file: first under another name in the same folder, whole and on the device, which then
+// WritesBytes a file: first under another name in the same folder, whole and on the device, which then
 // replaces the old one; then the folder is told. So at any moment the old file or the new one is there,
 // whole. Where it fails it says why and which of the two is there, and leaves no other file behind.
 pub fn save(path: &[u8], bytes: &[u8]) -> bool {

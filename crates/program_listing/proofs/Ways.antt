@@ -11,18 +11,17 @@ use mir.Syntax.{w64}
 use mir.Val.{Fits}
 use Rattle.base.specs.Lists.{joined, count-from}
 use Rattle.base.specs.Text.{ascii}
-use Rattle.base.specs.Answers.{refusal-said, letter-of}
+use Rattle.base.specs.Answers.{row-of, letter-of, refusal-number, refusal-place, refusal-said, reason-said}
+use Rattle.base.specs.declared.Reason.{Reason}
 use Rattle.base.specs.declared.Reason.the-variants.{Start, Withheld, WrongStep, Stopped, Broken}
 use Rattle.base.specs.declared.Refusal.{Refusal}
-use Rattle.base.specs.declared.Refusal.the-variants.{TowerSize, Range, Action, Target, Mask, Grammar, Number, Mark, Limit, Timed, Pairs, NoTable, Layout, NotGood, Area, Output, Outside, NotAllowed}
-use Rattle.refusal_numbers.specs.Parts.{said-number, said-place, said-letter}
 use Rattle.logic.specs.Tables.{row-at}
 use Rattle.reading.specs.TableReading.{rows-of, steps-of, row-state, row-count, row-first, step-place, step-action, step-target, laid-out, step-of, row-of-table, table-of}
 use Rattle.logic.specs.TableFile.{step-size}
 use Rattle.reading.proofs.LaidOut.{row-of-table-at}
 use Rattle.file_table.proofs.Laws.{laid-out-known}
 use Rattle.program_texts.specs.Decimal.{decimal}
-use Rattle.program_texts.specs.Putting.{filled, put, Puts, Line}
+use Rattle.program_texts.specs.Putting.{filled, put, Puts, PrintedLine}
 use Rattle.program_texts.proofs.Fitting.{put-append, puts-then, puts-nothing, more, last, line-whole}
 use Rattle.program_listing.specs.Lines.{line-end, head-line, step-text, steps-text, row-line, sizes-line, letter-text, inside-text, refusal-line, refused-line}
 use Rattle.program_listing.proofs.Lengths.{head-short, sizes-short, row-short, refusal-short}
@@ -40,7 +39,7 @@ five a b c d e o₀ o₁ o₂ o₃ o₄ o₅ r₀ r₁ r₂ r₃ r₄ r₅ p q r
 
 pub head-way : (rows steps : ℕ) (o₀ o₁ o₂ o₃ o₄ o₅ : List ℕ) (r₁ r₂ r₃ r₄ r₅ : ℕ) → Puts r₅ (10 ∷ []) o₄ r₄ o₅ → Puts r₄ (decimal steps) o₃ r₃ o₄
     → Puts r₃ (ascii " steps ") o₂ r₂ o₃ → Puts r₂ (decimal rows) o₁ r₁ o₂ → Puts r₁ (ascii "rows ") o₀ 0 o₁
-    → length o₀ ≡ 4096 → rows < 2 ^ 64 → steps < 2 ^ 64 → Line r₅ (head-line rows steps) o₅
+    → length o₀ ≡ 4096 → rows < 2 ^ 64 → steps < 2 ^ 64 → PrintedLine r₅ (head-line rows steps) o₅
 unfolding head-line line-end
 head-way rows steps o₀ o₁ o₂ o₃ o₄ o₅ r₁ r₂ r₃ r₄ r₅ t s r q p e a b =
     line-whole r₅ (head-line rows steps) o₀ o₅
@@ -49,7 +48,7 @@ head-way rows steps o₀ o₁ o₂ o₃ o₄ o₅ r₁ r₂ r₃ r₄ r₅ t s r
 
 pub sizes-way : (lines nodes : ℕ) (o₀ o₁ o₂ o₃ o₄ o₅ : List ℕ) (r₁ r₂ r₃ r₄ r₅ : ℕ) → Puts r₅ (10 ∷ []) o₄ r₄ o₅ → Puts r₄ (decimal nodes) o₃ r₃ o₄
     → Puts r₃ (ascii " nodes ") o₂ r₂ o₃ → Puts r₂ (decimal lines) o₁ r₁ o₂ → Puts r₁ (ascii "lines ") o₀ 0 o₁
-    → length o₀ ≡ 4096 → lines < 2 ^ 64 → nodes < 2 ^ 64 → Line r₅ (sizes-line lines nodes) o₅
+    → length o₀ ≡ 4096 → lines < 2 ^ 64 → nodes < 2 ^ 64 → PrintedLine r₅ (sizes-line lines nodes) o₅
 unfolding sizes-line line-end
 sizes-way lines nodes o₀ o₁ o₂ o₃ o₄ o₅ r₁ r₂ r₃ r₄ r₅ t s r q p e a b =
     line-whole r₅ (sizes-line lines nodes) o₀ o₅
@@ -71,14 +70,14 @@ abbrev rest-text : List ℕ → ℕ → ℕ → List ℕ
 rest-text bytes i end = steps-text (map (step-of bytes) (count-from i (end - i)))
 
 -- What is left of the steps, put from here on, gives what all of them give.
-pub record StepsLeft (bytes : List ℕ) (row : ℕ) (o₀ : List ℕ) (at end : ℕ) (out : List ℕ) (next i : ℕ) : Type 0 where
+pub record StepsToPrint (bytes : List ℕ) (row : ℕ) (o₀ : List ℕ) (at end : ℕ) (out : List ℕ) (next i : ℕ) : Type 0 where
   pub inside : i ≤ end
   pub within : end ≤ steps-of bytes
   pub same-length : length out ≡ length o₀
   pub rest : put (filled out next) (rest-text bytes i end) ≡ put (filled o₀ at) (steps-text (row-at (table-of bytes) row .steps))
 
 pub steps-start : (bytes : List ℕ) (row : ℕ) (out : List ℕ) (at i n : ℕ) → laid-out bytes ≡ true → row < rows-of bytes → i ≡ row-first bytes row
-    → n ≡ row-count bytes row → StepsLeft bytes row out at (i + n) out at i
+    → n ≡ row-count bytes row → StepsToPrint bytes row out at (i + n) out at i
 unfolding row-of-table
 steps-start bytes row out at i n h l e f =
     record {
@@ -93,15 +92,15 @@ pub steps-fit : (bytes : List ℕ) (row i n : ℕ) → laid-out bytes ≡ true �
 unfolding step-place step-size
 steps-fit bytes row i n h l e f g = omega (arith, laid-out-known bytes h .row row l .last, laid-out-known bytes h .header .size)
 
-pub next-fits : (bytes : List ℕ) (row : ℕ) (o₀ : List ℕ) (at end : ℕ) (out : List ℕ) (next i : ℕ) → StepsLeft bytes row o₀ at end out next i
+pub next-fits : (bytes : List ℕ) (row : ℕ) (o₀ : List ℕ) (at end : ℕ) (out : List ℕ) (next i : ℕ) → StepsToPrint bytes row o₀ at end out next i
     → i < end → laid-out bytes ≡ true → length bytes < 2 ^ 64 → Fits w64 (i + 1)
 unfolding step-place step-size
 next-fits bytes row o₀ at end out next i left l h g = omega (arith, left .within, laid-out-known bytes h .header .size)
 
 pub steps-on : (bytes : List ℕ) (row : ℕ) (o₀ : List ℕ) (at end : ℕ) (out : List ℕ) (next i a t r : ℕ) (after : List ℕ)
-    → StepsLeft bytes row o₀ at end out next i → i < end → a ≡ step-action bytes i → t ≡ step-target bytes i
+    → StepsToPrint bytes row o₀ at end out next i → i < end → a ≡ step-action bytes i → t ≡ step-target bytes i
     → Puts r (step-text (record { action = a; target = t })) out next after → length after ≡ length out
-    → StepsLeft bytes row o₀ at end after r (i + 1)
+    → StepsToPrint bytes row o₀ at end after r (i + 1)
 unfolding steps-text joined count-from step-of
 steps-on bytes row o₀ at end out next i a t r after left l e f p same =
     record {
@@ -116,7 +115,7 @@ steps-on bytes row o₀ at end out next i a t r after left l e f p same =
     text : step-text (record { action = a; target = t }) ++ rest-text bytes (i + 1) end ≡ rest-text bytes i end
     text = let g : end - i ≡ suc (end - (i + 1)) = omega arith in rw (g, e, f, add-one i)
 
-pub steps-end : (bytes : List ℕ) (row : ℕ) (o₀ : List ℕ) (at end : ℕ) (out : List ℕ) (next i : ℕ) → StepsLeft bytes row o₀ at end out next i
+pub steps-end : (bytes : List ℕ) (row : ℕ) (o₀ : List ℕ) (at end : ℕ) (out : List ℕ) (next i : ℕ) → StepsToPrint bytes row o₀ at end out next i
     → end ≤ i → Puts next (steps-text (row-at (table-of bytes) row .steps)) o₀ at out
 unfolding steps-text joined count-from put
 steps-end bytes row o₀ at end out next i left l =
@@ -127,7 +126,7 @@ steps-end bytes row o₀ at end out next i left l =
 pub row-way : (bytes : List ℕ) (row state : ℕ) (o₀ o₁ o₂ o₃ o₄ o₅ : List ℕ) (r₁ r₂ r₃ r₄ r₅ : ℕ) → Puts r₅ (10 ∷ []) o₄ r₄ o₅
     → Puts r₄ (steps-text (row-at (table-of bytes) row .steps)) o₃ r₃ o₄ → Puts r₃ (decimal state) o₂ r₂ o₃ → state ≡ row-state bytes row
     → Puts r₂ (32 ∷ []) o₁ r₁ o₂ → Puts r₁ (decimal row) o₀ 0 o₁
-    → length o₀ ≡ 4096 → laid-out bytes ≡ true → row < rows-of bytes → Line r₅ (row-line row (row-at (table-of bytes) row)) o₅
+    → length o₀ ≡ 4096 → laid-out bytes ≡ true → row < rows-of bytes → PrintedLine r₅ (row-line row (row-at (table-of bytes) row)) o₅
 unfolding row-of-table row-line line-end ascii
 row-way bytes row state o₀ o₁ o₂ o₃ o₄ o₅ r₁ r₂ r₃ r₄ r₅ t s r f q p e h l =
     line-whole r₅ (row-line row (row-at (table-of bytes) row)) o₀ o₅ whole (rw e (row-short bytes row h l))
@@ -150,40 +149,28 @@ pub letter-one : (l at r s : ℕ) (o₀ o₁ o₂ : List ℕ) → (l ≡ 0 → �
 unfolding letter-text
 letter-one l at r s o₀ o₁ o₂ e p q = rw (ne-eqb l 0 e) (puts-then r s at (32 ∷ []) (l ∷ []) o₀ o₁ o₂ p q)
 
--- What is said of a refusal, by its number, its place and its letter.
-said-by : (why : Refusal) → refusal-line (refusal-said why)
-    ≡ refused-line (said-number (refusal-said why)) (said-place (refusal-said why)) (said-letter (refusal-said why))
-unfolding refusal-line refused-line refusal-said said-number said-place said-letter letter-text inside-text letter-of
-said-by TowerSize = refl
-said-by Range = refl
-said-by Action = refl
-said-by Target = refl
-said-by Mask = refl
-said-by (Grammar line) = refl
-said-by (Number line) = refl
-said-by (Mark line) = refl
-said-by (Limit line) = refl
-said-by (Timed line) = refl
-said-by Pairs = refl
-said-by NoTable = refl
-said-by Layout = refl
-said-by (NotGood Start) = refl
-said-by (NotGood (Withheld row)) = refl
-said-by (NotGood (WrongStep row)) = refl
-said-by (NotGood (Stopped row)) = refl
-said-by (NotGood Broken) = refl
-said-by Area = refl
-said-by Output = refl
-said-by Outside = refl
-said-by NotAllowed = refl
+-- The line of a refusal, by its number and its place.
+pub refusal-way : (why : Refusal) (n p r : ℕ) (after : List ℕ) → PrintedLine r (refused-line n p 0) after → n ≡ refusal-number why
+    → p ≡ refusal-place why → PrintedLine r (refusal-line (refusal-said why)) after
+unfolding refusal-line refused-line refusal-said letter-text inside-text
+refusal-way why n p r after h e f = rw (← e, ← f) h
 
-pub refusal-way : (why : Refusal) (n p l r : ℕ) (after : List ℕ) → Line r (refused-line n p l) after → n ≡ said-number (refusal-said why)
-    → p ≡ said-place (refusal-said why) → l ≡ said-letter (refusal-said why) → Line r (refusal-line (refusal-said why)) after
-refusal-way why n p l r after h e f g = rw (said-by why, ← e, ← f, ← g) h
+-- The line of a 14, by the reason's row and letter.
+reason-line : (q : Reason) → refusal-line (reason-said q) ≡ refused-line 14 (row-of q) (letter-of q)
+unfolding refusal-line refused-line reason-said letter-text inside-text
+reason-line Start = refl
+reason-line (Withheld row) = refl
+reason-line (WrongStep row) = refl
+reason-line (Stopped row) = refl
+reason-line Broken = refl
+
+pub reason-way : (q : Reason) (p l r : ℕ) (after : List ℕ) → PrintedLine r (refused-line 14 p l) after → p ≡ row-of q → l ≡ letter-of q
+    → PrintedLine r (refusal-line (reason-said q)) after
+reason-way q p l r after h e f = rw (reason-line q, ← e, ← f) h
 
 pub refused-way : (n p l : ℕ) (o₀ o₁ o₂ o₃ o₄ o₅ o₆ : List ℕ) (r₁ r₂ r₃ r₄ r₅ r₆ : ℕ) → Puts r₆ (10 ∷ []) o₅ r₅ o₆
     → Puts r₅ (letter-text l) o₄ r₄ o₅ → Puts r₄ (decimal p) o₃ r₃ o₄ → Puts r₃ (32 ∷ []) o₂ r₂ o₃ → Puts r₂ (decimal n) o₁ r₁ o₂
-    → Puts r₁ (ascii "refused ") o₀ 0 o₁ → length o₀ ≡ 4096 → n < 2 ^ 64 → p < 2 ^ 64 → Line r₆ (refused-line n p l) o₆
+    → Puts r₁ (ascii "refused ") o₀ 0 o₁ → length o₀ ≡ 4096 → n < 2 ^ 64 → p < 2 ^ 64 → PrintedLine r₆ (refused-line n p l) o₆
 unfolding refused-line line-end ascii
 refused-way n p l o₀ o₁ o₂ o₃ o₄ o₅ o₆ r₁ r₂ r₃ r₄ r₅ r₆ f e d c b a i s t =
     line-whole r₆ (refused-line n p l) o₀ o₆

@@ -4,11 +4,12 @@
 ghost use Prim.Native.Nat.{_<_};
 ghost use mathlib.Core.Path.{_≡_};
 ghost use mathlib.Core.Bool.{true};
-ghost use Rattle.base.specs.Answers.{refusal-said};
+ghost use Rattle.base.specs.Answers.{refusal-said, reason-said};
 ghost use Rattle.logic.specs.Tables.{row-at};
 ghost use Rattle.reading.specs.TableReading.{rows-of, laid-out, table-of};
-ghost use Rattle.program_texts.specs.Putting.{Puts, Line};
+ghost use Rattle.program_texts.specs.Putting.{Puts, PrintedLine};
 ghost use Rattle.program_listing.specs.Lines.{head-line, step-text, steps-text, row-line, sizes-line, letter-text, refusal-line, refused-line};
+use base::Reason;
 use base::Refusal;
 use program_texts::put_byte;
 use program_texts::put_bytes;
@@ -16,7 +17,7 @@ use program_texts::put_decimal;
 
 // The counts of a table, the listing's first line.
 pub fn head(rows: usize, steps: usize, out: &mut [u8; 4096]) -> usize
-    ensures { λ r. ⌜ Line r (head-line rows steps) (now (out .exit)) ⌝ }
+    ensures { λ r. ⌜ PrintedLine r (head-line rows steps) (now (out .exit)) ⌝ }
 {
     let a = put_bytes(out, 0, b"rows ");
     let b = put_decimal(out, a, rows);
@@ -57,7 +58,7 @@ fn put_steps(table: &[u8], row: usize, out: &mut [u8], at: usize) -> usize
 pub fn row(table: &[u8], row: usize, out: &mut [u8; 4096]) -> usize
     requires { ⌜ laid-out (now table) ≡ true ⌝ }
     requires { ⌜ row < rows-of (now table) ⌝ }
-    ensures { λ r. ⌜ Line r (row-line row (row-at (table-of (now (table .entry))) row)) (now (out .exit)) ⌝ }
+    ensures { λ r. ⌜ PrintedLine r (row-line row (row-at (table-of (now (table .entry))) row)) (now (out .exit)) ⌝ }
 {
     let a = put_decimal(out, 0, row);
     let b = put_byte(out, a, b' ');
@@ -68,7 +69,7 @@ pub fn row(table: &[u8], row: usize, out: &mut [u8; 4096]) -> usize
 
 // The numbers of a book's lines and nodes.
 pub fn sizes(lines: usize, nodes: usize, out: &mut [u8; 4096]) -> usize
-    ensures { λ r. ⌜ Line r (sizes-line lines nodes) (now (out .exit)) ⌝ }
+    ensures { λ r. ⌜ PrintedLine r (sizes-line lines nodes) (now (out .exit)) ⌝ }
 {
     let a = put_bytes(out, 0, b"lines ");
     let b = put_decimal(out, a, lines);
@@ -77,19 +78,27 @@ pub fn sizes(lines: usize, nodes: usize, out: &mut [u8; 4096]) -> usize
     put_byte(out, d, b'\n')
 }
 
-// A refusal: its number and place, and the letter inside a 14.
+// A refusal: its number and place.
 pub fn refusal(why: Refusal, out: &mut [u8; 4096]) -> usize
-    ensures { λ r. ⌜ Line r (refusal-line (refusal-said why)) (now (out .exit)) ⌝ }
+    ensures { λ r. ⌜ PrintedLine r (refusal-line (refusal-said why)) (now (out .exit)) ⌝ }
 {
     let number = refusal_numbers::number(why);
     let place = refusal_numbers::place(why);
-    let letter = refusal_numbers::letter(why);
-    refused(number as usize, place, letter, out)
+    refused(number as usize, place, 0, out)
+}
+
+// 14, with the reason's row and letter.
+pub fn not_good(reason: Reason, out: &mut [u8; 4096]) -> usize
+    ensures { λ r. ⌜ PrintedLine r (refusal-line (reason-said reason)) (now (out .exit)) ⌝ }
+{
+    let place = refusal_numbers::row(reason);
+    let letter = refusal_numbers::letter(reason);
+    refused(refusal_numbers::NOT_GOOD as usize, place, letter, out)
 }
 
 // The same by its numbers; 0 is no letter.
 fn refused(number: usize, place: usize, letter: u8, out: &mut [u8; 4096]) -> usize
-    ensures { λ r. ⌜ Line r (refused-line number place letter) (now (out .exit)) ⌝ }
+    ensures { λ r. ⌜ PrintedLine r (refused-line number place letter) (now (out .exit)) ⌝ }
 {
     let a = put_bytes(out, 0, b"refused ");
     let b = put_decimal(out, a, number);

@@ -8,7 +8,7 @@ use lib.ListN.{length, take, drop, set, length-set, length-take}
 use lib.Seq.{take-nil, sets, length-sets, sets-eq, take-length, take-append-le}
 use Rattle.base.specs.Lists.{joined}
 use borrow.Author.Tests.{lt-ltb, le-ltb}
-use Rattle.program_texts.specs.Putting.{Filled, filled, put-byte, put, Puts, Line}
+use Rattle.program_texts.specs.Putting.{Filled, filled, put-byte, put, Puts, PrintedLine}
 
 -- A text behind another is the two as one.
 pub put-append : (f : Filled) (a b : List ℕ) → put (put f a) b ≡ put f (a ++ b)
@@ -53,7 +53,7 @@ put-room out at (b ∷ text) l =
     ∙ ap (filled (sets (set out at b) (suc at) text)) (omega arith)
 
 -- A text that fits stands at the start of the array.
-pub line-whole : (r : ℕ) (text out after : List ℕ) → Puts r text out 0 after → length text ≤ length out → Line r text after
+pub line-whole : (r : ℕ) (text out after : List ℕ) → Puts r text out 0 after → length text ≤ length out → PrintedLine r text after
 line-whole r text out after p l =
     record {
       within = rw (count, same-bytes, length-sets out 0 text) l;
@@ -92,7 +92,7 @@ put-cut out at (suc room) (b ∷ text) e =
     ∙ ap (λ f. put f (take room text)) (sym (put-byte-room out at b (omega arith)))
 
 -- A text stands at the start of the array, as much of it as fits.
-pub line-cut : (r : ℕ) (text out after : List ℕ) → Puts r text out 0 after → Line r (take (length out) text) after
+pub line-cut : (r : ℕ) (text out after : List ℕ) → Puts r text out 0 after → PrintedLine r (take (length out) text) after
 line-cut r text out after p =
     line-whole r (take (length out) text) out after (record { left = p .left ∙ put-cut out 0 (length out) text (omega arith) })
     (rw (length-take (length out) text) (omega arith))

@@ -28,7 +28,7 @@ pub record Puts (end : ℕ) (text out : List ℕ) (at : ℕ) (after : List ℕ) 
   pub left : filled after end ≡ put (filled out at) text
 
 -- A line stands whole at the start of the array, and so many bytes are its own.
-pub record Line (count : ℕ) (text after : List ℕ) : Type 0 where
+pub record PrintedLine (count : ℕ) (text after : List ℕ) : Type 0 where
   pub within : count ≤ length after
   pub counted : count ≡ length (take count after)
   pub bytes : take count after ≡ text

@@ -19,48 +19,48 @@ use Rattle.logic.specs.Book.{Formula, parts, size, nodes, timed-right, at-start
 use Rattle.reading.specs.Tokens.{stands, skip, is-digit}
 use Rattle.reading.specs.Grammar.{got, formula-at}
 use Rattle.reading.specs.BookReading as Reading
-use Rattle.reading.specs.BookReading.{most-bytes, most-nodes, most-brackets, ended, worded, line-at, over-number, over-mark, over-limit, ReadSoFar, judge-line, lines-step, read-lines, read-book}
+use Rattle.reading.specs.BookReading.{most-bytes, most-nodes, most-brackets, usual-bound, ended, worded, line-at, over-number, over-mark, over-limit, ReadSoFar, judge-line, lines-step, read-lines, read-book}
 use Rattle.reading.specs.Spelling.{spaces, or-units, Spells, word, SpellsLine, spells-line, SpellsBook, spells-none, spells-more, WithinLimits, BookOf}
 use Rattle.reading.proofs.TextPlaces.{Span, Pieces, span-inside, span-left, span-right, pieces, behind-piece, piece-byte, pieces-end}
 use Rattle.reading.proofs.FormulaBack.{past-spaces, is-there, spelled-clear, formula-back}
 
 -- ---- lines
 
-module _ (s : List ℕ) (p : ℕ) where
+module _ (usual : ℕ) (s : List ℕ) (p : ℕ) where
   -- a line of either word, by the formula behind the word
   everywhere-at : (i : ℕ) (ts : List (List ℕ)) (rest : List ℕ) (f : Formula) (b q : ℕ) → drop p s ≡ joined (ascii "always" ∷ spaces (suc i) ∷ ts) ++ rest
-      → formula-at s (skip s (p + 6)) ≡ got f b q → stands s q 10 ≡ true → line-at s p ≡ Reading.line everywhere f b (q + 1)
+      → formula-at usual s (skip s (p + 6)) ≡ got f b q → stands s q 10 ≡ true → line-at usual s p ≡ Reading.line everywhere f b (q + 1)
   unfolding line-at worded ended begins joined ascii
   everywhere-at i ts rest f b q h g st = rw (h, g, st)
 
   start-at : (i : ℕ) (ts : List (List ℕ)) (rest : List ℕ) (f : Formula) (b q : ℕ) → drop p s ≡ joined (ascii "start" ∷ spaces (suc i) ∷ ts) ++ rest
-      → formula-at s (skip s (p + 5)) ≡ got f b q → stands s q 10 ≡ true → line-at s p ≡ Reading.line at-start f b (q + 1)
+      → formula-at usual s (skip s (p + 5)) ≡ got f b q → stands s q 10 ≡ true → line-at usual s p ≡ Reading.line at-start f b (q + 1)
   unfolding line-at worded ended begins joined ascii
   start-at i ts rest f b q h g st = rw (h, g, st)
 
 -- the formula behind the word, and its end
-formula-there : {s : List ℕ} {q : ℕ} (i : ℕ) {f : Formula} {b : ℕ} {text rest : List ℕ} {e : ℕ} → Spells or-units f b text
+formula-there : {usual : ℕ} {s : List ℕ} {q : ℕ} (i : ℕ) {f : Formula} {b : ℕ} {text rest : List ℕ} {e : ℕ} → Spells usual or-units f b text
     → Pieces s q (spaces (suc i) ∷ text ∷ ascii "\n" ∷ []) rest e
-    → (formula-at s (skip s q) ≡ got f b (skip s q + length text)) × (stands s (skip s q + length text) 10 ≡ true) × (e ≡ skip s q + length text + 1)
+    → (formula-at usual s (skip s q) ≡ got f b (skip s q + length text)) × (stands s (skip s q + length text) 10 ≡ true) × (e ≡ skip s q + length text + 1)
 unfolding joined ascii is-digit
-formula-there {s} {q} i {text = text} {rest = rest} {e = e} spelled h =
+formula-there {s = s} {q} i {text = text} {rest = rest} {e = e} spelled h =
     let here = past-spaces (suc i) (spelled-clear spelled) h in
     let spaced : Pieces s (skip s q) (text ∷ spaces 0 ∷ ascii "\n" ∷ []) rest e = record { text = here .text; ends = here .ends } in
     let end = behind-piece here in
     (formula-back spelled 0 10 spaced refl refl refl refl, is-there s (skip s q + length text) 10 (piece-byte end), pieces-end (behind-piece end))
 
 -- A line that is spelled is read back.
-pub line-read : {rule : Rule} {b : ℕ} {text : List ℕ} → SpellsLine rule b text → {s : List ℕ} {p : ℕ} {rest : List ℕ} {e : ℕ} → Span s p text rest e
-    → line-at s p ≡ Reading.line (rule .form) (rule .formula) b e
+pub line-read : {usual : ℕ} {rule : Rule} {b : ℕ} {text : List ℕ} → SpellsLine usual rule b text → {s : List ℕ} {p : ℕ} {rest : List ℕ} {e : ℕ} → Span s p text rest e
+    → line-at usual s p ≡ Reading.line (rule .form) (rule .formula) b e
 unfolding word ascii
 line-read (spells-line everywhere i {f = f} {b = b} {text = text} spelled) {s} {p} {rest} {e} h =
     let h : Pieces s p (ascii "always" ∷ spaces (suc i) ∷ text ∷ ascii "\n" ∷ []) rest e = pieces _ h in
     let (g, st, end) = formula-there i spelled (behind-piece h) in
-    everywhere-at s p i (text ∷ ascii "\n" ∷ []) rest f b _ (h .text) g st ∙ ap (Reading.line everywhere f b) (sym end)
+    everywhere-at _ s p i (text ∷ ascii "\n" ∷ []) rest f b _ (h .text) g st ∙ ap (Reading.line everywhere f b) (sym end)
 line-read (spells-line at-start i {f = f} {b = b} {text = text} spelled) {s} {p} {rest} {e} h =
     let h : Pieces s p (ascii "start" ∷ spaces (suc i) ∷ text ∷ ascii "\n" ∷ []) rest e = pieces _ h in
     let (g, st, end) = formula-there i spelled (behind-piece h) in
-    start-at s p i (text ∷ ascii "\n" ∷ []) rest f b _ (h .text) g st ∙ ap (Reading.line at-start f b) (sym end)
+    start-at _ s p i (text ∷ ascii "\n" ∷ []) rest f b _ (h .text) g st ∙ ap (Reading.line at-start f b) (sym end)
 
 -- ---- books
 
@@ -88,7 +88,7 @@ judged-well marks before rule b q fit few low =
     rw (fit .numbers, fit .propositions, le-ltb 60 (length (nodes before) + size (rule .formula)) few, le-ltb 16 b low, fit .timed)
 
 -- a line has bytes
-pub line-some : {rule : Rule} {b : ℕ} {line : List ℕ} → SpellsLine rule b line → 1 ≤ length line
+pub line-some : {usual : ℕ} {rule : Rule} {b : ℕ} {line : List ℕ} → SpellsLine usual rule b line → 1 ≤ length line
 unfolding joined word ascii
 line-some (spells-line everywhere i spelled) = omega arith
 line-some (spells-line at-start i spelled) = omega arith
@@ -96,19 +96,19 @@ line-some (spells-line at-start i spelled) = omega arith
 module _ (marks : ℕ) (s : List ℕ) where
   -- the lines from here on, at most n deep
   unfoldable pub lines-deep : ℕ → ReadSoFar → Answer Book
-  lines-deep n here = Deep.to-depth (λ (h : ReadSoFar). length s - h .place) (λ h. refuse (Grammar (length (h .rules)))) (lines-step marks s) n here
+  lines-deep n here = Deep.to-depth (λ (h : ReadSoFar). length s - h .place) (λ h. refuse (Grammar (length (h .rules)))) (lines-step usual-bound marks s) n here
 
   lines-end : (n : ℕ) (before : Book) (p : ℕ) → length s ≤ p → lines-deep (suc n) (record { rules = before; place = p }) ≡ give before
   unfolding lines-deep Deep.to-depth lines-step
   lines-end n before p le = rw (le-leb (length s) p le)
 
-  lines-on : (n : ℕ) (before : Book) (p : ℕ) (on : ReadSoFar) → p < length s → judge-line marks before (line-at s p) ≡ give on
+  lines-on : (n : ℕ) (before : Book) (p : ℕ) (on : ReadSoFar) → p < length s → judge-line marks before (line-at usual-bound s p) ≡ give on
       → lines-deep (suc n) (record { rules = before; place = p }) ≡ lines-deep n on
   unfolding lines-deep Deep.to-depth lines-step _then_
   lines-on n before p on lt e = rw (lt-leb (length s) p lt, e)
 
   -- one line more
-  line-more : (rule : Rule) (book : Book) (b c : ℕ) (line text rest : List ℕ) → SpellsLine rule b line → (before : Book) (p e n : ℕ)
+  line-more : (rule : Rule) (book : Book) (b c : ℕ) (line text rest : List ℕ) → SpellsLine usual-bound rule b line → (before : Book) (p e n : ℕ)
       → Span s p (line ++ text) rest e → length s - p < suc n → FitRule marks rule → length (nodes (before ++ (rule ∷ book))) ≤ 60 → max b c ≤ 16
       → lines-deep (suc n) (record { rules = before; place = p }) ≡ lines-deep n (record { rules = before ++ (rule ∷ []); place = p + length line })
   line-more rule book b c line text rest first before p e n h lt fit few low =
@@ -117,14 +117,14 @@ module _ (marks : ℕ) (s : List ℕ) where
       ∙ judged-well marks before rule b (p + length line) fit (omega (arith, nodes-around before rule book)) (omega (arith, low)) in
       lines-on n before p _ (omega (arith, span-inside here (line-some first), line-some first)) told
 
-  line-shorter : {rule : Rule} {b : ℕ} {line : List ℕ} (text rest : List ℕ) (p n : ℕ) → {e : ℕ} → SpellsLine rule b line → Span s p (line ++ text) rest e
+  line-shorter : {rule : Rule} {b : ℕ} {line : List ℕ} (text rest : List ℕ) (p n : ℕ) → {e : ℕ} → SpellsLine usual-bound rule b line → Span s p (line ++ text) rest e
       → length s - p < suc n → length s - (p + length line) < n
   line-shorter {line = line} text rest p n first h lt =
       let here = span-left line text h in
       omega (arith, span-inside here (line-some first), line-some first)
 
   -- the lines of a book, and then whatever is said of the rest
-  lines-through : {book : Book} {c : ℕ} {text : List ℕ} → SpellsBook book c text → (before : Book) (p e n : ℕ) (rest : List ℕ) → Span s p text rest e
+  lines-through : {book : Book} {c : ℕ} {text : List ℕ} → SpellsBook usual-bound book c text → (before : Book) (p e n : ℕ) (rest : List ℕ) → Span s p text rest e
       → length s - p < n → ((rule : Rule) → List·Memᴰ rule book → FitRule marks rule) → length (nodes (before ++ book)) ≤ 60 → c ≤ 16
       → (r : Answer Book) → ((m : ℕ) → length s - e < m → lines-deep m (record { rules = before ++ book; place = e }) ≡ r)
       → lines-deep n (record { rules = before; place = p }) ≡ r
@@ -142,14 +142,14 @@ fit-rules : {marks : ℕ} {book : Book} {b : ℕ} → WithinLimits marks book b 
 unfolding FitBook
 fit-rules limits rule m = record { numbers = limits .numbers rule m; propositions = limits .propositions rule m; timed = limits .timed rule m }
 
-module _ {marks : ℕ} {text : List ℕ} {before : Book} {b : ℕ} {begun : List ℕ} (rest : List ℕ) (spells : SpellsBook before b begun) (limits : WithinLimits marks before b)
+module _ {marks : ℕ} {text : List ℕ} {before : Book} {b : ℕ} {begun : List ℕ} (rest : List ℕ) (spells : SpellsBook usual-bound before b begun) (limits : WithinLimits marks before b)
     (short : length text ≤ most-bytes) (all : text ≡ begun ++ rest) where
   -- A text that begins with a book is read up to its end, and then on.
   pub read-through : (r : Answer Book)
       → ((m : ℕ) → length text - length begun < m → lines-deep marks text m (record { rules = before; place = length begun }) ≡ r) → read-book marks text ≡ r
   unfolding read-book read-lines run lines-deep most-bytes most-nodes most-brackets
   read-through r after =
-      if-on (Limit 0) (read-lines marks text) (le-ltb 4096 (length text) short)
+      if-on (Limit 0) (read-lines usual-bound marks text) (le-ltb 4096 (length text) short)
       ∙ lines-through marks text spells [] 0 (length begun) (suc (length text - 0)) rest (record { text = all; ends = omega arith }) (omega arith)
       (fit-rules limits) (limits .few-nodes) (limits .few-brackets) r after
 

@@ -18,7 +18,7 @@ use Rattle.base.proofs.Lists.{or-fails-left, joined-append}
 use Rattle.base.proofs.Answers.{gives-not-refuses, if-gives, then-gives}
 use Rattle.logic.specs.Book.{Formula, parts, size, timed-right, nodes, Rule, Book, FitBook}
 use Rattle.reading.specs.BookReading.{Line, no-line, line, line-at, over-number, over-mark, over-limit, judge-line, lines-step, read-lines, read-book}
-use Rattle.reading.specs.BookReading.{ReadSoFar, most-bytes, most-nodes, most-brackets}
+use Rattle.reading.specs.BookReading.{ReadSoFar, most-bytes, most-nodes, most-brackets, usual-bound}
 
 give-one : {A : Type 0} {x y : A} → give x ≡ give y → x ≡ y
 give-one e = cc
@@ -58,20 +58,20 @@ module _ (P : Book → Type 0) (marks : ℕ) (along : (before : Book) (rule : Ru
   stuck : ReadSoFar → Answer Book
   stuck here = refuse (Grammar (length (here .rules)))
 
-  along-rest : (n : ℕ) (here : ReadSoFar) (book : Book) → P (here .rules) → to-depth left stuck (lines-step marks text) n here ≡ give book → P book
+  along-rest : (n : ℕ) (here : ReadSoFar) (book : Book) → P (here .rules) → to-depth left stuck (lines-step usual-bound marks text) n here ≡ give book → P book
   unfolding to-depth stuck lines-step
   along-rest zero here book p e = gives-not-refuses e refl
   along-rest (suc n) here book p e = go (leb (length text) (here .place)) (λ on. along-rest n on book) e
     where
       more : ReadSoFar → Answer Book
-      more on = to-depth left stuck (lines-step marks text) n on
+      more on = to-depth left stuck (lines-step usual-bound marks text) n on
 
       go : (b : Bool) → ((on : ReadSoFar) → P (on .rules) → more on ≡ give book → P book)
-          → pick b (λ _. give (here .rules)) (λ _. judge-line marks (here .rules) (line-at text (here .place)) then more) ≡ give book → P book
+          → pick b (λ _. give (here .rules)) (λ _. judge-line marks (here .rules) (line-at usual-bound text (here .place)) then more) ≡ give book → P book
       go true rest f = subst P (give-one f) p
       go false rest f =
-          let (on, g, h) = then-gives (judge-line marks (here .rules) (line-at text (here .place))) more f in
-          rest on (along-line (here .rules) (line-at text (here .place)) on p g) h
+          let (on, g, h) = then-gives (judge-line marks (here .rules) (line-at usual-bound text (here .place))) more f in
+          rest on (along-line (here .rules) (line-at usual-bound text (here .place)) on p g) h
 
   -- What passes along every line holds of the book that was read.
   pub along-lines : P [] → (book : Book) → read-book marks text ≡ give book → P book

@@ -20,7 +20,7 @@ use Rattle.base.proofs.Lists.{or-fails-left, or-fails-right}
 use Rattle.base.proofs.Answers.{gives-not-refuses, if-refuses}
 use Rattle.logic.specs.Book.{Formula, size, nodes, timed-right, Form, Rule, Book, FitBook}
 use Rattle.reading.specs.BookReading as Reading
-use Rattle.reading.specs.BookReading.{most-bytes, most-nodes, most-brackets, line-at, over-number, over-mark, over-limit, ReadSoFar, judge-line, lines-step, read-lines, read-book}
+use Rattle.reading.specs.BookReading.{most-bytes, most-nodes, most-brackets, usual-bound, line-at, over-number, over-mark, over-limit, ReadSoFar, judge-line, lines-step, read-lines, read-book}
 use Rattle.reading.specs.Spelling.{SpellsLine, SpellsBook, spells-none, spells-more, WithinLimits, BookOf, book-text, book-brackets}
 use Rattle.reading.specs.RightBook.{BegunWith, NextLine, RightBook, too-long, no-line-there, number-over, mark-over, limit-over, timed-wrong, whole-book}
 use Rattle.reading.proofs.SpelledTokens.{pick-by}
@@ -35,7 +35,7 @@ give-one e = cc
 
 module _ (marks : ℕ) (text : List ℕ) where
   -- a line that is turned down behind lines that were read
-  turned-down : (before : Book) (p m : ℕ) (w : Refusal) → p < length text → length text - p < m → judge-line marks before (line-at text p) ≡ refuse w
+  turned-down : (before : Book) (p m : ℕ) (w : Refusal) → p < length text → length text - p < m → judge-line marks before (line-at usual-bound text p) ≡ refuse w
       → lines-deep marks text m (record { rules = before; place = p }) ≡ refuse w
   unfolding lines-deep Deep.to-depth lines-step _then_
   turned-down before p zero w lt l e = absurd (omega arith)
@@ -46,23 +46,23 @@ module _ (marks : ℕ) (text : List ℕ) where
   behind-begun begun rest all = ap (drop (length begun)) all ∙ drop-append-seam begun rest
 
   refused-at : (before : Book) (rest : List ℕ) (h : BegunWith marks text before rest) (w : Refusal)
-      → judge-line marks before (line-at text (length (h .begun))) ≡ refuse w → read-book marks text ≡ refuse w
+      → judge-line marks before (line-at usual-bound text (length (h .begun))) ≡ refuse w → read-book marks text ≡ refuse w
   refused-at before rest h w e =
       read-through rest (h .spells) (h .limits) (h .few-bytes) (h .all) (refuse w) (λ m l.
       turned-down before (length (h .begun)) m w (omega (arith, ap (λ z. length z) (h .all), length-append (h .begun) rest, h .more-bytes)) l e)
 
   -- the next line, as it is read
   next-read : (before : Book) (rest : List ℕ) (rule : Rule) (b : ℕ) (h : BegunWith marks text before rest) (k : NextLine rest rule b)
-      → line-at text (length (h .begun)) ≡ Reading.line (rule .form) (rule .formula) b (length (h .begun) + length (k .line))
+      → line-at usual-bound text (length (h .begun)) ≡ Reading.line (rule .form) (rule .formula) b (length (h .begun) + length (k .line))
   next-read before rest rule b h k = line-back (k .spells) text (length (h .begun)) (k .behind) (behind-begun (h .begun) rest (h .all) ∙ k .all)
 
-  judged : (before : Book) (rule : Rule) (b p q : ℕ) (w : Refusal) → line-at text p ≡ Reading.line (rule .form) (rule .formula) b q
-      → judge-line marks before (Reading.line (rule .form) (rule .formula) b q) ≡ refuse w → judge-line marks before (line-at text p) ≡ refuse w
+  judged : (before : Book) (rule : Rule) (b p q : ℕ) (w : Refusal) → line-at usual-bound text p ≡ Reading.line (rule .form) (rule .formula) b q
+      → judge-line marks before (Reading.line (rule .form) (rule .formula) b q) ≡ refuse w → judge-line marks before (line-at usual-bound text p) ≡ refuse w
   judged before rule b p q w at e = ap (judge-line marks before) at ∙ e
 
   too-long-read : most-bytes < length text → read-book marks text ≡ refuse (Limit 0)
   unfolding read-book
-  too-long-read l = if-refuses (Limit 0) (read-lines marks text) (lt-ltb most-bytes (length text) l)
+  too-long-read l = if-refuses (Limit 0) (read-lines usual-bound marks text) (lt-ltb most-bytes (length text) l)
 
 -- what a line is turned down with
 module _ (marks : ℕ) (before : Book) (form : Form) (f : Formula) (b q : ℕ) where
@@ -93,8 +93,8 @@ pub right-only : (marks : ℕ) (text : List ℕ) (a : Answer Book) → RightBook
 right-only marks text _ (too-long l) = too-long-read marks text l
 right-only marks text _ (no-line-there before rest h none-there) =
     refused-at marks text before rest h (Grammar (length before))
-    (down-grammar marks before (line-at text (length (h .begun)))
-    (no-line-exactly text (length (h .begun)) .1 (λ rule b line behind spells at.
+    (down-grammar marks before (line-at usual-bound text (length (h .begun)))
+    (no-line-exactly usual-bound text (length (h .begun)) .1 (λ rule b line behind spells at.
     none-there rule b (record { line = line; behind = behind; spells = spells; all = sym (behind-begun marks text (h .begun) rest (h .all)) ∙ at }))))
 right-only marks text _ (number-over before rest rule b h k n) =
     refused-at marks text before rest h (Number (length before))
@@ -119,15 +119,15 @@ right-one marks text a b h k = sym (right-only marks text a h) ∙ right-only ma
 -- A book with one line more.
 record OneMore (before : Book) (rule : Rule) (b c : ℕ) (text : List ℕ) : Type 0 where
   brackets : ℕ
-  spells : SpellsBook (before ++ (rule ∷ [])) brackets text
+  spells : SpellsBook usual-bound (before ++ (rule ∷ [])) brackets text
   low : b ≤ 16 → c ≤ 16 → brackets ≤ 16
 
-one-more : {before : Book} {b : ℕ} {begun : List ℕ} {rule : Rule} {c : ℕ} {line : List ℕ} → SpellsBook before b begun → SpellsLine rule c line
+one-more : {before : Book} {b : ℕ} {begun : List ℕ} {rule : Rule} {c : ℕ} {line : List ℕ} → SpellsBook usual-bound before b begun → SpellsLine usual-bound rule c line
     → OneMore before rule b c (begun ++ line)
 one-more {rule = rule} {c = c} {line = line} spells-none k =
     record {
       brackets = max c 0;
-      spells = subst (λ (z : List ℕ). SpellsBook (rule ∷ []) (max c 0) z) (append-nil line) (spells-more k spells-none);
+      spells = subst (λ (z : List ℕ). SpellsBook usual-bound (rule ∷ []) (max c 0) z) (append-nil line) (spells-more k spells-none);
       low = λ l m. omega arith;
     }
 one-more {rule = rule} {c = c} {line = line} (spells-more {rule = r} {book = book} {b = d} {c = e} {line = first} {text = text} h others) k =
@@ -154,7 +154,7 @@ with-one P before rule all one r m = go (List·Memᴰ·append-cases before m)
 record UpTo (marks : ℕ) (text : List ℕ) (before : Book) (p : ℕ) : Type 0 where
   begun : List ℕ
   brackets : ℕ
-  spells : SpellsBook before brackets begun
+  spells : SpellsBook usual-bound before brackets begun
   limits : WithinLimits marks before brackets
   all : text ≡ begun ++ drop p text
 
@@ -175,7 +175,7 @@ no-rules =
 
 module _ (marks : ℕ) (text : List ℕ) (short : length text ≤ most-bytes) where
   -- one line more that no limit turns down
-  up-to-more : (before : Book) (p : ℕ) (rule : Rule) (b q : ℕ) (line : List ℕ) → UpTo marks text before p → SpellsLine rule b line
+  up-to-more : (before : Book) (p : ℕ) (rule : Rule) (b q : ℕ) (line : List ℕ) → UpTo marks text before p → SpellsLine usual-bound rule b line
       → drop p text ≡ line ++ drop q text → over-number (rule .formula) ≡ false → over-mark marks (rule .formula) ≡ false
       → over-limit before (rule .formula) b ≡ false → timed-right (rule .formula) ≡ true → UpTo marks text (before ++ (rule ∷ [])) q
   unfolding over-limit most-nodes most-brackets FitBook
@@ -217,7 +217,7 @@ module _ (marks : ℕ) (text : List ℕ) (short : length text ≤ most-bytes) wh
       whole-book before
       (record {
         brackets = h .brackets;
-        spells = subst (λ (z : List ℕ). SpellsBook before (h .brackets) z) (sym e) (h .spells);
+        spells = subst (λ (z : List ℕ). SpellsBook usual-bound before (h .brackets) z) (sym e) (h .spells);
         limits = h .limits;
         few-bytes = short;
       })
@@ -225,7 +225,7 @@ module _ (marks : ℕ) (text : List ℕ) (short : length text ≤ most-bytes) wh
   -- one line that is spelled, by its tests
   line-ways : (before : Book) (p : ℕ) (after : ReadSoFar → Answer Book) → UpTo marks text before p → p < length text
       → ((rules : Book) (q : ℕ) → p < q → UpTo marks text rules q → RightBook marks text (after (record { rules = rules; place = q })))
-      → (rule : Rule) (b q : ℕ) (line : List ℕ) → SpellsLine rule b line → drop p text ≡ line ++ drop q text → q ≡ p + length line
+      → (rule : Rule) (b q : ℕ) (line : List ℕ) → SpellsLine usual-bound rule b line → drop p text ≡ line ++ drop q text → q ≡ p + length line
       → RightBook marks text (judge-line marks before (Reading.line (rule .form) (rule .formula) b q) then after)
   unfolding judge-line _if_else_ _then_
   line-ways before p after h lt on rule b q line spells at end =
@@ -242,13 +242,13 @@ module _ (marks : ℕ) (text : List ℕ) (short : length text ≤ most-bytes) wh
   -- one line, with what follows it
   line-right : (before : Book) (p : ℕ) (after : ReadSoFar → Answer Book) → UpTo marks text before p → p < length text
       → ((rules : Book) (q : ℕ) → p < q → UpTo marks text rules q → RightBook marks text (after (record { rules = rules; place = q })))
-      → (l : Reading.Line) → line-at text p ≡ l → RightBook marks text (judge-line marks before l then after)
+      → (l : Reading.Line) → line-at usual-bound text p ≡ l → RightBook marks text (judge-line marks before l then after)
   unfolding judge-line _if_else_ _then_
   line-right before p after h lt on Reading.no-line e =
       no-line-there before (drop p text) (begun-with before p h lt)
-      (λ rule b k. no-line-exactly text p .0 e rule b (k .line) (k .behind) (k .spells) (k .all))
+      (λ rule b k. no-line-exactly usual-bound text p .0 e rule b (k .line) (k .behind) (k .spells) (k .all))
   line-right before p after h lt on (Reading.line form f b q) e =
-      let (line, spells, at, end) = line-spelled text p form f b q e in line-ways before p after h lt on (record { form = form; formula = f }) b q line spells at end
+      let (line, spells, at, end) = line-spelled usual-bound text p form f b q e in line-ways before p after h lt on (record { form = form; formula = f }) b q line spells at end
 
   -- the lines from p on
   lines-right : (n : ℕ) (before : Book) (p : ℕ) → UpTo marks text before p → length text - p < n
@@ -258,9 +258,9 @@ module _ (marks : ℕ) (text : List ℕ) (short : length text ≤ most-bytes) wh
   lines-right (suc n) before p h lt =
       pick-by (RightBook marks text) (leb (length text) p) _ _ (λ e. whole before p h (leb-true (length text) p e)) (λ e.
       line-right before p (λ here. lines-deep marks text n here) h (leb-false (length text) p e)
-      (λ rules q further on. lines-right n rules q on (omega (arith, leb-false (length text) p e))) (line-at text p) refl)
+      (λ rules q further on. lines-right n rules q on (omega (arith, leb-false (length text) p e))) (line-at usual-bound text p) refl)
 
-  start-right : RightBook marks text (read-lines marks text)
+  start-right : RightBook marks text (read-lines usual-bound marks text)
   unfolding read-lines run lines-deep FitBook
   start-right =
       lines-right (suc (length text - 0)) [] 0

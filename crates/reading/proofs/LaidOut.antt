@@ -45,14 +45,14 @@ steps-right-out bytes low i n h =
     }
 
 -- One row is laid out right, and so are those behind it.
-pub record RowRight (bytes : List ℕ) (first r n : ℕ) : Type 0 where
+pub record RowLaidOut (bytes : List ℕ) (first r n : ℕ) : Type 0 where
   pub state : row-state bytes r < table-states bytes
   pub begin : row-first bytes r ≡ first
   pub steps : steps-right bytes 0 first (row-count bytes r) ≡ true
   pub more : rows-right bytes (first + row-count bytes r) (suc r) n ≡ true
 
 -- Rows that are laid out right: the first of them, and those behind it.
-pub rows-right-out : (bytes : List ℕ) (first r n : ℕ) → rows-right bytes first r (suc n) ≡ true → RowRight bytes first r n
+pub rows-right-out : (bytes : List ℕ) (first r n : ℕ) → rows-right bytes first r (suc n) ≡ true → RowLaidOut bytes first r n
 unfolding rows-right
 rows-right-out bytes first r n h =
     let (a, b, c, d) =
@@ -98,7 +98,7 @@ right-ascending bytes low i (suc (suc n)) h =
     let next-one = steps-right-out bytes (step-action bytes i + 1) (suc i) n (here .more) in
     (omega (arith, next-one .above), right-ascending bytes (step-action bytes i + 1) (suc i) (suc n) (here .more))
 
-row-fits : (bytes : List ℕ) (first r n : ℕ) → RowRight bytes first r n
+row-fits : (bytes : List ℕ) (first r n : ℕ) → RowLaidOut bytes first r n
     → RowFits (table-states bytes) (table-actions bytes) (rows-of bytes) (row-of-table bytes r)
 unfolding row-of-table
 row-fits bytes first r n h =

@@ -15,9 +15,9 @@ use Rattle.logic.specs.Time.{ticks}
 use Rattle.logic.specs.Book.{no-more, less, no-less, more, Formula, constant, proposition, and, or, next, always-for, until, within, at-start, everywhere}
 use Rattle.logic.specs.Book.{timed, timed-right, parts, size, nodes, Book}
 use Rattle.reading.specs.Tokens.{stands, skip, is-digit, digits, value, numeral, number-token, mark-named, mark-at, mark-token, with-equals, comparison-token}
-use Rattle.reading.specs.Grammar.{connectives, connective, usual-bound, Parsed, got, onward, behind, bounded, compared-with, number-or-usual, bound-at, formula-one, formula-two}
+use Rattle.reading.specs.Grammar.{connectives, connective, Parsed, got, onward, behind, bounded, compared-with, number-or-usual, bound-at, formula-one, formula-two}
 use Rattle.reading.specs.Grammar.{joining, bracketed, two-parts, with-bound, led, marked-unit, unit-at, read-level, read-step, rank, calls-left, formula-at}
-use Rattle.reading.specs.BookReading.{most-bytes, most-nodes, most-brackets, most-ticks, Line, no-line, line, ended, worded, line-at, over-number, over-mark, over-limit, judge-line, lines-step, read-lines, read-book}
+use Rattle.reading.specs.BookReading.{most-bytes, most-nodes, most-brackets, most-ticks, usual-bound, Line, no-line, line, ended, worded, line-at, over-number, over-mark, over-limit, judge-line, lines-step, read-lines, read-book}
 
 -- A text, the formula that it spells, and how many brackets stand open in it at most.
 record Instance : Type 0 where
@@ -31,7 +31,7 @@ spelling text f b = record { text = text; formula = f; brackets = b }
 -- what is read at the beginning of the text with byte 10 behind it, and what is to be read
 unfoldable read-there : Instance → Parsed
 unfolding ascii run Deep.to-depth leading stands skip is-digit digits value numeral number-token mark-named mark-at mark-token with-equals comparison-token connectives connective usual-bound onward behind bounded compared-with number-or-usual bound-at formula-one formula-two joining bracketed two-parts with-bound led marked-unit unit-at read-level read-step rank calls-left formula-at within
-read-there i = formula-at (ascii (i .text) ++ ascii "\n") 0
+read-there i = formula-at usual-bound (ascii (i .text) ++ ascii "\n") 0
 
 unfoldable wanted-there : Instance → Parsed
 wanted-there i = got (i .formula) (i .brackets) (length (ascii (i .text)))
@@ -132,7 +132,7 @@ spacings-read = refl
 
 unfoldable line-there : String → Line
 unfolding read-there line-at worded ended begins
-line-there text = line-at (ascii text) 0
+line-there text = line-at usual-bound (ascii text) 0
 
 -- a line begins with its word, has at least one space behind that, and ends right behind the last token
 lines-read :

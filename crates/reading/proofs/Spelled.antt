@@ -57,20 +57,20 @@ numbered n l = elim (decLt n 10) [
 
 -- ---- shapes
 
-unit-as : (shape : Shape) {f : Formula} {b : ℕ} {text : List ℕ} → Spells one-unit f b text → Spells shape f b text
+unit-as : {usual : ℕ} (shape : Shape) {f : Formula} {b : ℕ} {text : List ℕ} → Spells usual one-unit f b text → Spells usual shape f b text
 unit-as one-unit h = h
 unit-as and-units h = spells-unit h
 unit-as or-units h = spells-ands (spells-unit h)
 
-and-as : (shape : Shape) {f : Formula} {b : ℕ} {text : List ℕ} → Spells and-units f b text
-    → Spells shape f (counted-if (and-bracketed shape) b) (bracketed-if (and-bracketed shape) text)
+and-as : {usual : ℕ} (shape : Shape) {f : Formula} {b : ℕ} {text : List ℕ} → Spells usual and-units f b text
+    → Spells usual shape f (counted-if (and-bracketed shape) b) (bracketed-if (and-bracketed shape) text)
 unfolding and-bracketed bracketed-if counted-if joined ascii
 and-as one-unit h = spells-bracketed 0 0 (spells-ands h)
 and-as and-units h = h
 and-as or-units h = spells-ands h
 
-or-as : (shape : Shape) {f : Formula} {b : ℕ} {text : List ℕ} → Spells or-units f b text
-    → Spells shape f (counted-if (or-bracketed shape) b) (bracketed-if (or-bracketed shape) text)
+or-as : {usual : ℕ} (shape : Shape) {f : Formula} {b : ℕ} {text : List ℕ} → Spells usual or-units f b text
+    → Spells usual shape f (counted-if (or-bracketed shape) b) (bracketed-if (or-bracketed shape) text)
 unfolding or-bracketed bracketed-if counted-if joined ascii
 or-as one-unit h = spells-bracketed 0 0 h
 or-as and-units h = spells-unit (spells-bracketed 0 0 h)
@@ -83,8 +83,8 @@ unfolding most-ticks
 small-number t e = omega (arith, ltb-false 254 t e)
 
 -- Every formula within the limits is spelled by the rules in each shape.
-spells-as : (marks : ℕ) → marks ≤ 100 → (shape : Shape) (f : Formula) → over-number f ≡ false → over-mark marks f ≡ false
-    → Spells shape f (brackets-in shape f) (text-as shape f)
+spells-as : {usual : ℕ} (marks : ℕ) → marks ≤ 100 → (shape : Shape) (f : Formula) → over-number f ≡ false → over-mark marks f ≡ false
+    → Spells usual shape f (brackets-in shape f) (text-as shape f)
 unfolding text-as brackets-in over-number over-mark joined ascii
 spells-as marks le shape (constant true) numbers propositions = unit-as shape spells-true
 spells-as marks le shape (constant false) numbers propositions = unit-as shape spells-false
@@ -116,13 +116,13 @@ spells-as marks le shape (until t f g) numbers propositions =
     (spells-as marks le or-units f (or-fails-left (over-number f) (over-number g) parts) (or-fails-left (over-mark marks f) (over-mark marks g) propositions))
     (spells-as marks le or-units g (or-fails-right (over-number f) (over-number g) parts) (or-fails-right (over-mark marks f) (over-mark marks g) propositions)))
 
-pub formula-spells : {marks : ℕ} → marks ≤ 100 → (f : Formula) → over-number f ≡ false → over-mark marks f ≡ false → Spells or-units f (formula-brackets f) (formula-text f)
+pub formula-spells : {usual marks : ℕ} → marks ≤ 100 → (f : Formula) → over-number f ≡ false → over-mark marks f ≡ false → Spells usual or-units f (formula-brackets f) (formula-text f)
 unfolding formula-text formula-brackets
-formula-spells {marks} le f numbers propositions = spells-as marks le or-units f numbers propositions
+formula-spells {marks = marks} le f numbers propositions = spells-as marks le or-units f numbers propositions
 
 -- Every book within the limits is spelled by the rules.
-pub book-spells : {marks : ℕ} → marks ≤ 100 → (book : Book) → ((rule : Rule) → List·Memᴰ rule book → over-number (rule .formula) ≡ false)
-    → ((rule : Rule) → List·Memᴰ rule book → over-mark marks (rule .formula) ≡ false) → SpellsBook book (book-brackets book) (book-text book)
+pub book-spells : {usual marks : ℕ} → marks ≤ 100 → (book : Book) → ((rule : Rule) → List·Memᴰ rule book → over-number (rule .formula) ≡ false)
+    → ((rule : Rule) → List·Memᴰ rule book → over-mark marks (rule .formula) ≡ false) → SpellsBook usual book (book-brackets book) (book-text book)
 unfolding book-text book-brackets ascii
 book-spells le [] numbers propositions = spells-none
 book-spells le (rule ∷ book) numbers propositions =

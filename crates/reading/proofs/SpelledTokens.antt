@@ -9,7 +9,7 @@ use mathlib.Core.Path.{_≡_, refl, sym, _∙_, ap, ap₂, subst}
 use mathlib.Core.Bool.{Bool, true, false}
 use mathlib.Core.Option.{Option, none, some}
 use mathlib.Core.List.{List, [], _∷_, _++_, append-assoc}
-use lib.ListN.{length, drop, length-append, length-replicate, List·getD-eq-default}
+use lib.ListN.{length, drop, length-append, length-drop, length-replicate, List·getD-eq-default}
 use lib.Seq.{drop-cons, drop-drop}
 use lib.Dec.{eqb, leb}
 use borrow.Author.Tests.{eqb-true, leb-true}
@@ -21,7 +21,7 @@ use Rattle.base.proofs.Lists.{and-left, and-right}
 use Rattle.logic.specs.Time.{ticks}
 use Rattle.logic.specs.Book.{Comparison, no-more, less, no-less, more, Formula, proposition}
 use Rattle.reading.specs.Tokens.{stands, skip, is-digit, digits, value, Token, numeral, number-token, mark-named, mark-at, with-equals, comparison-token}
-use Rattle.reading.specs.Grammar.{compared, optional, BoundRead, bounded, compared-with, number-or-usual, bound-at, usual-bound}
+use Rattle.reading.specs.Grammar.{compared, optional, BoundRead, bounded, compared-with, number-or-usual, bound-at}
 use Rattle.reading.specs.Spelling.{spaces, digit, Digits, one-digit, two-digits, three-digits, BoundText, number-written, left-out, sign}
 use Rattle.reading.proofs.TextPlaces.{Span, Pieces}
 
@@ -63,6 +63,13 @@ module _ {s : List ℕ} where
         text = h .text ∙ ap (λ l. x ++ l) (k .text) ∙ sym (append-assoc x y (drop e s));
         ends = omega (arith, h .ends, k .ends, length-append x y);
       }
+
+-- Bytes that stand there end behind their beginning and inside the text.
+pub passage-inside : {s : List ℕ} {p : ℕ} {text : List ℕ} {e : ℕ} → Passage s p text e → 1 ≤ length text → (p < e) × (e ≤ length s)
+passage-inside {s} {p} {text} {e} h some-bytes =
+    let all : length s - p ≡ length text + (length s - e) =
+    sym (length-drop p s) ∙ ap length (h .text) ∙ length-append text (drop e s) ∙ ap (λ (n : ℕ). length text + n) (length-drop e s) in
+    (omega (arith, h .ends), omega (arith, h .ends))
 
 -- ---- bytes and spaces
 
@@ -223,24 +230,24 @@ mark-by Q wanted s p nothing something =
     something count k e number d few (passage-before (stands-passage s p 112 (omega arith) a) (passage-before r (passages-end e))))) (λ _. nothing)
 
 -- the bound of N
-pub compared-by : (Q : Option BoundRead → Type 0) (s : List ℕ) (p : ℕ) → Q none
+pub compared-by : (Q : Option BoundRead → Type 0) (usual : ℕ) (s : List ℕ) (p : ℕ) → Q none
     → ((i : ℕ) (c : Comparison) (j count t e : ℕ) (number : List ℕ) → Digits count t number
     → ((ts : List (List ℕ)) (q : ℕ) → Passages s e ts q → Passages s p (spaces i ∷ sign c ∷ spaces j ∷ number ∷ ts) q)
     → Q (some (record { comparison = c; amount = ticks t; next = e })))
-    → Q (bound-at compared s p)
+    → Q (bound-at usual compared s p)
 unfolding bound-at compared-with bounded number-token
-compared-by Q s p nothing something =
+compared-by Q usual s p nothing something =
     comparison-by (λ o. Q (compared-with s o)) s (skip s p) nothing (λ c q r.
     numeral-by (λ o. Q (bounded c o)) 3 (omega arith) (omega arith) s (skip s q) nothing (λ count t e number d few u.
     something (gap s p) c (gap s q) count t e number d (λ ts z more-of.
     passage-before (spaces-passage s p) (passage-before r (passage-before (spaces-passage s q) (passage-before u more-of))))))
 
 -- the bound of A, E or U
-pub optional-by : (Q : Option BoundRead → Type 0) (s : List ℕ) (p : ℕ)
-    → ((t e : ℕ) (bound : List ℕ) → BoundText t bound → Passage s p bound e → Q (some (record { comparison = no-more; amount = ticks t; next = e })))
-    → Q (bound-at optional s p)
-unfolding bound-at number-or-usual bounded number-token usual-bound
-optional-by Q s p something =
-    numeral-by (λ o. Q (number-or-usual p o)) 3 (omega arith) (omega arith) s (skip s p)
-    (something 20 p [] left-out (passage-empty p))
+pub optional-by : (Q : Option BoundRead → Type 0) (usual : ℕ) (s : List ℕ) (p : ℕ)
+    → ((t e : ℕ) (bound : List ℕ) → BoundText usual t bound → Passage s p bound e → Q (some (record { comparison = no-more; amount = ticks t; next = e })))
+    → Q (bound-at usual optional s p)
+unfolding bound-at number-or-usual bounded number-token
+optional-by Q usual s p something =
+    numeral-by (λ o. Q (number-or-usual usual p o)) 3 (omega arith) (omega arith) s (skip s p)
+    (something usual p [] left-out (passage-empty p))
     (λ count t e number d few r. something t e (spaces (gap s p) ++ number) (number-written (gap s p) d) (passage-append (spaces-passage s p) r))

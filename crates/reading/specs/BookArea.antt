@@ -1,20 +1,28 @@
--- A book that was read, as bytes in a lent area: its nodes and its lines. The crates above read them there and need no text.
-use Prim.Native.Nat.{ℕ, suc, _+_, _-_, _*_}
+-- A book that was read, as bytes in a lent area: its nodes, its lines, and how many there are of each. The crates above read them there and
+-- need no text.
+use Prim.Native.Nat.{ℕ, suc, _+_, _*_}
 use mathlib.Core.Path.{_≡_}
 use mathlib.Core.List.{List, [], _∷_, _++_}
 use lib.ListN.{length, take, drop}
 use Rattle.base.specs.Choice.{pick}
-use Rattle.logic.specs.Book.{Comparison, no-more, less, no-less, more, Formula, constant, proposition, and, or, next, always-for, until, timed, size, nodes, root, first-part, second-part, Form, at-start, everywhere, Book}
+use Rattle.base.specs.Bytes.{byte-at}
+use Rattle.logic.specs.Book.{Comparison, no-more, less, no-less, more, Formula, constant, proposition, and, or, next, always-for, until, timed, size, nodes, root, first-part, second-part, Form, at-start, everywhere, Rule, Book}
 
--- bytes of a node and of a line, and where the lines begin
-unfoldable pub node-size : ℕ
+-- bytes of a node and of a line, where the lines begin, and where the numbers of nodes and of lines stand
+abbrev pub node-size : ℕ
 node-size = 4
 
-unfoldable pub line-size : ℕ
-line-size = 2
+abbrev pub line-size : ℕ
+line-size = 4
 
-unfoldable pub lines-at : ℕ
+abbrev pub lines-at : ℕ
 lines-at = 240
+
+abbrev pub node-count-at : ℕ
+node-count-at = 480
+
+abbrev pub line-count-at : ℕ
+line-count-at = 481
 
 -- which connective a node is: its code
 unfoldable pub comparison-code : Comparison → ℕ
@@ -71,18 +79,34 @@ unfoldable pub nodes-bytes : ℕ → List Formula → List ℕ
 nodes-bytes k [] = []
 nodes-bytes k (f ∷ fs) = node-bytes k f ++ nodes-bytes (suc k) fs
 
--- the two bytes of a line: 1 for `always` and 0 for `start`, and the number of its formula
+-- a line's form: 1 for `always` and 0 for `start`
 unfoldable pub form-code : Form → ℕ
 form-code at-start = 0
 form-code everywhere = 1
 
--- the bytes of the lines whose nodes begin with number n
-unfoldable pub lines-bytes : ℕ → Book → List ℕ
-lines-bytes n [] = []
-lines-bytes n (rule ∷ rules) =
-    form-code (rule .form) ∷ root n (rule .formula) ∷ lines-bytes (n + size (rule .formula)) rules
+-- its traits: 1 if its formula is timed
+unfoldable pub traits-code : Formula → ℕ
+traits-code f = pick (timed f) (λ _. 1) (λ _. 0)
+
+-- the four bytes of line i, whose nodes begin with number n: its form, the node of its formula, its own number and its traits
+unfoldable pub line-bytes : ℕ → ℕ → Rule → List ℕ
+line-bytes i n rule = form-code (rule .form) ∷ root n (rule .formula) ∷ i ∷ traits-code (rule .formula) ∷ []
+
+-- the bytes of the lines from number i on, whose nodes begin with number n
+unfoldable pub lines-bytes : ℕ → ℕ → Book → List ℕ
+lines-bytes i n [] = []
+lines-bytes i n (rule ∷ rules) = line-bytes i n rule ++ lines-bytes (suc i) (n + size (rule .formula)) rules
+
+-- how many nodes and how many lines an area says it holds
+abbrev pub nodes-in : List ℕ → ℕ
+nodes-in area = byte-at area node-count-at
+
+abbrev pub lines-in : List ℕ → ℕ
+lines-in area = byte-at area line-count-at
 
 -- The area holds the book.
 pub record HoldsBook (area : List ℕ) (book : Book) : Type 0 where
   pub node-part : take (node-size * length (nodes book)) area ≡ nodes-bytes 0 (nodes book)
-  pub line-part : take (line-size * length book) (drop lines-at area) ≡ lines-bytes 0 book
+  pub line-part : take (line-size * length book) (drop lines-at area) ≡ lines-bytes 0 0 book
+  pub node-count : nodes-in area ≡ length (nodes book)
+  pub line-count : lines-in area ≡ length book

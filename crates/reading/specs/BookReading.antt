@@ -28,6 +28,10 @@ most-brackets = 16
 unfoldable pub most-ticks : ℕ
 most-ticks = 254
 
+-- a number left out after A, E or U
+unfoldable pub usual-bound : ℕ
+usual-bound = 20
+
 -- A line that was read: its form, formula and open brackets, and the position after its byte 10.
 pub data Line : Type 0 where
   no-line : Line
@@ -39,15 +43,15 @@ ended s form bad = no-line
 ended s form (got f brackets p) = pick (stands s p (byte "\n")) (λ _. line form f brackets (p + 1)) (λ _. no-line)
 
 -- a line that begins with this word at p, at least one space behind it; else what another form makes of it
-unfoldable pub worded : List ℕ → ℕ → List ℕ → Form → Line → Line
-worded s p word form other =
+unfoldable pub worded : ℕ → List ℕ → ℕ → List ℕ → Form → Line → Line
+worded usual s p word form other =
     pick (begins (word ++ (byte " " ∷ [])) (drop p s))
-    (λ _. ended s form (formula-at s (skip s (p + length word))))
+    (λ _. ended s form (formula-at usual s (skip s (p + length word))))
     (λ _. other)
 
 -- the line at p, of one of the forms that a book may have
-unfoldable pub line-at : List ℕ → ℕ → Line
-line-at s p = worded s p (ascii "always") everywhere (worded s p (ascii "start") at-start no-line)
+unfoldable pub line-at : ℕ → List ℕ → ℕ → Line
+line-at usual s p = worded usual s p (ascii "always") everywhere (worded usual s p (ascii "start") at-start no-line)
 
 -- 7: a number above 254
 unfoldable pub over-number : Formula → Bool
@@ -89,16 +93,16 @@ judge-line marks before (line form f brackets p) =
     give (record { rules = before ++ (record { form = form; formula = f } ∷ []); place = p })
 
 -- the lines from here on, one after the other, to the end of the text
-unfoldable pub lines-step : ℕ → List ℕ → ReadSoFar → (ReadSoFar → Answer Book) → Answer Book
-lines-step marks s here more =
+unfoldable pub lines-step : ℕ → ℕ → List ℕ → ReadSoFar → (ReadSoFar → Answer Book) → Answer Book
+lines-step usual marks s here more =
     pick (leb (length s) (here .place))
     (λ _. give (here .rules))
-    (λ _. judge-line marks (here .rules) (line-at s (here .place)) then more)
+    (λ _. judge-line marks (here .rules) (line-at usual s (here .place)) then more)
 
-unfoldable pub read-lines : ℕ → List ℕ → Answer Book
-read-lines marks s =
-    run (λ here. length s - here .place) (λ here. refuse (Grammar (length (here .rules)))) (lines-step marks s) (record { rules = []; place = 0 })
+unfoldable pub read-lines : ℕ → ℕ → List ℕ → Answer Book
+read-lines usual marks s =
+    run (λ here. length s - here .place) (λ here. refuse (Grammar (length (here .rules)))) (lines-step usual marks s) (record { rules = []; place = 0 })
 
 -- the book of a text under P marks: 9 for its length first, then by line
 unfoldable pub read-book : ℕ → List ℕ → Answer Book
-read-book marks s = Limit 0 if ltb most-bytes (length s) else read-lines marks s
+read-book marks s = Limit 0 if ltb most-bytes (length s) else read-lines usual-bound marks s

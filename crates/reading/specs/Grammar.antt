@@ -1,4 +1,5 @@
 -- 01, 'Rule book': the grammar. Or-level, and-level and unit readers call each other; `read-step` is one call of any of them.
+-- `usual` is the bound in ticks where a number is left out after A, E or U.
 use Prim.Native.Nat.{ℕ, suc, _+_, _-_, _*_, max}
 use mathlib.Core.Bool.{true, false}
 use mathlib.Core.Option.{Option, none, some}
@@ -42,10 +43,6 @@ unfoldable pub connective : List Connective → ℕ → Option Connective
 connective [] b = none
 connective (c ∷ rows) b = pick (eqb (c .letter) b) (λ _. some c) (λ _. connective rows b)
 
--- a number left out after A, E or U
-unfoldable pub usual-bound : ℕ
-usual-bound = 20
-
 -- What reading at a position gives: nothing of the grammar, or a formula, how many brackets stand open in it at most, and the position after it.
 pub data Parsed : Type 0 where
   bad : Parsed
@@ -77,15 +74,15 @@ compared-with s none = none
 compared-with s (some c) = bounded (c .said) (number-token s (skip s (c .next)))
 
 -- the number at q, or the usual bound where none is written; then nothing of the text is used
-unfoldable pub number-or-usual : ℕ → Option (Token ℕ) → Option BoundRead
-number-or-usual p none = some (record { comparison = no-more; amount = ticks usual-bound; next = p })
-number-or-usual p (some t) = bounded no-more (some t)
+unfoldable pub number-or-usual : ℕ → ℕ → Option (Token ℕ) → Option BoundRead
+number-or-usual usual p none = some (record { comparison = no-more; amount = ticks usual; next = p })
+number-or-usual usual p (some t) = bounded no-more (some t)
 
 -- the bound behind a connective's letter, which ends at p
-unfoldable pub bound-at : Bound → List ℕ → ℕ → Option BoundRead
-bound-at no-bound s p = none
-bound-at compared s p = compared-with s (comparison-token s (skip s p))
-bound-at optional s p = number-or-usual p (number-token s (skip s p))
+unfoldable pub bound-at : ℕ → Bound → List ℕ → ℕ → Option BoundRead
+bound-at usual no-bound s p = none
+bound-at usual compared s p = compared-with s (comparison-token s (skip s p))
+bound-at usual optional s p = number-or-usual usual p (number-token s (skip s p))
 
 -- the formula of a connective with a bound: of one part, or of two
 unfoldable pub formula-one : ℕ → BoundRead → Formula → Formula
@@ -141,12 +138,12 @@ with-bound s c (some b) read =
     (λ _. two-parts s (b .next) read (formula-two b))
 
 -- a unit that is led by the letter of a connective at p
-unfoldable pub led : List ℕ → ℕ → Option Connective → Reader → Parsed
-led s p none read = bad
-led s p (some c) read =
+unfoldable pub led : ℕ → List ℕ → ℕ → Option Connective → Reader → Parsed
+led usual s p none read = bad
+led usual s p (some c) read =
     pick (stands s p (byte "T")) (λ _. got (constant true) 0 (p + 1)) (λ _.
     pick (stands s p (byte "F")) (λ _. got (constant false) 0 (p + 1)) (λ _.
-    with-bound s c (bound-at (c .bound) s (p + 1)) read))
+    with-bound s c (bound-at usual (c .bound) s (p + 1)) read))
 
 -- a mark, if one stands there
 unfoldable pub marked-unit : Option (Token Formula) → Parsed
@@ -154,23 +151,23 @@ marked-unit none = bad
 marked-unit (some t) = got (t .said) 0 (t .next)
 
 -- a unit at p: a formula in brackets, a mark, or what a connective leads
-unfoldable pub unit-at : List ℕ → ℕ → Reader → Parsed
-unit-at s p read =
+unfoldable pub unit-at : ℕ → List ℕ → ℕ → Reader → Parsed
+unit-at usual s p read =
     pick (stands s p (byte "(")) (λ _. bracketed s p read) (λ _.
     pick (stands s p (byte "!")) (λ _. marked-unit (mark-token s p)) (λ _.
     pick (stands s p (byte "p")) (λ _. marked-unit (mark-token s p)) (λ _.
-    led s p (connective connectives (byte-at s p)) read)))
+    led usual s p (connective connectives (byte-at s p)) read)))
 
 -- one call of a reader, with the calls that it makes as a parameter
-unfoldable pub read-level : List ℕ → Level → ℕ → Reader → Parsed
-read-level s or-level p read = onward (read and-level p) (λ f b q. read (or-rest f b) q)
-read-level s (or-rest f b) p read = joining s (byte "|") f b p or (read and-level) (λ g c q. read (or-rest g c) q)
-read-level s and-level p read = onward (read unit-level p) (λ f b q. read (and-rest f b) q)
-read-level s (and-rest f b) p read = joining s (byte "&") f b p and (read unit-level) (λ g c q. read (and-rest g c) q)
-read-level s unit-level p read = unit-at s p read
+unfoldable pub read-level : ℕ → List ℕ → Level → ℕ → Reader → Parsed
+read-level usual s or-level p read = onward (read and-level p) (λ f b q. read (or-rest f b) q)
+read-level usual s (or-rest f b) p read = joining s (byte "|") f b p or (read and-level) (λ g c q. read (or-rest g c) q)
+read-level usual s and-level p read = onward (read unit-level p) (λ f b q. read (and-rest f b) q)
+read-level usual s (and-rest f b) p read = joining s (byte "&") f b p and (read unit-level) (λ g c q. read (and-rest g c) q)
+read-level usual s unit-level p read = unit-at usual s p read
 
-unfoldable pub read-step : List ℕ → Call → (Call → Parsed) → Parsed
-read-step s call read = read-level s (call .level) (call .place) (λ level p. read (record { level = level; place = p }))
+unfoldable pub read-step : ℕ → List ℕ → Call → (Call → Parsed) → Parsed
+read-step usual s call read = read-level usual s (call .level) (call .place) (λ level p. read (record { level = level; place = p }))
 
 -- the level's number: an or-level call makes an and-level call at the same place, and that a unit call
 unfoldable pub rank : Level → ℕ
@@ -185,5 +182,5 @@ unfoldable pub calls-left : List ℕ → Call → ℕ
 calls-left s call = 3 * (suc (length s) - call .place) + rank (call .level)
 
 -- the formula at position p
-unfoldable pub formula-at : List ℕ → ℕ → Parsed
-formula-at s p = run (calls-left s) (λ _. bad) (read-step s) (record { level = or-level; place = p })
+unfoldable pub formula-at : ℕ → List ℕ → ℕ → Parsed
+formula-at usual s p = run (calls-left s) (λ _. bad) (read-step usual s) (record { level = or-level; place = p })

@@ -7,14 +7,14 @@ use lib.ListN.{length}
 use Rattle.base.specs.Answers.{Answer, refuse, give}
 use Rattle.base.specs.declared.Refusal.the-variants.{Grammar, Number, Mark, Limit, Timed}
 use Rattle.logic.specs.Book.{timed-right, Rule, Book}
-use Rattle.reading.specs.BookReading.{most-bytes, over-number, over-mark, over-limit}
+use Rattle.reading.specs.BookReading.{most-bytes, usual-bound, over-number, over-mark, over-limit}
 use Rattle.reading.specs.Spelling.{SpellsLine, SpellsBook, WithinLimits, BookOf}
 
 -- The text begins with lines of these rules, which no limit turns down, and then has the rest, which is not empty.
 pub record BegunWith (marks : ℕ) (text : List ℕ) (before : Book) (rest : List ℕ) : Type 0 where
   pub begun : List ℕ
   pub brackets : ℕ
-  pub spells : SpellsBook before brackets begun
+  pub spells : SpellsBook usual-bound before brackets begun
   pub limits : WithinLimits marks before brackets
   pub all : text ≡ begun ++ rest
   pub more-bytes : 1 ≤ length rest
@@ -24,7 +24,7 @@ pub record BegunWith (marks : ℕ) (text : List ℕ) (before : Book) (rest : Lis
 pub record NextLine (rest : List ℕ) (rule : Rule) (brackets : ℕ) : Type 0 where
   pub line : List ℕ
   pub behind : List ℕ
-  pub spells : SpellsLine rule brackets line
+  pub spells : SpellsLine usual-bound rule brackets line
   pub all : rest ≡ line ++ behind
 
 -- The right answer and why it is the right one: 9 for the length first, and then the first line that is turned down, by the first number that fits it.

@@ -12,7 +12,7 @@ use Rattle.base.specs.Text.{byte, ascii}
 use Rattle.logic.specs.Time.{ticks}
 use Rattle.logic.specs.Book.{Comparison, no-more, less, no-less, more, Formula, constant, proposition, and, or, next, always-for, until, within}
 use Rattle.logic.specs.Book.{nodes, Form, at-start, everywhere, Rule, Book, FitBook}
-use Rattle.reading.specs.BookReading.{most-bytes, most-nodes, most-brackets, over-number, over-mark}
+use Rattle.reading.specs.BookReading.{most-bytes, most-nodes, most-brackets, usual-bound, over-number, over-mark}
 
 -- ---- tokens
 
@@ -30,10 +30,10 @@ pub data Digits : (count number : ℕ) → List ℕ → Type 0 where
   two-digits : (a b : ℕ) → a < 10 → b < 10 → Digits 2 (10 * a + b) (digit a ∷ digit b ∷ [])
   three-digits : (a b c : ℕ) → a < 10 → b < 10 → c < 10 → Digits 3 (100 * a + 10 * b + c) (digit a ∷ digit b ∷ digit c ∷ [])
 
--- What stands behind A, E or U: a number with any spaces before it, or nothing, which means 20.
-pub data BoundText : (number : ℕ) → List ℕ → Type 0 where
-  number-written : (gap : ℕ) {count number : ℕ} {text : List ℕ} → Digits count number text → BoundText number (spaces gap ++ text)
-  left-out : BoundText 20 []
+-- What stands behind A, E or U: a number with any spaces before it, or nothing, which means the usual bound.
+pub data BoundText (usual : ℕ) : (number : ℕ) → List ℕ → Type 0 where
+  number-written : (gap : ℕ) {count number : ℕ} {text : List ℕ} → Digits count number text → BoundText usual number (spaces gap ++ text)
+  left-out : BoundText usual usual []
 
 -- one of `<=` `<` `>=` `>`
 unfoldable pub sign : Comparison → List ℕ
@@ -55,38 +55,38 @@ pub data Shape : Type 0 where
 
 -- The bytes spell the formula in that shape, and so many brackets stand open in them at most.
 -- `joined` puts pieces one behind the other; i, j, k, l and m are numbers of spaces.
-pub data Spells : Shape → Formula → (brackets : ℕ) → List ℕ → Type 0 where
+pub data Spells (usual : ℕ) : Shape → Formula → (brackets : ℕ) → List ℕ → Type 0 where
   -- `T` and `F`
-  spells-true : Spells one-unit (constant true) 0 (ascii "T")
-  spells-false : Spells one-unit (constant false) 0 (ascii "F")
+  spells-true : Spells usual one-unit (constant true) 0 (ascii "T")
+  spells-false : Spells usual one-unit (constant false) 0 (ascii "F")
   -- `p` and one or two digits, `!` before it or not
   spells-mark : (wanted : Bool) {count k : ℕ} {number : List ℕ} → Digits count k number → count ≤ 2
-      → Spells one-unit (proposition wanted k) 0 (joined (negation wanted ∷ ascii "p" ∷ number ∷ []))
+      → Spells usual one-unit (proposition wanted k) 0 (joined (negation wanted ∷ ascii "p" ∷ number ∷ []))
   -- `N`, a comparison, a number and a unit
   spells-next : (i : ℕ) (c : Comparison) (j : ℕ) {count t : ℕ} {number : List ℕ} (k : ℕ) {g : Formula} {b : ℕ} {part : List ℕ}
-      → Digits count t number → Spells one-unit g b part
-      → Spells one-unit (next c (ticks t) g) b (joined (ascii "N" ∷ spaces i ∷ sign c ∷ spaces j ∷ number ∷ spaces k ∷ part ∷ []))
+      → Digits count t number → Spells usual one-unit g b part
+      → Spells usual one-unit (next c (ticks t) g) b (joined (ascii "N" ∷ spaces i ∷ sign c ∷ spaces j ∷ number ∷ spaces k ∷ part ∷ []))
   -- `A` or `E`, a bound and a unit
-  spells-always : {t : ℕ} {bound : List ℕ} (k : ℕ) {g : Formula} {b : ℕ} {part : List ℕ} → BoundText t bound → Spells one-unit g b part
-      → Spells one-unit (always-for (ticks t) g) b (joined (ascii "A" ∷ bound ∷ spaces k ∷ part ∷ []))
-  spells-within : {t : ℕ} {bound : List ℕ} (k : ℕ) {g : Formula} {b : ℕ} {part : List ℕ} → BoundText t bound → Spells one-unit g b part
-      → Spells one-unit (within (ticks t) g) b (joined (ascii "E" ∷ bound ∷ spaces k ∷ part ∷ []))
+  spells-always : {t : ℕ} {bound : List ℕ} (k : ℕ) {g : Formula} {b : ℕ} {part : List ℕ} → BoundText usual t bound → Spells usual one-unit g b part
+      → Spells usual one-unit (always-for (ticks t) g) b (joined (ascii "A" ∷ bound ∷ spaces k ∷ part ∷ []))
+  spells-within : {t : ℕ} {bound : List ℕ} (k : ℕ) {g : Formula} {b : ℕ} {part : List ℕ} → BoundText usual t bound → Spells usual one-unit g b part
+      → Spells usual one-unit (within (ticks t) g) b (joined (ascii "E" ∷ bound ∷ spaces k ∷ part ∷ []))
   -- `U`, a bound, and two parts in brackets with a comma between them
   spells-until : {t : ℕ} {bound : List ℕ} (i j k l m : ℕ) {f g : Formula} {b c : ℕ} {first second : List ℕ}
-      → BoundText t bound → Spells or-units f b first → Spells or-units g c second
-      → Spells one-unit (until (ticks t) f g) (suc (max b c))
+      → BoundText usual t bound → Spells usual or-units f b first → Spells usual or-units g c second
+      → Spells usual one-unit (until (ticks t) f g) (suc (max b c))
       (joined (ascii "U" ∷ bound ∷ spaces i ∷ ascii "(" ∷ spaces j ∷ first ∷ spaces k ∷ ascii "," ∷ spaces l ∷ second ∷ spaces m ∷ ascii ")" ∷ []))
   -- any formula in brackets
-  spells-bracketed : (i j : ℕ) {f : Formula} {b : ℕ} {text : List ℕ} → Spells or-units f b text
-      → Spells one-unit f (suc b) (joined (ascii "(" ∷ spaces i ∷ text ∷ spaces j ∷ ascii ")" ∷ []))
+  spells-bracketed : (i j : ℕ) {f : Formula} {b : ℕ} {text : List ℕ} → Spells usual or-units f b text
+      → Spells usual one-unit f (suc b) (joined (ascii "(" ∷ spaces i ∷ text ∷ spaces j ∷ ascii ")" ∷ []))
   -- a unit alone; or `&`, grouped from the left
-  spells-unit : {f : Formula} {b : ℕ} {text : List ℕ} → Spells one-unit f b text → Spells and-units f b text
-  spells-and : (i j : ℕ) {f g : Formula} {b c : ℕ} {first second : List ℕ} → Spells and-units f b first → Spells one-unit g c second
-      → Spells and-units (and f g) (max b c) (joined (first ∷ spaces i ∷ ascii "&" ∷ spaces j ∷ second ∷ []))
+  spells-unit : {f : Formula} {b : ℕ} {text : List ℕ} → Spells usual one-unit f b text → Spells usual and-units f b text
+  spells-and : (i j : ℕ) {f g : Formula} {b c : ℕ} {first second : List ℕ} → Spells usual and-units f b first → Spells usual one-unit g c second
+      → Spells usual and-units (and f g) (max b c) (joined (first ∷ spaces i ∷ ascii "&" ∷ spaces j ∷ second ∷ []))
   -- no `|` at all; or `|`, grouped from the left
-  spells-ands : {f : Formula} {b : ℕ} {text : List ℕ} → Spells and-units f b text → Spells or-units f b text
-  spells-or : (i j : ℕ) {f g : Formula} {b c : ℕ} {first second : List ℕ} → Spells or-units f b first → Spells and-units g c second
-      → Spells or-units (or f g) (max b c) (joined (first ∷ spaces i ∷ ascii "|" ∷ spaces j ∷ second ∷ []))
+  spells-ands : {f : Formula} {b : ℕ} {text : List ℕ} → Spells usual and-units f b text → Spells usual or-units f b text
+  spells-or : (i j : ℕ) {f g : Formula} {b c : ℕ} {first second : List ℕ} → Spells usual or-units f b first → Spells usual and-units g c second
+      → Spells usual or-units (or f g) (max b c) (joined (first ∷ spaces i ∷ ascii "|" ∷ spaces j ∷ second ∷ []))
 
 -- ---- lines and books
 
@@ -96,15 +96,15 @@ word at-start = ascii "start"
 word everywhere = ascii "always"
 
 -- The bytes are a line of the rule: its word, at least one space, the formula, and byte 10 right behind it.
-pub data SpellsLine : Rule → (brackets : ℕ) → List ℕ → Type 0 where
-  spells-line : (form : Form) (i : ℕ) {f : Formula} {b : ℕ} {text : List ℕ} → Spells or-units f b text
-      → SpellsLine (record { form = form; formula = f }) b (joined (word form ∷ spaces (suc i) ∷ text ∷ ascii "\n" ∷ []))
+pub data SpellsLine (usual : ℕ) : Rule → (brackets : ℕ) → List ℕ → Type 0 where
+  spells-line : (form : Form) (i : ℕ) {f : Formula} {b : ℕ} {text : List ℕ} → Spells usual or-units f b text
+      → SpellsLine usual (record { form = form; formula = f }) b (joined (word form ∷ spaces (suc i) ∷ text ∷ ascii "\n" ∷ []))
 
 -- The bytes are the lines of the book, and so many brackets stand open in them at most.
-pub data SpellsBook : Book → (brackets : ℕ) → List ℕ → Type 0 where
-  spells-none : SpellsBook [] 0 []
-  spells-more : {rule : Rule} {book : Book} {b c : ℕ} {line text : List ℕ} → SpellsLine rule b line → SpellsBook book c text
-      → SpellsBook (rule ∷ book) (max b c) (line ++ text)
+pub data SpellsBook (usual : ℕ) : Book → (brackets : ℕ) → List ℕ → Type 0 where
+  spells-none : SpellsBook usual [] 0 []
+  spells-more : {rule : Rule} {book : Book} {b c : ℕ} {line text : List ℕ} → SpellsLine usual rule b line → SpellsBook usual book c text
+      → SpellsBook usual (rule ∷ book) (max b c) (line ++ text)
 
 -- A book that no limit turns down under so many marks, 7 to 10 by number, with so many open brackets at most in its lines.
 pub record WithinLimits (marks : ℕ) (book : Book) (brackets : ℕ) : Type 0 where
@@ -117,7 +117,7 @@ pub record WithinLimits (marks : ℕ) (book : Book) (brackets : ℕ) : Type 0 wh
 -- The text is one of the book, by the rules and within the limits.
 pub record BookOf (marks : ℕ) (text : List ℕ) (book : Book) : Type 0 where
   pub brackets : ℕ
-  pub spells : SpellsBook book brackets text
+  pub spells : SpellsBook usual-bound book brackets text
   pub limits : WithinLimits marks book brackets
   pub few-bytes : length text ≤ most-bytes
 

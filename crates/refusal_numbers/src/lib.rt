@@ -1,14 +1,16 @@
 // A refusal as numbers, for those who cannot take an enum (01, 'Why a call is turned down'): the
-// paper's number, the place that goes with it, and the letter inside a 14.
+// paper's number and the place that goes with it; and for 14 the reason's row and letter.
 ghost use mathlib.Core.Path.{_≡_};
-ghost use Rattle.base.specs.Answers.{row-of, letter-of, refusal-said};
-ghost use Rattle.refusal_numbers.specs.Parts.{said-number, said-place, said-letter};
+ghost use Rattle.base.specs.Answers.{row-of, letter-of, refusal-number, refusal-place};
 use base::Reason;
 use base::Refusal;
 
+// The number of a table that is not good.
+pub const NOT_GOOD: u32 = 14;
+
 // The number, from 1 to 18.
 pub fn number(refusal: Refusal) -> u32
-    ensures { λ n. ⌜ n ≡ said-number (refusal-said refusal) ⌝ }
+    ensures { λ n. ⌜ n ≡ refusal-number refusal ⌝ }
 {
     match refusal {
         Refusal::TowerSize => 1,
@@ -24,7 +26,6 @@ pub fn number(refusal: Refusal) -> u32
         Refusal::Pairs => 11,
         Refusal::NoTable => 12,
         Refusal::Layout => 13,
-        Refusal::NotGood(_) => 14,
         Refusal::Area => 15,
         Refusal::Output => 16,
         Refusal::Outside => 17,
@@ -32,9 +33,9 @@ pub fn number(refusal: Refusal) -> u32
     }
 }
 
-// The place: the line for 6 to 10, the row for 14 b to d, otherwise 0.
+// The place: the line for 6 to 10, otherwise 0.
 pub fn place(refusal: Refusal) -> usize
-    ensures { λ p. ⌜ p ≡ said-place (refusal-said refusal) ⌝ }
+    ensures { λ p. ⌜ p ≡ refusal-place refusal ⌝ }
 {
     match refusal {
         Refusal::TowerSize => 0,
@@ -50,7 +51,6 @@ pub fn place(refusal: Refusal) -> usize
         Refusal::Pairs => 0,
         Refusal::NoTable => 0,
         Refusal::Layout => 0,
-        Refusal::NotGood(reason) => row(reason),
         Refusal::Area => 0,
         Refusal::Output => 0,
         Refusal::Outside => 0,
@@ -58,33 +58,7 @@ pub fn place(refusal: Refusal) -> usize
     }
 }
 
-// The letter of the reason inside a 14, otherwise 0.
-pub fn letter(refusal: Refusal) -> u8
-    ensures { λ l. ⌜ l ≡ said-letter (refusal-said refusal) ⌝ }
-{
-    match refusal {
-        Refusal::TowerSize => 0,
-        Refusal::Range => 0,
-        Refusal::Action => 0,
-        Refusal::Target => 0,
-        Refusal::Mask => 0,
-        Refusal::Grammar(_) => 0,
-        Refusal::Number(_) => 0,
-        Refusal::Mark(_) => 0,
-        Refusal::Limit(_) => 0,
-        Refusal::Timed(_) => 0,
-        Refusal::Pairs => 0,
-        Refusal::NoTable => 0,
-        Refusal::Layout => 0,
-        Refusal::NotGood(reason) => reason_letter(reason),
-        Refusal::Area => 0,
-        Refusal::Output => 0,
-        Refusal::Outside => 0,
-        Refusal::NotAllowed => 0,
-    }
-}
-
-// A reason's row, otherwise 0.
+// The place of a 14: the reason's row for b to d, otherwise 0.
 pub fn row(reason: Reason) -> usize
     ensures { λ r. ⌜ r ≡ row-of reason ⌝ }
 {
@@ -97,8 +71,8 @@ pub fn row(reason: Reason) -> usize
     }
 }
 
-// A reason's letter, from a to e.
-pub fn reason_letter(reason: Reason) -> u8
+// The letter inside a 14, from a to e.
+pub fn letter(reason: Reason) -> u8
     ensures { λ l. ⌜ l ≡ letter-of reason ⌝ }
 {
     match reason {

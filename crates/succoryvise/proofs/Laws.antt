@@ -1,8 +1,8 @@
 -- From an answer that is known to how it is shown.
 use Prim.Native.Nat.{ℕ}
-use mathlib.Core.Path.{_≡_, refl, sym, _∙_, ap}
+use mathlib.Core.Path.{_≡_, sym, _∙_, ap}
 use mathlib.Core.List.{List, [], _∷_}
-use Rattle.base.specs.Answers.{Said, refusal-said, book-said, make-said, verdict-said, follow-said}
+use Rattle.base.specs.Answers.{Said, row-of, letter-of, refusal-number, refusal-place, refusal-said, reason-said, book-said, make-said, verdict-said, follow-said}
 use Rattle.base.specs.declared.BookAnswer.{BookAnswer}
 use Rattle.base.specs.declared.MakeAnswer.{MakeAnswer}
 use Rattle.base.specs.declared.Verdict.{Verdict}
@@ -12,45 +12,25 @@ use Rattle.outcome.specs.Check.{check-outcome}
 use Rattle.book_reader.specs.Lines.{Outcome}
 use Rattle.checker.specs.Checking.{Checks}
 use Rattle.maker.specs.Making.{Makes}
+use Rattle.base.specs.declared.Reason.{Reason}
 use Rattle.base.specs.declared.Refusal.{Refusal}
-use Rattle.base.specs.declared.Refusal.the-variants.{TowerSize, Range, Action, Target, Mask, Grammar, Number, Mark, Limit, Timed}
-use Rattle.base.specs.declared.Refusal.the-variants.{Pairs, NoTable, Layout, NotGood, Area, Output, Outside, NotAllowed}
-use Rattle.refusal_numbers.specs.Parts.{said-number, said-place, said-letter}
-use Rattle.succoryvise.specs.Shown.{said-values, shown}
+use Rattle.succoryvise.specs.Shown.{shown}
 use Rattle.succoryvise.specs.declared.answer.Answer.{Answer}
 use Rattle.succoryvise.specs.Entries.{BookShown, MakeShown, CheckShown}
-
--- a refusal has no values
-no-values : (r : Refusal) → said-values (refusal-said r) ≡ []
-unfolding said-values refusal-said
-no-values TowerSize = refl
-no-values Range = refl
-no-values Action = refl
-no-values Target = refl
-no-values Mask = refl
-no-values (Grammar line) = refl
-no-values (Number line) = refl
-no-values (Mark line) = refl
-no-values (Limit line) = refl
-no-values (Timed line) = refl
-no-values Pairs = refl
-no-values NoTable = refl
-no-values Layout = refl
-no-values (NotGood reason) = refl
-no-values Area = refl
-no-values Output = refl
-no-values Outside = refl
-no-values NotAllowed = refl
 
 -- an answer without values
 abbrev without-values : ℕ → ℕ → ℕ → Answer
 without-values n l p = record { number = n; letter = l; place = p; first = 0; second = 0; third = 0 }
 
--- The three numbers of a refusal show it.
-pub refusal-shown : (r : Refusal) (n l p : ℕ) → n ≡ said-number (refusal-said r) → l ≡ said-letter (refusal-said r)
-    → p ≡ said-place (refusal-said r) → without-values n l p ≡ shown (refusal-said r)
-unfolding shown
-refusal-shown r n l p e f g = rw (e, f, g, no-values r)
+-- Number and place of a refusal show it.
+pub refusal-shown : (r : Refusal) (n p : ℕ) → n ≡ refusal-number r → p ≡ refusal-place r → without-values n 0 p ≡ shown (refusal-said r)
+unfolding shown refusal-said
+refusal-shown r n p e f = rw (e, f)
+
+-- Row and letter of a reason show it.
+pub reason-shown : (q : Reason) (l p : ℕ) → l ≡ letter-of q → p ≡ row-of q → without-values 14 l p ≡ shown (reason-said q)
+unfolding shown reason-said
+reason-shown q l p e f = rw (e, f)
 
 -- An outcome is shown as what is said of the answer that it is.
 abbrev pub ShownBy : {X : Type 0} → (X → Said) → Type 0

@@ -1,8 +1,9 @@
 // Answers as numbers.
 ghost use mathlib.Core.Path.{_≡_};
 ghost use mathlib.Core.List.{[], _∷_};
-ghost use Rattle.base.specs.Answers.{answered, refusal-said};
+ghost use Rattle.base.specs.Answers.{answered, refusal-said, reason-said};
 ghost use Rattle.succoryvise.specs.Shown.{shown};
+use base::Reason;
 use base::Refusal;
 
 // Number 0 and the values of an answer, or a refusal's number, place and letter (0 for none). No
@@ -64,12 +65,27 @@ pub fn refused(refusal: Refusal) -> Answer
     ensures { λ a. ⌜ a ≡ shown (refusal-said refusal) ⌝ }
 {
     let number = refusal_numbers::number(refusal);
-    let letter = refusal_numbers::letter(refusal);
     let place = refusal_numbers::place(refusal);
     Answer {
         number: number,
-        letter: letter,
+        letter: 0,
         place: place,
+        first: 0,
+        second: 0,
+        third: 0,
+    }
+}
+
+// 14, with the reason why the table is not good.
+pub fn not_good(reason: Reason) -> Answer
+    ensures { λ a. ⌜ a ≡ shown (reason-said reason) ⌝ }
+{
+    let letter = refusal_numbers::letter(reason);
+    let row = refusal_numbers::row(reason);
+    Answer {
+        number: refusal_numbers::NOT_GOOD,
+        letter: letter,
+        place: row,
         first: 0,
         second: 0,
         third: 0,

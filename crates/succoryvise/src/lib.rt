@@ -14,7 +14,6 @@ use answer::Answer;
 use base::BookAnswer;
 use base::FollowAnswer;
 use base::MakeAnswer;
-use base::Refusal;
 use base::Verdict;
 
 // The version of this interface.
@@ -82,7 +81,7 @@ pub extern "C" fn succoryvise_check_v1(
 {
     match checker::check(tower, text, table, nodes, pairs, index, graph) {
         Verdict::Good => answer::yes(),
-        Verdict::NotGood(reason) => answer::refused(Refusal::NotGood(reason)),
+        Verdict::NotGood(reason) => answer::not_good(reason),
         Verdict::Refused(refusal) => answer::refused(refusal),
     }
 }

@@ -1,6 +1,7 @@
 // A refusal in plain words, on standard error, for whoever has to mend a file. Lines and columns of a
 // book are counted from 1, as editors count them; states, actions and rows from 0, as the listing does.
 // The entries decide, and are proved; these words are tested.
+use base::Reason;
 use base::Refusal;
 use program_saying::in_file;
 use program_saying::say;
@@ -61,9 +62,6 @@ fn explain(
         Refusal::Layout => {
             words_table::layout(table, table_bytes, tower, tower_bytes);
         }
-        Refusal::NotGood(reason) => {
-            words_table::not_good(table, table_bytes, tower_bytes, reason);
-        }
         Refusal::Area => {
             say(b"a work area is too short\n");
         }
@@ -105,5 +103,19 @@ pub fn refuse(
 pub fn refuse_tower(why: Refusal, tower: &[u8], tower_bytes: &[u8]) {
     if print_line(why) {
         words_tower::dead_end(tower, tower_bytes);
+    }
+}
+
+// Prints the line of a 14.
+fn print_reason(reason: Reason) -> bool {
+    let mut line = [0u8; 4096];
+    let n = program_listing::not_good(reason, &mut line);
+    program_files::print(&line[..n])
+}
+
+// The same for a table that is not good.
+pub fn not_good(reason: Reason, table: &[u8], tower_bytes: &[u8], table_bytes: &[u8]) {
+    if print_reason(reason) {
+        words_table::not_good(table, table_bytes, tower_bytes, reason);
     }
 }

@@ -11,14 +11,12 @@ use reference::tower::Tower;
 use std::collections::BTreeSet;
 use std::fmt;
 
-// Both require a book that lies in its area as it should, and parts of `count` bytes inside `area`
-// that do not meet: `Walk` builds them so.
+// Both require a book that lies in its area as it should, and parts inside `area`, of a byte for each
+// node, that do not meet: `Walk` builds them so.
 extern "C" {
     fn test_begin(
         book: *const u8,
         book_length: usize,
-        lines: usize,
-        count: usize,
         area: *mut u8,
         area_length: usize,
         to: usize,
@@ -26,8 +24,6 @@ extern "C" {
     fn test_progressed(
         book: *const u8,
         book_length: usize,
-        lines: usize,
-        count: usize,
         mask: usize,
         length: u64,
         area: *mut u8,
@@ -39,7 +35,8 @@ extern "C" {
 
 /// The layout of a book in its area.
 const LINES_AT: usize = 240;
-const BOOK_AREA: usize = 360;
+const COUNTS_AT: usize = 480;
+const BOOK_AREA: usize = 512;
 
 /// An entry: two bytes, and a byte for each of at most 60 nodes.
 const ENTRY: usize = 62;
@@ -80,9 +77,17 @@ fn book_bytes(book: &Book) -> Vec<u8> {
         .flat_map(|node| node_bytes(book, node))
         .collect();
     bytes.resize(LINES_AT, UNUSED);
-    for line in &book.lines {
-        bytes.extend([u8::from(line.always), line.root as u8]);
+    for (number, line) in book.lines.iter().enumerate() {
+        let timed = book.timed[line.root];
+        bytes.extend([
+            u8::from(line.always),
+            line.root as u8,
+            number as u8,
+            u8::from(timed),
+        ]);
     }
+    bytes.resize(COUNTS_AT, UNUSED);
+    bytes.extend([book.nodes.len() as u8, book.lines.len() as u8]);
     bytes.resize(BOOK_AREA, UNUSED);
     bytes
 }
@@ -98,8 +103,6 @@ fn entry_bytes(pending: &Pending) -> Vec<u8> {
 
 /// A walk of the proved code: a book in its area, and two entries that take turns.
 struct Walk {
-    lines: usize,
-    count: usize,
     book: Vec<u8>,
     area: Vec<u8>,
     now: usize,
@@ -108,8 +111,6 @@ struct Walk {
 impl Walk {
     fn begin(book: &Book) -> Self {
         let mut walk = Walk {
-            lines: book.lines.len(),
-            count: book.nodes.len(),
             book: book_bytes(book),
             area: vec![UNUSED; 2 * ENTRY],
             now: 0,
@@ -118,8 +119,6 @@ impl Walk {
             test_begin(
                 walk.book.as_ptr(),
                 walk.book.len(),
-                walk.lines,
-                walk.count,
                 walk.area.as_mut_ptr(),
                 walk.area.len(),
                 CELLS_AT,
@@ -140,8 +139,6 @@ impl Walk {
             test_progressed(
                 self.book.as_ptr(),
                 self.book.len(),
-                self.lines,
-                self.count,
                 marks.into(),
                 length.into(),
                 self.area.as_mut_ptr(),

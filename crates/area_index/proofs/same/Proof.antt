@@ -2,14 +2,14 @@
 -- The invariant: the bytes passed are equal. The measure: how many are left.
 use Prim.Native.Nat.{_-_}
 use borrow.Author.Needs.{needs}
-use Rattle.area_index.proofs.Ways.{Comparing, same-start, same-more, same-differ, same-end}
+use Rattle.area_index.proofs.Ways.{ComparingEntries, same-start, same-more, same-differ, same-end}
 use Rattle.area_index.proofs.same.Statement.{statement}
 use Rattle.area_index.proofs.same.Tie as tie
 
 ruleset all = (needs, same-start, same-more, same-differ)
 
 abbrev Inv-loop : tie.InvT-loop
-Inv-loop entries i j one other offset₀ offset = Comparing entries i j offset
+Inv-loop entries i j one other offset₀ offset = ComparingEntries entries i j offset
 
 abbrev μ-loop : tie.MeasureT-loop
 μ-loop entries i j one other offset₀ offset = 62 - offset

@@ -15,7 +15,7 @@ abbrev μ-loop : tie.MeasureT-loop
 pub progress-lines-spec : {M : Type 1} → statement M
 progress-lines-spec = tie.close (tie.spec Inv-loop μ-loop
     (λ c. search (needs, lines-first))
-    (λ c κs. search (needs, is-line))
+    (λ c κs. (search (needs, is-line), search needs))
     (λ c. search needs)
     (λ c. search (needs, lines-broken))
     (λ c. search needs) (λ c. search needs)

@@ -1,6 +1,6 @@
 -- `book_progression::progress_nodes` meets its contract, by the laws of Stepping.
 use Prim.Native.Nat.{_-_}
-use Rattle.book_progression.proofs.Stepping.{NodesGoing, nodes-first, nodes-end, nodes-broken, nodes-next, cell-inside, node-there}
+use Rattle.book_progression.proofs.Stepping.{NodesGoing, nodes-first, nodes-end, nodes-broken, nodes-on, fewer-left, cell-inside, node-there}
 use borrow.Author.Needs.{needs}
 use Rattle.book_progression.proofs.progress_nodes.Statement.{statement}
 use Rattle.book_progression.proofs.progress_nodes.Tie as tie
@@ -18,7 +18,9 @@ progress-nodes-spec = tie.close (tie.spec Inv-loop μ-loop
     (λ c κs. (search (needs, node-there), search (needs, cell-inside)))
     (λ c. search needs)
     (λ c. search (needs, nodes-broken))
-    (λ c. search needs) (λ c. search needs)
-    (λ c. search (needs, nodes-next))
+    (λ c. search needs)
+    (λ c κs. (search needs, search needs))
+    (λ c. search (needs, fewer-left))
+    (λ c. search (needs, nodes-on))
     (λ c. search needs)
     (λ c. search (needs, nodes-end)))

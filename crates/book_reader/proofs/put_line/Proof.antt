@@ -8,10 +8,7 @@ use Rattle.book_reader.proofs.put_line.Tie as tie
 
 ruleset all = (needs, line-put)
 
-slice-write-area-2 : tie.Need-slice-write-area-2
-slice-write-area-2 c = simp length-set (omega arith)
-
 pub put-line-spec : {M : Type 1} → statement M
 put-line-spec =
     tie.close
-    (tie.spec (λ c κs. search all) (λ c. search all) (λ c. search all) (λ c. search all) (λ c. search all) slice-write-area-2 (λ c. search all) (λ c. search all))
+    (tie.spec (λ c κs. search all) (λ c κs. search all) (λ c. search all) (λ c. search all) (λ c. search all) (λ c. search all) (λ c. simp length-set (omega arith)) (λ c. search all) (λ c. search all) (λ c. simp length-set (omega arith)) (λ c. search all) (λ c. simp length-set (omega arith)) (λ c. search all) (λ c. search all))

@@ -1,6 +1,6 @@
 -- `book_tokens::connective` meets its contract; each need follows by the laws of its way.
 use Prim.Native.Nat.{_-_}
-use Rattle.book_tokens.proofs.Laws.{Scanning}
+use Rattle.book_tokens.proofs.Laws.{ScanningBytes}
 use Rattle.book_tokens.proofs.Laws.{scanning-start, scanning-on, connective-found, connective-none}
 use borrow.Author.Needs.{needs}
 use Rattle.book_tokens.proofs.connective.Statement.{statement}
@@ -9,7 +9,7 @@ use Rattle.book_tokens.proofs.connective.Tie as tie
 ruleset all = (needs, scanning-start, scanning-on, connective-found, connective-none)
 
 abbrev Inv-loop : tie.InvT-loop
-Inv-loop b i₀ i = Scanning b i
+Inv-loop b i₀ i = ScanningBytes b i
 
 abbrev μ-loop : tie.MeasureT-loop
 μ-loop b i₀ i = 9 - i

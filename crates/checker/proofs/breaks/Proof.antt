@@ -2,7 +2,7 @@
 use borrow.Author.Needs.{needs}
 use Prim.Native.Nat.{_-_}
 use Rattle.base.specs.Lists.{some-of}
-use Rattle.checker_rows.proofs.Scans.{Left, left-below, some-found, some-more, some-end}
+use Rattle.area_bytes.proofs.Scans.{Left, left-below, some-found, some-more, some-end}
 use Rattle.checker.specs.Checking.{broken-at}
 use Rattle.checker.proofs.Runs.{scan-breaks}
 use Rattle.checker.proofs.breaks.Statement.{statement}

@@ -5,7 +5,7 @@ use Rattle.logic.specs.Tower.{tower-of}
 use Rattle.reading.specs.TableReading.{table-of}
 use Rattle.checker_rows.specs.RowVerdict.{rows-from}
 use Rattle.checker_rows.proofs.Ways.{has-header, rows-wrong-start, rows-wrong, rows-right, rows-more}
-use Rattle.checker_rows.proofs.Scans.{Left, left-below}
+use Rattle.area_bytes.proofs.Scans.{Left, left-below}
 use Rattle.checker_rows.proofs.judge_rows.Statement.{statement}
 use Rattle.checker_rows.proofs.judge_rows.Tie as tie
 

@@ -6,7 +6,7 @@ use Rattle.logic.specs.Tower.{tower-of}
 use Rattle.reading.specs.TableReading.{table-of}
 use Rattle.outcome.specs.Check.{withheld}
 use Rattle.checker_rows.proofs.Ways.{scan-withheld}
-use Rattle.checker_rows.proofs.Scans.{Left, left-below, some-found, some-more, some-end}
+use Rattle.area_bytes.proofs.Scans.{Left, left-below, some-found, some-more, some-end}
 use Rattle.checker_rows.proofs.some_withheld.Statement.{statement}
 use Rattle.checker_rows.proofs.some_withheld.Tie as tie
 

@@ -4,7 +4,7 @@ use Prim.Native.Nat.{_-_}
 use Rattle.base.specs.Lists.{some-of}
 use Rattle.reading.specs.TableReading.{row-first, row-count}
 use Rattle.checker_rows.proofs.Ways.{has-header, row-end-fits, left-fits, scan-wrong-steps, wrong-at}
-use Rattle.checker_rows.proofs.Scans.{Left, left-start, some-found, some-more, some-end}
+use Rattle.area_bytes.proofs.Scans.{Left, left-start, some-found, some-more, some-end}
 use Rattle.checker_rows.proofs.some_wrong_step.Statement.{statement}
 use Rattle.checker_rows.proofs.some_wrong_step.Tie as tie
 

@@ -4,11 +4,11 @@ use Prim.Native.Nat.{_-_}
 use Rattle.base.specs.Lists.{every}
 use Rattle.reading.specs.TableReading.{row-first, row-count}
 use Rattle.checker_rows.proofs.Ways.{has-header, row-end-fits, left-inside, left-action, left-fits, scan-stopped, stops-at, step-goes-on, step-stops}
-use Rattle.checker_rows.proofs.Scans.{Left, left-start, every-fails, every-more, every-end}
+use Rattle.area_bytes.proofs.Scans.{Left, left-start, every-end}
 use Rattle.checker_rows.proofs.stopped.Statement.{statement}
 use Rattle.checker_rows.proofs.stopped.Tie as tie
 
-ruleset all = (needs, has-header, row-end-fits, left-inside, left-action, left-fits, scan-stopped, step-goes-on, step-stops, left-start, every-fails, every-more, every-end)
+ruleset all = (needs, has-header, row-end-fits, left-inside, left-action, left-fits, scan-stopped, step-goes-on, step-stops, left-start, every-end)
 
 abbrev Inv-loop : tie.InvT-loop
 Inv-loop tower table r i₀ end i = Left (every (stops-at tower table)) (row-first table r) (row-count table r) end i

@@ -1,6 +1,6 @@
 -- `make_table::run_files` is safe and ends.
 use borrow.Author.Needs.{needs}
-use Rattle.program_files.proofs.Ways.{contents-within, contents-taken}
+use Rattle.program_files.proofs.Laws.{contents-within, contents-taken}
 use Rattle.make_table.proofs.run_files.Statement.{statement}
 use Rattle.make_table.proofs.run_files.Tie as tie
 

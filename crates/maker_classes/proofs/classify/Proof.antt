@@ -13,7 +13,7 @@ abbrev Inv-loop : tie.InvT-loop
 Inv-loop graph flags actions n classes₀ classes = (Refining graph flags actions n classes) × (length classes ≡ length classes₀)
 
 abbrev μ-loop : tie.MeasureT-loop
-μ-loop graph flags actions n classes₀ classes = slack flags n classes
+μ-loop graph flags actions n classes₀ classes = slack n classes
 
 pub classify-spec : {M : Type 1} → statement M
 classify-spec =

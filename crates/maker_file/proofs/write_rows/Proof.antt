@@ -2,15 +2,15 @@
 -- The invariant: to write the rows that are left is to write them all. The measure: how many are left.
 use borrow.Author.Needs.{needs}
 use Prim.Native.Nat.{_-_}
-use Rattle.maker_file.proofs.Filling.{Listing, listing-start, listing-more, listing-end, row-place}
-use Rattle.maker_file.proofs.Going.{pair-there, pair-below, pair-inside, graph-there, row-number, totalling-fits}
+use Rattle.maker_file.proofs.Filling.{ListingSteps, listing-start, listing-more, listing-end, row-place}
+use Rattle.maker_file.proofs.Going.{pair-below, pair-inside, totalling-fits}
 use Rattle.maker_file.proofs.write_rows.Statement.{statement}
 use Rattle.maker_file.proofs.write_rows.Tie as tie
 
-ruleset all = (needs, listing-start, listing-more, listing-end, row-place, pair-there, pair-below, pair-inside, graph-there, row-number, totalling-fits)
+ruleset all = (needs, listing-start, listing-more, listing-end, row-place, pair-below, pair-inside, totalling-fits)
 
 abbrev Inv-loop : tie.InvT-loop
-Inv-loop graph flags area out₀ layout pairs actions rows first₀ row₀ out first row = Listing layout graph flags area actions rows out₀ out first row
+Inv-loop graph flags area out₀ layout pairs actions rows first₀ row₀ out first row = ListingSteps layout graph flags area actions rows out₀ out first row
 
 abbrev μ-loop : tie.MeasureT-loop
 μ-loop graph flags area out₀ layout pairs actions rows first₀ row₀ out first row = rows - row

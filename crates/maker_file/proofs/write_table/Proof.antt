@@ -1,10 +1,10 @@
 -- `maker_file::write_table` meets its contract.
 use borrow.Author.Needs.{needs}
-use Rattle.maker_file.proofs.Filling.{classes-given, laid-out, size-fits, steps-size-fits, ordered-few, file-room, writes-nothing, writes-file}
+use Rattle.maker_file.proofs.Filling.{classes-given, laid-out, size-fits, steps-size-fits, writes-nothing, writes-file}
 use Rattle.maker_file.proofs.write_table.Statement.{statement}
 use Rattle.maker_file.proofs.write_table.Tie as tie
 
-ruleset all = (needs, classes-given, laid-out, size-fits, steps-size-fits, ordered-few, file-room, writes-nothing, writes-file)
+ruleset all = (needs, classes-given, laid-out, size-fits, steps-size-fits, writes-nothing, writes-file)
 
 pub write-table-spec : {M : Type 1} → statement M
 write-table-spec =

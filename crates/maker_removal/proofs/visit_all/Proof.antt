@@ -2,15 +2,15 @@
 -- The invariant: the pairs below the counter have been looked at. The measure: how many are left.
 use Prim.Native.Nat.{_-_}
 use Rattle.logic.specs.Tower.{tower-of}
-use Rattle.maker_removal.proofs.Turns.{Scanning, scan-start, scan-ready, scan-more, scan-end}
+use Rattle.maker_removal.proofs.Turns.{ScanningCells, scan-start, scan-more, scan-end}
 use borrow.Author.Needs.{needs}
 use Rattle.maker_removal.proofs.visit_all.Statement.{statement}
 use Rattle.maker_removal.proofs.visit_all.Tie as tie
 
-ruleset all = (needs, scan-start, scan-ready, scan-more, scan-end)
+ruleset all = (needs, scan-start, scan-more, scan-end)
 
 abbrev Inv-loop : tie.InvT-loop
-Inv-loop tower graph n area₀ height₀ next₀ area height next = Scanning (tower-of tower) n graph area₀ next area height
+Inv-loop tower graph n area₀ height₀ next₀ area height next = ScanningCells (tower-of tower) n graph area₀ next area height
 
 abbrev μ-loop : tie.MeasureT-loop
 μ-loop tower graph n area₀ height₀ next₀ area height next = n - next

@@ -4,12 +4,12 @@ use Prim.Native.Nat.{_+_}
 use Rattle.logic.specs.Tower.{tower-of}
 use Rattle.pair_graph.specs.Steps.{safe-in}
 use Rattle.maker_removal.specs.Removal.{count}
-use Rattle.maker_removal.proofs.Turns.{Working, work-start, work-ready, work-less, work-more, work-end}
+use Rattle.maker_removal.proofs.Turns.{Working, work-start, work-ready, work-more, work-end}
 use borrow.Author.Needs.{needs}
 use Rattle.maker_removal.proofs.work_off.Statement.{statement}
 use Rattle.maker_removal.proofs.work_off.Tie as tie
 
-ruleset all = (needs, work-start, work-ready, work-less, work-more, work-end)
+ruleset all = (needs, work-start, work-ready, work-more, work-end)
 
 abbrev Inv-loop : tie.InvT-loop
 Inv-loop tower graph n area₀ entries height₀ area height = Working (tower-of tower) n graph area₀ area height

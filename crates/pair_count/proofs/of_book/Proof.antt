@@ -1,11 +1,11 @@
 -- The book that was read lies in its area.
 use borrow.Author.Needs.{needs}
 use Rattle.file_tower.proofs.Laws.{marks-few}
-use Rattle.pair_count.proofs.Ways.{book-known}
+use Rattle.book_reader.proofs.BookHeld.{is-held}
 use Rattle.pair_count.proofs.of_book.Statement.{statement}
 use Rattle.pair_count.proofs.of_book.Tie as tie
 
-ruleset all = (needs, marks-few, book-known)
+ruleset all = (needs, marks-few, is-held)
 
 pub of-book-spec : {M : Type 1} → statement M
 of-book-spec = tie.close (tie.spec

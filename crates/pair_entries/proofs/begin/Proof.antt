@@ -6,4 +6,4 @@ use Rattle.pair_entries.proofs.begin.Tie as tie
 
 pub begin-spec : {M : Type 1} → statement M
 begin-spec =
-    tie.close (tie.spec (λ c κs. search needs) (λ c κs. search needs) (λ c κs. search needs) (λ c. search needs) (λ c. search (begin-first, c .before .before .before .before .before .before .before .before .before .before .before .before .before .before .pre)))
+    tie.close (tie.spec (λ c κs. search needs) (λ c κs. search needs) (λ c κs. (search needs, search needs)) (λ c. search needs) (λ c. search (needs, begin-first)))

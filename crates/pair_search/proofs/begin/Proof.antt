@@ -9,4 +9,4 @@ ruleset all = (needs, start-small, start-ready)
 pub begin-spec : {M : Type 1} → statement M
 begin-spec =
     tie.close
-    (tie.spec (λ c κs. search all) (λ c κs. (search all, (search all, (search all, search all)))) (λ c κs. (search all, search all)) (λ c. search all) (λ c. search all) (λ c. search all))
+    (tie.spec (λ c κs. search all) (λ c κs. (search all, (search all, search all))) (λ c κs. (search all, search all)) (λ c. search all) (λ c. search all) (λ c. search all))

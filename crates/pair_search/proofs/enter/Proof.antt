@@ -11,4 +11,4 @@ ruleset all = (needs, action-below, entry-inside, state-inside, tower-state-insi
 pub enter-spec : {M : Type 1} → statement M
 enter-spec =
     tie.close
-    (tie.spec (λ c κs. search all) (λ c κs. (search all, search all)) (λ c κs. (search all, (search all, (search all, (search all, search all))))) (λ c κs. (search all, (search all, (search all, (search all, (search all, (search all, (search all, search all)))))))) (λ c. search all) (λ c. search all) (λ c κs. (search all, (search all, search all))) (λ c κs. (search all, search all)) (λ c κs. (search all, (search all, (search all, (search all, (search all, search all)))))) (λ c. search all) (λ c. search all))
+    (tie.spec (λ c κs. search all) (λ c κs. (search all, search all)) (λ c κs. (search all, (search all, (search all, (search all, search all))))) (λ c κs. (search all, (search all, (search all, (search all, (search all, (search all, (search all, search all)))))))) (λ c. search all) (λ c. search all) (λ c κs. (search all, (search all, search all))) (λ c κs. (search all, search all)) (λ c κs. (search all, (search all, (search all, (search all, search all))))) (λ c. search all) (λ c. search all))

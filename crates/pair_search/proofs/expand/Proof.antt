@@ -11,4 +11,8 @@ ruleset all = (needs, entry-inside, pair-room-below, state-written)
 pub expand-spec : {M : Type 1} → statement M
 expand-spec =
     tie.close
-    (tie.spec (λ c κs. search all) (λ c κs. (search all, search all)) (λ c κs. let known = c .before .before .before .before .before .before .before .before .before .before .before .before .before .before .before .pre in let numbered = c .before .before .before .before .before .before .number .ensures in let put = c .before .before .before .before .before .put-state .ensures in (search all, (search all, (search all, (state-written _ _ _ _ _ _ _ _ _ _ numbered put (known .1 .0) (known .0 .files .search) (known .1 .1 .1 .1 .1 .1 .0) (known .1 .1 .1 .1 .1 .1 .1) (known .1 .1 .1 .1 .1 .0) (known .1 .1 .1 .0), (search all, (search all, (search all, search all)))))))) (λ c. search all) (λ c. search all) (λ c. search all) (λ c. search all))
+    (tie.spec
+    (λ c κs. search all)
+    (λ c κs. (search all, search all))
+    (λ c κs. search (needs, state-written))
+    (λ c. search all) (λ c. search all) (λ c. search all) (λ c. search all))

@@ -1,6 +1,6 @@
 -- `read_rules::run` is safe and ends.
 use borrow.Author.Needs.{needs}
-use Rattle.program_files.proofs.Ways.{contents-within, contents-taken}
+use Rattle.program_files.proofs.Laws.{contents-within, contents-taken}
 use Rattle.read_rules.proofs.run.Statement.{statement}
 use Rattle.read_rules.proofs.run.Tie as tie
 

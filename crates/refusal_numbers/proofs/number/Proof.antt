@@ -1,7 +1,5 @@
 -- `refusal_numbers::number` meets its contract.
 use borrow.Author.Needs.{needs}
-use Rattle.base.specs.Answers.{refusal-said}
-use Rattle.refusal_numbers.specs.Parts.{said-number}
 use Rattle.refusal_numbers.proofs.Laws.{number-by}
 use Rattle.refusal_numbers.proofs.number.Statement.{statement}
 use Rattle.refusal_numbers.proofs.number.Tie as tie
@@ -9,7 +7,6 @@ use Rattle.refusal_numbers.proofs.number.Tie as tie
 ruleset all = (needs, number-by)
 
 pub number-spec : {M : Type 1} → statement M
-unfolding said-number refusal-said
 number-spec =
     tie.close
     (tie.spec (λ c. search all) (λ c. search all) (λ c. search all) (λ c. search all) (λ c. search all) (λ c. search all)
@@ -17,4 +14,4 @@ number-spec =
     (λ c. search all) (λ c. search all) (λ c. search all) (λ c. search all) (λ c. search all) (λ c. search all)
     (λ c. search all) (λ c. search all) (λ c. search all) (λ c. search all) (λ c. search all) (λ c. search all)
     (λ c. search all) (λ c. search all) (λ c. search all) (λ c. search all) (λ c. search all) (λ c. search all)
-    (λ c. search all) (λ c. search all) (λ c. search all) (λ c. search all) (λ c. search all) (λ c. search all))
+    (λ c. search all) (λ c. search all) (λ c. search all) (λ c. search all))

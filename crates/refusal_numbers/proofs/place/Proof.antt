@@ -1,7 +1,5 @@
 -- `refusal_numbers::place` meets its contract.
 use borrow.Author.Needs.{needs}
-use Rattle.base.specs.Answers.{refusal-said}
-use Rattle.refusal_numbers.specs.Parts.{said-place}
 use Rattle.refusal_numbers.proofs.Laws.{place-by}
 use Rattle.refusal_numbers.proofs.place.Statement.{statement}
 use Rattle.refusal_numbers.proofs.place.Tie as tie
@@ -9,13 +7,11 @@ use Rattle.refusal_numbers.proofs.place.Tie as tie
 ruleset all = (needs, place-by)
 
 pub place-spec : {M : Type 1} → statement M
-unfolding said-place refusal-said
 place-spec =
     tie.close
     (tie.spec (λ c. search all) (λ c. search all) (λ c. search all) (λ c. search all) (λ c. search all) (λ c. search all)
     (λ c. search all) (λ c. search all) (λ c. search all) (λ c. search all) (λ c. search all) (λ c. search all)
-    (λ c. search all) (λ c. search all) (λ c κs. search all) (λ c. search all) (λ c. search all) (λ c. search all)
     (λ c. search all) (λ c. search all) (λ c. search all) (λ c. search all) (λ c. search all) (λ c. search all)
     (λ c. search all) (λ c. search all) (λ c. search all) (λ c. search all) (λ c. search all) (λ c. search all)
     (λ c. search all) (λ c. search all) (λ c. search all) (λ c. search all) (λ c. search all) (λ c. search all)
-    (λ c. search all))
+    (λ c. search all) (λ c. search all) (λ c. search all) (λ c. search all))

@@ -1,16 +1,19 @@
 -- `file_tower::fit::bad_targets` meets its contract.
--- The invariant: no number below the counter passes the test. The measure: how many are left.
+-- The invariant: the numbers from the counter on decide. The measure: how many there are.
 use Prim.Native.Nat.{_-_}
 use borrow.Author.Needs.{needs}
 use Rattle.file_tower.specs.Stages.{bad-targets-of}
-use Rattle.file_tower.proofs.Scans.{NoneBelow, none-start, none-more, found, none-left, scan-targets}
+use Rattle.area_bytes.proofs.Scans.{Left, left-below, some-found, some-more, some-end}
+use Rattle.base.specs.Lists.{some-of}
+use Rattle.logic.specs.Tower.{states-of}
+use Rattle.file_tower.proofs.Ways.{scan-targets}
 use Rattle.file_tower.proofs.fit.bad_targets.Statement.{statement}
 use Rattle.file_tower.proofs.fit.bad_targets.Tie as tie
 
-ruleset all = (needs, none-start, none-more, found, none-left, scan-targets)
+ruleset all = (needs, scan-targets, left-below, some-found, some-more, some-end)
 
 abbrev Inv-loop : tie.InvT-loop
-Inv-loop bytes states x₀ x = NoneBelow (bad-targets-of bytes) x
+Inv-loop bytes states x₀ x = Left (some-of (bad-targets-of bytes)) 0 (states-of bytes) states x
 
 abbrev μ-loop : tie.MeasureT-loop
 μ-loop bytes states x₀ x = states - x

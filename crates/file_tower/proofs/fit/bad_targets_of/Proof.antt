@@ -1,16 +1,19 @@
 -- `file_tower::fit::bad_targets_of` meets its contract.
--- The invariant: no number below the counter passes the test. The measure: how many are left.
+-- The invariant: the numbers from the counter on decide. The measure: how many there are.
 use Prim.Native.Nat.{_-_}
 use borrow.Author.Needs.{needs}
 use Rattle.file_tower.specs.Stages.{bad-target}
-use Rattle.file_tower.proofs.Scans.{NoneBelow, none-start, none-more, found, none-left, scan-targets-of}
+use Rattle.area_bytes.proofs.Scans.{Left, left-below, some-found, some-more, some-end}
+use Rattle.base.specs.Lists.{some-of}
+use Rattle.logic.specs.Tower.{actions-of}
+use Rattle.file_tower.proofs.Ways.{scan-targets-of}
 use Rattle.file_tower.proofs.fit.bad_targets_of.Statement.{statement}
 use Rattle.file_tower.proofs.fit.bad_targets_of.Tie as tie
 
-ruleset all = (needs, none-start, none-more, found, none-left, scan-targets-of)
+ruleset all = (needs, scan-targets-of, left-below, some-found, some-more, some-end)
 
 abbrev Inv-loop : tie.InvT-loop
-Inv-loop bytes x actions a₀ a = NoneBelow (bad-target bytes x) a
+Inv-loop bytes x actions a₀ a = Left (some-of (bad-target bytes x)) 0 (actions-of bytes) actions a
 
 abbrev μ-loop : tie.MeasureT-loop
 μ-loop bytes x actions a₀ a = actions - a

@@ -3,18 +3,16 @@
 use Prim.Native.Nat.{_-_, _≤_}
 use mathlib.Core.Path.{_≡_}
 use lib.ListN.{length}
-use Rattle.maker_classes.specs.View.{old-part}
-use Rattle.maker_classes.specs.Passes.{Passed}
-use Rattle.maker_classes.proofs.Ways.{passed-here, passed-on, pass-loop, pass-end}
+use Rattle.maker_classes.specs.Passes.{PassedFrom}
+use Rattle.maker_classes.proofs.Ways.{pass-start, pass-more, pass-end}
 use borrow.Author.Needs.{needs}
 use Rattle.maker_classes.proofs.pass.renumber.Statement.{statement}
 use Rattle.maker_classes.proofs.pass.renumber.Tie as tie
 
-ruleset all = (needs, passed-here, passed-on, pass-loop, pass-end)
+ruleset all = (needs, pass-start, pass-more, pass-end)
 
 abbrev Inv-loop : tie.InvT-loop
-Inv-loop graph flags actions n area₀ i₀ area i =
-    (Passed graph flags actions (old-part area₀) i area) × (length area ≡ length area₀) × (i ≤ n)
+Inv-loop graph flags actions n area₀ i₀ area i = (PassedFrom graph flags actions area₀ i area) × (length area ≡ length area₀) × (i ≤ n)
 
 abbrev μ-loop : tie.MeasureT-loop
 μ-loop graph flags actions n area₀ i₀ area i = n - i
@@ -22,6 +20,4 @@ abbrev μ-loop : tie.MeasureT-loop
 pub renumber-spec : {M : Type 1} → statement M
 renumber-spec =
     tie.close
-    (tie.spec Inv-loop μ-loop (λ c κs. search all) (λ c. (search pass-loop, search needs, search needs))
-    (λ c κs. (search needs, (search needs, (passed-here _ _ _ _ _ _ (c .before .before .loop .inv .0), search needs)))) (λ c. search all)
-    (λ c. search all) (λ c. (search passed-on, search needs, search needs)) (λ c. search all) (λ c. search pass-end))
+    (tie.spec Inv-loop μ-loop (λ c. search all) (λ c. search all) (λ c. search all) (λ c κs. search all) (λ c. search all) (λ c κs. (search needs, (search needs, (search needs, search needs)))) (λ c. search all) (λ c. search all) (λ c. search all) (λ c. search all) (λ c. search all))

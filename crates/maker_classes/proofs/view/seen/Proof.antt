@@ -1,10 +1,10 @@
--- `maker_classes::view.seen` meets its contract.
+-- `maker_classes::view::seen` meets its contract.
+use Rattle.maker_classes.proofs.Looks.{more-fits, target-there, shows-none, shows-class}
 use borrow.Author.Needs.{needs}
-use Rattle.maker_classes.proofs.Looks.{target-small, shows-none, shows-class}
 use Rattle.maker_classes.proofs.view.seen.Statement.{statement}
 use Rattle.maker_classes.proofs.view.seen.Tie as tie
 
-ruleset all = (needs, target-small, shows-none, shows-class)
+ruleset all = (needs, more-fits, target-there, shows-none, shows-class)
 
 pub seen-spec : {M : Type 1} → statement M
 seen-spec =

@@ -1,6 +1,6 @@
 -- `maker_removal::fine::is_fine` meets its contract.
 use borrow.Author.Tests.{not-true, not-false}
-use Rattle.maker_removal.proofs.Scans.{not-fine, fine-if-goes}
+use Rattle.maker_removal.proofs.Moves.{not-fine, fine-if-goes}
 use borrow.Author.Needs.{needs}
 use Rattle.maker_removal.proofs.fine.is_fine.Statement.{statement}
 use Rattle.maker_removal.proofs.fine.is_fine.Tie as tie

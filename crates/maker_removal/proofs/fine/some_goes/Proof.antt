@@ -1,20 +1,20 @@
 -- `maker_removal::fine::some_goes` meets its contract.
--- The invariant: no action below the counter goes on inside the safe pairs. The measure: how many actions are left.
+-- The invariant: the actions from the counter on decide. The measure: how many there are.
 use Prim.Native.Nat.{_-_}
-use mathlib.Core.Bool.{false}
+use Rattle.base.specs.Lists.{some-of}
 use Rattle.logic.specs.Tower.{tower-of}
 use Rattle.pair_graph.specs.Steps.{safe-in}
 use Rattle.maker_removal.specs.Removal.{goes-at}
-use Rattle.maker_removal.proofs.Moves.{judged-fit}
-use Rattle.maker_removal.proofs.Scans.{SameBelow, same-start, same-more, one-goes, none-goes}
+use Rattle.area_bytes.proofs.Scans.{Left, left-below, some-found, some-more, some-end}
+use Rattle.maker_removal.proofs.Moves.{scan-goes}
 use borrow.Author.Needs.{needs}
 use Rattle.maker_removal.proofs.fine.some_goes.Statement.{statement}
 use Rattle.maker_removal.proofs.fine.some_goes.Tie as tie
 
-ruleset all = (needs, judged-fit, same-start, same-more, one-goes, none-goes)
+ruleset all = (needs, scan-goes, left-below, some-found, some-more, some-end)
 
 abbrev Inv-loop : tie.InvT-loop
-Inv-loop tower graph n i flags actions a₀ a = SameBelow (goes-at (tower-of tower) graph (safe-in flags) i) false a
+Inv-loop tower graph n i flags actions a₀ a = Left (some-of (goes-at (tower-of tower) graph (safe-in flags) i)) 0 (tower-of tower .actions) actions a
 
 abbrev μ-loop : tie.MeasureT-loop
 μ-loop tower graph n i flags actions a₀ a = actions - a

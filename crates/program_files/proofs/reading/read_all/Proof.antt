@@ -1,13 +1,13 @@
--- The loop keeps `ReadSoFar`; the number of turns left falls.
+-- The loop keeps `FileReadSoFar`; the number of turns left falls.
 use borrow.Author.Needs.{needs}
-use Rattle.program_files.proofs.Ways.{ReadSoFar, read-none, read-more, read-ended, read-full, holds-nothing}
+use Rattle.program_files.proofs.Ways.{FileReadSoFar, read-none, read-more, read-ended, read-full, holds-nothing}
 use Rattle.program_files.proofs.reading.read_all.Statement.{statement}
 use Rattle.program_files.proofs.reading.read_all.Tie as tie
 
 ruleset all = (needs, read-none, read-more, read-ended, read-full, holds-nothing)
 
 abbrev Inv-loop : tie.InvT-loop
-Inv-loop fd path buf₀ done₀ turns₀ buf done turns = ReadSoFar buf₀ buf done
+Inv-loop fd path buf₀ done₀ turns₀ buf done turns = FileReadSoFar buf₀ buf done
 
 abbrev μ-loop : tie.MeasureT-loop
 μ-loop fd path buf₀ done₀ turns₀ buf done turns = turns

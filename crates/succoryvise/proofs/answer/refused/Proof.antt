@@ -7,4 +7,4 @@ use Rattle.succoryvise.proofs.answer.refused.Tie as tie
 ruleset all = (needs, refusal-shown)
 
 pub refused-spec : {M : Type 1} → statement M
-refused-spec = tie.close (tie.spec (λ c κs. search all) (λ c κs. search all) (λ c κs. search all) (λ c. search all))
+refused-spec = tie.close (tie.spec (λ c κs. search all) (λ c κs. search all) (λ c. search all))

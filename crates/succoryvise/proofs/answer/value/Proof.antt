@@ -1,10 +1,9 @@
 -- `succoryvise::answer::value` meets its contract.
 use borrow.Author.Needs.{needs}
-use Rattle.refusal_numbers.specs.Parts.{said-number, said-place, said-letter}
-use Rattle.succoryvise.specs.Shown.{said-values, shown}
+use Rattle.succoryvise.specs.Shown.{shown}
 use Rattle.succoryvise.proofs.answer.value.Statement.{statement}
 use Rattle.succoryvise.proofs.answer.value.Tie as tie
 
 pub value-spec : {M : Type 1} → statement M
-unfolding shown said-values said-number said-place said-letter
+unfolding shown
 value-spec = tie.close (tie.spec (λ c. search needs))
