@@ -52,11 +52,6 @@ same-bytes (suc width) l p q bytes e (suc m) less =
 
 -- ---- the hash
 
-multiplier-small : (k : ℕ) → multiplier k < 268435456
-unfolding multiplier
-multiplier-small zero = omega arith
-multiplier-small (suc k) = omega arith
-
 -- The loop over the numbers of entry i, k of which have gone into h; m is the next multiplier.
 pub record Hashing (entries : List ℕ) (i h m k : ℕ) : Type 0 where
   pub small : h < 1152921504606846976 * (k + 1)

@@ -50,11 +50,6 @@ tower-walkable tower table nodes world =
       held = world .held;
     }
 
--- By its states it is the tower itself.
-pub walked-tower : (tower table : List ℕ) → walked tower table false ≡ tower-of tower
-unfolding walked
-walked-tower tower table = refl
-
 -- ---- the rows of a table
 
 -- The state of a row is the one in the file.
@@ -109,11 +104,6 @@ module _ (tower table : List ℕ) where
   unfolding walked rows-tower
   walked-actions true = refl
   walked-actions false = refl
-
-  pub walked-kinds : (rows : Bool) (a : ℕ) → walked tower table rows .kind a ≡ tower-of tower .kind a
-  unfolding walked rows-tower
-  walked-kinds true a = refl
-  walked-kinds false a = refl
 
   pub walked-length : (rows : Bool) (x a : ℕ) → walked tower table rows .step-length x a ≡ tower-of tower .step-length (tower-state table rows x) a
   unfolding walked rows-tower tower-state
