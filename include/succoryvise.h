@@ -42,7 +42,7 @@ enum succoryvise_number {
     SUCCORYVISE_DONE = 0,         /* no refusal: the answer has its values */
     SUCCORYVISE_TOWER_SIZE = 1,   /* tower: an offset of the header or the length is wrong */
     SUCCORYVISE_RANGE = 2,        /* tower: a count or the start is out of range */
-    SUCCORYVISE_ACTION = 3,       /* tower: an action of length 0, or of a kind above 1 */
+    SUCCORYVISE_ACTION = 3,       /* tower: an action of length 0, or of a kind above 2 */
     SUCCORYVISE_TARGET = 4,       /* tower: a target that is neither a state nor 255 */
     SUCCORYVISE_MASK = 5,         /* tower: a mask with a bit at or above P */
     SUCCORYVISE_GRAMMAR = 6,      /* book: a line is not of the grammar */
@@ -63,9 +63,9 @@ enum succoryvise_number {
 /* The letters of a 14. */
 enum succoryvise_letter {
     SUCCORYVISE_START = 'a',    /* row 0 has not the tower's start state */
-    SUCCORYVISE_WITHHELD = 'b', /* an enabled action of the player's is not allowed */
+    SUCCORYVISE_WITHHELD = 'b', /* an enabled action of kind 0 or 2 is not allowed */
     SUCCORYVISE_WRONG_STEP = 'c',     /* an action that is not enabled, or leads to a row of another state */
-    SUCCORYVISE_STOPPED = 'd',  /* no action is allowed */
+    SUCCORYVISE_STOPPED = 'd',  /* no action of kind 1 or 2 is allowed */
     SUCCORYVISE_BROKEN = 'e'    /* an allowed run is broken */
 };
 

@@ -165,12 +165,25 @@ pub fn with_items(count: usize) -> Ruled {
     search(count, false, from, |ruled| ruled.items == count)
 }
 
+/// Whether the same table is made where the player is sure to come: then none of it hangs on pairs that
+/// wait for the player alone, and a library that kept those makes it, too.
+fn never_waits(ruled: &Ruled) -> bool {
+    let mut tower = ruled.tower.clone();
+    for kind in tower[8..8 + 2 * 16].iter_mut().skip(1).step_by(2) {
+        if *kind == 0 {
+            *kind = 2;
+        }
+    }
+    let sure = Ruled::of(tower, ruled.book.clone());
+    sure.is_some_and(|sure| sure.table == ruled.table)
+}
+
 /// A tower and a book with so many pairs, for the maker. From a tenth to a quarter are removed.
 pub fn with_pairs(count: usize) -> Ruled {
-    let from = first_seed([(250, 46), (500, 103), (1_000, 1_647)], count);
+    let from = first_seed([(250, 671), (500, 103), (1_000, 1_647)], count);
     let kept = count - count / 4..=count - count / 10;
     search(count, true, from, |ruled| {
-        ruled.size.pairs == count && kept.contains(&ruled.size.kept)
+        ruled.size.pairs == count && kept.contains(&ruled.size.kept) && never_waits(ruled)
     })
 }
 
@@ -323,8 +336,9 @@ pub fn table_counts(table: &[u8]) -> [usize; 2] {
 
 /// The table of the small tower under its book 1.
 pub fn small_table() -> Vec<u8> {
-    let line = vectors::lines("make.txt").into_iter().next();
-    let table = line.expect("a first vector").answer;
+    let mut lines = vectors::lines("make.txt").into_iter();
+    let line = lines.find(|line| line.answer.starts_with("made 05000600"));
+    let table = line.expect("a vector with 5 rows and 6 steps").answer;
     vectors::bytes(table.strip_prefix("made ").expect("a table"))
 }
 

@@ -7,17 +7,23 @@ use crate::plain::follow::follow;
 use crate::plain::make::Maker;
 use crate::plain::table::MOST_BYTES;
 use std::fs;
-use std::path::Path;
+use std::path::{Path, PathBuf};
 
 pub struct Line {
     pub inputs: Vec<String>,
     pub answer: String,
 }
 
-/// The lines of a file of vectors.
+/// The lines of the files of this name, of the folder and of those in it.
 pub fn lines(file: &str) -> Vec<Line> {
     let folder = Path::new(env!("CARGO_MANIFEST_DIR")).join("../tests/vectors");
-    let text = fs::read_to_string(folder.join(file)).expect("a file of vectors");
+    let inside = fs::read_dir(&folder).expect("a folder of vectors");
+    let mut folders: Vec<PathBuf> = inside.map(|entry| entry.expect("a file").path()).collect();
+    folders.retain(|path| path.join(file).is_file());
+    folders.sort();
+    folders.insert(0, folder);
+    let read = |folder: &PathBuf| fs::read_to_string(folder.join(file)).expect("a file of vectors");
+    let text: String = folders.iter().map(read).collect();
     let line = |line: &str| {
         let (inputs, answer) = line.split_once(" = ").expect("inputs and an answer");
         Line {

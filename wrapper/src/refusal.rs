@@ -35,7 +35,7 @@ pub enum Refusal {
     /// 2: a count or the start state of the tower is out of range, or a book is read for too many
     /// marks.
     Range,
-    /// 3: an action of the tower has length 0 or a kind above 1.
+    /// 3: an action of the tower has length 0 or a kind above 2.
     Action,
     /// 4: a target of the tower is neither a state nor 255.
     Target,
@@ -104,7 +104,7 @@ pub enum Refusal {
 pub enum Reason {
     /// a: row 0 has not the tower's start state.
     Start,
-    /// b: an enabled action of the player's is not allowed in this row.
+    /// b: an enabled action of kind 0 or 2 is not allowed in this row.
     #[non_exhaustive]
     Withheld {
         /// The row.
@@ -116,7 +116,7 @@ pub enum Reason {
         /// The row.
         row: usize,
     },
-    /// d: no action is allowed in this row.
+    /// d: no action of kind 1 or 2 is allowed in this row.
     #[non_exhaustive]
     Stopped {
         /// The row.
@@ -286,9 +286,9 @@ impl fmt::Display for Reason {
     fn fmt(&self, f: &mut fmt::Formatter) -> fmt::Result {
         match self {
             Reason::Start => f.write_str("row 0 has not the start state"),
-            Reason::Withheld { row } => write!(f, "row {row} withholds an action of the player's"),
+            Reason::Withheld { row } => write!(f, "row {row} withholds an action that is not ours"),
             Reason::WrongStep { row } => write!(f, "row {row} has a step that the tower does not have"),
-            Reason::Stopped { row } => write!(f, "row {row} allows no action"),
+            Reason::Stopped { row } => write!(f, "row {row} allows no action but the player's"),
             Reason::Broken => f.write_str("it allows a run that breaks a rule"),
             Reason::Other { letter, place } => write!(f, "reason {letter}, place {place}"),
         }
@@ -368,7 +368,7 @@ mod tests {
         assert_eq!(refusal(6, 2, 0).to_string(), "line 3 is not of the grammar");
         assert_eq!(
             refusal(14, 2, b'd').to_string(),
-            "the table is not good: row 2 allows no action"
+            "the table is not good: row 2 allows no action but the player's"
         );
         assert_eq!(
             refusal(19, 2, 0).to_string(),

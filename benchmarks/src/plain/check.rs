@@ -108,19 +108,21 @@ fn judge_row(tower: &Tower, table: &Table, row: usize) -> Result<(), Refusal> {
     let state = table.state(row);
     let mut allowed = 0u16;
     let mut led_astray = false;
+    let mut goes_on = false;
     for step in table.steps(row) {
         allowed |= 1 << step.action;
+        goes_on |= tower.goes_on(step.action);
         led_astray |= tower.target(state, step.action) != Some(table.state(step.target));
     }
     for (action, target) in tower.targets(state).enumerate() {
-        if target.is_some() && allowed >> action & 1 == 0 && tower.is_players(action) {
+        if target.is_some() && allowed >> action & 1 == 0 && tower.is_forced(action) {
             return Err(Refusal::not_good(b'b', row));
         }
     }
     if led_astray {
         return Err(Refusal::not_good(b'c', row));
     }
-    if allowed == 0 {
+    if !goes_on {
         return Err(Refusal::not_good(b'd', row));
     }
     Ok(())

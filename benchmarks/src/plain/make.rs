@@ -144,9 +144,10 @@ impl Maker {
                 let inside = |target: Number| target < BROKEN && kept[usize::from(target)];
                 let steps = self.steps[pair][..tower.actions].iter().enumerate();
                 let forced = steps.clone().any(|(action, &target)| {
-                    tower.is_players(action) && target != NOT_ENABLED && !inside(target)
+                    tower.is_forced(action) && target != NOT_ENABLED && !inside(target)
                 });
-                let goes = steps.clone().any(|(_, &target)| inside(target));
+                let goes_on = |(action, &target)| tower.goes_on(action) && inside(target);
+                let goes = steps.clone().any(goes_on);
                 if forced || !goes {
                     kept[pair] = false;
                     gone = true;
@@ -203,8 +204,8 @@ impl Maker {
         Ok(())
     }
 
-    /// Keeps the pairs from which neither a break nor a stop can be forced: a pair goes once a
-    /// player's action is lost there, or every action.
+    /// Keeps the pairs from which neither a break nor a stop can be forced: a pair goes once an action
+    /// is lost there that may not be withheld, or every action that goes on.
     fn remove(&mut self, tower: &Tower) {
         self.list_leading();
         let count = self.pairs.len();
@@ -213,9 +214,10 @@ impl Maker {
         self.left.clear();
         self.to_remove.clear();
         for (pair, steps) in self.steps.iter().enumerate() {
-            let left = steps.iter().filter(|target| **target < BROKEN).count();
-            let players = |action: usize| tower.is_players(action);
-            let lost = (0..tower.actions).any(|a| steps[a] == BROKEN && players(a));
+            let onward = |action: &usize| steps[*action] < BROKEN && tower.goes_on(*action);
+            let left = (0..tower.actions).filter(onward).count();
+            let forced = |action: usize| tower.is_forced(action);
+            let lost = (0..tower.actions).any(|a| steps[a] == BROKEN && forced(a));
             self.left.push(left as u8);
             if lost || left == 0 {
                 self.kept[pair] = false;
@@ -226,9 +228,9 @@ impl Maker {
             let removed = usize::from(removed);
             let part = self.begins[removed]..self.begins[removed + 1];
             for &(pair, action) in &self.leading[part] {
-                let at = usize::from(pair);
-                self.left[at] -= 1;
-                let lost = self.left[at] == 0 || tower.is_players(usize::from(action));
+                let (at, action) = (usize::from(pair), usize::from(action));
+                self.left[at] -= u8::from(tower.goes_on(action));
+                let lost = self.left[at] == 0 || tower.is_forced(action);
                 if lost && self.kept[at] {
                     self.kept[at] = false;
                     self.to_remove.push(pair);

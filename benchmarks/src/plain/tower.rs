@@ -10,6 +10,10 @@ const MOST_STATES: usize = 200;
 const MOST_MARKS: usize = 16;
 const NOT_ENABLED: u8 = 255;
 
+/// The kinds but the player's, 0: ours, and what is sure to come.
+const OURS: u8 = 1;
+const SURE: u8 = 2;
+
 /// A tower that is fit to use, in its file.
 #[derive(Clone, Copy)]
 pub struct Tower<'a> {
@@ -56,7 +60,7 @@ impl<'a> Tower<'a> {
     /// 3, 4 and 5, each in the whole file before the next.
     fn judge_bytes(&self) -> Result<(), Refusal> {
         let mut actions = self.action_bytes.chunks_exact(2);
-        if actions.any(|action| action[0] == 0 || action[1] > 1) {
+        if actions.any(|action| action[0] == 0 || action[1] > SURE) {
             return Err(Refusal::new(3));
         }
         let states = || self.state_bytes.chunks_exact(2 + self.actions);
@@ -75,8 +79,18 @@ impl<'a> Tower<'a> {
         self.action_bytes[2 * action]
     }
 
-    pub fn is_players(&self, action: usize) -> bool {
-        self.action_bytes[2 * action + 1] == 0
+    fn kind(&self, action: usize) -> u8 {
+        self.action_bytes[2 * action + 1]
+    }
+
+    /// The action may not be withheld.
+    pub fn is_forced(&self, action: usize) -> bool {
+        self.kind(action) != OURS
+    }
+
+    /// The action counts as going on.
+    pub fn goes_on(&self, action: usize) -> bool {
+        self.kind(action) != 0
     }
 
     fn state(&self, state: usize) -> &'a [u8] {

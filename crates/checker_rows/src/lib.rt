@@ -10,7 +10,6 @@ ghost use Rattle.checker_rows.specs.declared.RowVerdict.the-variants.{Ri
 use base::Reason;
 use file_table::Target;
 use file_tower::Reached;
-use file_tower::kinds;
 
 // Whether the rows are right, or the first reason why not.
 pub enum RowVerdict {
@@ -37,7 +36,7 @@ fn withheld(tower: &[u8], table: &[u8], r: usize, a: usize) -> bool
     requires { ⌜ a < tower-of (now tower) .actions ⌝ }
     ensures { λ b. ⌜ b ≡ withheld (tower-of (now (tower .entry))) (table-of (now (table .entry))) r a ⌝ }
 {
-    if kinds::controllable(file_tower::kind(tower, a)) {
+    if file_kinds::controllable(file_tower::kind(tower, a)) {
         return false;
     }
     let reached = file_tower::target(tower, file_table::row_state(table, r), a);
@@ -114,7 +113,7 @@ fn stopped(tower: &[u8], table: &[u8], r: usize) -> bool
     let mut i = file_table::row_first(table, r);
     let end = i + file_table::row_count(table, r);
     while i < end {
-        if kinds::goes_on(file_tower::kind(tower, file_table::step_action(table, i))) {
+        if file_kinds::goes_on(file_tower::kind(tower, file_table::step_action(table, i))) {
             return false;
         }
         i += 1;

@@ -107,12 +107,12 @@ fit-action-length {bytes} fit a l =
     let e = none-at (bad-action bytes) (actions-of bytes) a (fit .actions) l in
     omega (arith, eqb-false (length-of bytes a) 0 (or-fails-left (eqb (length-of bytes a) 0) (ltb last-kind (kind-of bytes a)) e))
 
--- An action of a fit file is of kind 0 or 1.
-pub fit-action-kind : {bytes : List ℕ} → FitTower bytes → (a : ℕ) → a < actions-of bytes → kind-of bytes a ≤ 1
-unfolding bad-actions bad-action last-kind
+-- An action of a fit file is of a known kind.
+pub fit-action-kind : {bytes : List ℕ} → FitTower bytes → (a : ℕ) → a < actions-of bytes → kind-of bytes a ≤ last-kind
+unfolding bad-actions bad-action
 fit-action-kind {bytes} fit a l =
     let e = none-at (bad-action bytes) (actions-of bytes) a (fit .actions) l in
-    ltb-false 1 (kind-of bytes a) (or-fails-right (eqb (length-of bytes a) 0) (ltb last-kind (kind-of bytes a)) e)
+    ltb-false last-kind (kind-of bytes a) (or-fails-right (eqb (length-of bytes a) 0) (ltb last-kind (kind-of bytes a)) e)
 
 -- Whatever is enabled is one of the tower's actions.
 pub tower-listed : (bytes : List ℕ) → Listed (tower-of bytes)
@@ -154,7 +154,7 @@ pub record TowerBounds (tower : Tower) : Type 0 where
   pub actions-most : tower .actions ≤ 16
   pub marks-most : tower .marks ≤ 16
   pub start-below : tower .start < tower .states
-  pub kinds : (a : ℕ) → a < tower .actions → tower .kind a ≤ 1
+  pub kinds : (a : ℕ) → a < tower .actions → tower .kind a ≤ last-kind
   pub lengths : (x a : ℕ) → a < tower .actions → 1 ≤ tower .step-length x a .0
   pub targets : (x a y : ℕ) → x < tower .states → tower .target x a ≡ some y → y < tower .states
   pub listed : Listed tower

@@ -111,11 +111,12 @@ unfolding bad-action
 action-length bytes a d e f = let h : eqb (length-of bytes a) 0 ≡ true = eq-eqb (length-of bytes a) 0 (sym e ∙ f) in rw h
 
 -- The length is not 0: the kind decides.
-pub action-kind : (bytes : List ℕ) (a d k : ℕ) → d ≡ length-of bytes a → (d ≡ 0 → ⊥) → k ≡ kind-of bytes a → ltb 1 k ≡ bad-action bytes a
-unfolding bad-action last-kind
-action-kind bytes a d k e f g =
+pub action-kind : (bytes : List ℕ) (a d k : ℕ) (r : Bool) → d ≡ length-of bytes a → (d ≡ 0 → ⊥) → k ≡ kind-of bytes a → r ≡ ltb last-kind k
+    → r ≡ bad-action bytes a
+unfolding bad-action
+action-kind bytes a d k r e f g u =
     let h : eqb (length-of bytes a) 0 ≡ false = ne-eqb (length-of bytes a) 0 (λ z. f (e ∙ z)) in
-    rw (h, g)
+    rw (h, u, g)
 
 module _ (bytes : List ℕ) (x a y s : ℕ) (at-y : y ≡ target-of bytes x a) (at-s : s ≡ states-of bytes) where
   -- The target is a state.

@@ -6,10 +6,8 @@ ghost use Rattle.logic.specs.Tower.{states-of, actions-of, no-header, bad-count
 ghost use Rattle.file_tower.specs.Stages.{Headed, Counted, Sized, bad-offsets, bad-action, bad-target, bad-targets-of, bad-mask};
 use crate::fields;
 
-// The most marks, and the largest kind.
+// The most marks.
 const MOST_MARKS: usize = 16;
-
-const LAST_KIND: usize = 1;
 
 // 1: the header is not whole.
 pub fn no_header(bytes: &[u8]) -> bool
@@ -71,7 +69,7 @@ fn bad_action(bytes: &[u8], a: usize) -> bool
     if fields::length_of(bytes, a) == 0 {
         return true;
     }
-    LAST_KIND < fields::kind_of(bytes, a)
+    file_kinds::unknown(fields::kind_of(bytes, a))
 }
 
 // 3: an action of length 0, or of no known kind.

@@ -2,7 +2,6 @@
 // that is. Its answers are those of `read-tower` and `tower-of`, the definitions.
 mod fields;
 mod fit;
-pub mod kinds;
 
 ghost use Prim.Native.Nat.{_<_};
 ghost use mathlib.Core.Path.{_≡_};
@@ -82,7 +81,7 @@ pub fn start(bytes: &[u8]) -> usize
     fields::start_of(bytes)
 }
 
-// The kind of action a: 0 the player's, 1 ours.
+// The kind of action a (crates/file_kinds).
 pub fn kind(bytes: &[u8], a: usize) -> usize
     requires { ⌜ FitTower (now bytes) ⌝ }
     requires { ⌜ a < tower-of (now bytes) .actions ⌝ }

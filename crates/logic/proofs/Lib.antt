@@ -3,3 +3,4 @@ pub mod Canonical
 pub mod Layouts
 pub mod TableFile
 pub mod TowerFile
+pub mod ActionKinds

@@ -32,17 +32,19 @@ pub record Tower : Type 0 where
 unfoldable pub Listed : Tower → Type 0
 Listed tower = (x a y : ℕ) → tower .target x a ≡ some y → a < tower .actions
 
--- An action of this kind may be withheld: it is controllable. Kind 0 is the player's, kind 1 is ours.
+-- The kinds of actions: 0 is the player's, 1 is ours, 2 comes without us and is sure to come, as the clock's train (02, item 1).
+
+-- An action of this kind may be withheld: it is controllable. Only ours is.
 unfoldable pub controllable : ℕ → Bool
 controllable kind = eqb kind 1
 
--- An action of this kind counts as going on: a row that allows one has not stopped. Here every kind does.
+-- An action of this kind counts as going on: a row that allows one has not stopped. The player may walk away, so the player's do not.
 unfoldable pub goes-on : ℕ → Bool
-goes-on kind = true
+goes-on kind = eqb kind 1 || eqb kind 2
 
 -- the largest kind
 unfoldable pub last-kind : ℕ
-last-kind = 1
+last-kind = 2
 
 -- the most actions and marks
 unfoldable pub most-actions : ℕ

@@ -4,7 +4,6 @@ ghost use mathlib.Core.Path.{_≡_};
 ghost use Rattle.logic.specs.Tower.{tower-of};
 ghost use Rattle.pair_graph.specs.Steps.{move-at, safe-in};
 ghost use Rattle.maker_removal.specs.Removal.{leads-inside, not-forced-at, goes-at, none-forced, some-goes, fine-at, PairInput};
-use file_tower::kinds;
 use pair_graph::Led;
 
 // Action a leads from pair i to a safe pair.
@@ -27,7 +26,7 @@ fn not_forced(tower: &[u8], graph: &[u8], n: usize, i: usize, a: usize, flags: &
     requires { ⌜ a < tower-of (now tower) .actions ⌝ }
     ensures { λ r. ⌜ r ≡ not-forced-at (tower-of (now (tower .entry))) (now (graph .entry)) (safe-in (now (flags .entry))) i a ⌝ }
 {
-    if kinds::controllable(file_tower::kind(tower, a)) {
+    if file_kinds::controllable(file_tower::kind(tower, a)) {
         return true;
     }
     if !pair_graph::enabled(graph, i, a) {
@@ -42,7 +41,7 @@ fn goes(tower: &[u8], graph: &[u8], n: usize, i: usize, a: usize, flags: &[u8]) 
     requires { ⌜ a < tower-of (now tower) .actions ⌝ }
     ensures { λ r. ⌜ r ≡ goes-at (tower-of (now (tower .entry))) (now (graph .entry)) (safe-in (now (flags .entry))) i a ⌝ }
 {
-    if !kinds::goes_on(file_tower::kind(tower, a)) {
+    if !file_kinds::goes_on(file_tower::kind(tower, a)) {
         return false;
     }
     leads_inside(tower, graph, n, i, a, flags)

@@ -21,9 +21,9 @@ const GONE: u8 = 0;
 // Where the worklist begins.
 const WORKLIST_AT: usize = 35000;
 
-// Leaves the flag 1 at just the pairs of the largest set that are fine among themselves: no action of
-// the player leads out of the set, and some action goes on inside it. From every other pair a broken
-// rule or a stop can be forced.
+// Leaves the flag 1 at just the pairs of the largest set that are fine among themselves: no action that
+// may not be withheld leads out of the set, and some action that counts as going on leads on inside it.
+// From every other pair a broken rule or a stop can be forced.
 pub fn remove(tower: &[u8], graph: &[u8], n: usize, area: &mut [u8])
     requires { ⌜ FitTower (now tower) ⌝ }
     requires { ⌜ HoldsGraph n (tower-of (now tower) .actions) (now graph) ⌝ }

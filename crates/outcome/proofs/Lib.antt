@@ -18,4 +18,5 @@ pub mod Answering
 pub mod Demands
 pub mod Instances
 pub mod TinyTowers
+pub mod KindTable
 pub mod RefusalTable

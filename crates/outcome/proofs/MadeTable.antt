@@ -262,7 +262,7 @@ module _ (tower : Tower) (book : Book) where
         let (w, f, g) = there-with-out (safe tower book) (pair-step tower book (pair-of tower book r) a) e in
         allowed-in r l a w (only-if-in (safe tower book) f g)
 
-    -- (b) In no row is an action of the player's withheld.
+    -- (b) In no row is an action withheld that may not be.
     made-withheld : (r : ℕ) → r < length (row-pairs tower book) → NoneWithheld tower (made-table tower book) r
     unfolding NoneWithheld fine forced-right Listed
     made-withheld r l a y e ours =
@@ -349,7 +349,7 @@ module _ (tower : Tower) (book : Book) where
     made-action : (r a s : ℕ) → r < length (row-pairs tower book) → move (made-table tower book) r a ≡ some s → a < tower .actions
     made-action r a s l e = let (w, f, g) = allowed-out r l a s e in safe-listed tower book known (pair-of tower book r) a w f
 
--- What the made table is: a table that begins at the start, follows the tower, withholds nothing of the player's and goes on in every row.
+-- What the made table is: a table that begins at the start, follows the tower, withholds only what may be withheld and goes on in every row.
 -- Its rows are apart and numbered as first met, its actions ascend, and it is small enough for its file. Its runs are those that lead over
 -- allowed actions from the first pair, each to the row of the pair reached.
 pub record MadeSo (tower : Tower) (book : Book) : Type 0 where

@@ -16,12 +16,12 @@ use Rattle.outcome.proofs.FitCalls.{file-answered}
 use Rattle.outcome.proofs.Answering.{made-refused}
 
 -- a refusal of the files is said
-says-refused : (tower : List ℕ) (book : String) (r : Refusal) → made-file tower (ascii book) ≡ refuse r → Says tower book (refusal-said r)
+pub says-refused : (tower : List ℕ) (book : String) (r : Refusal) → made-file tower (ascii book) ≡ refuse r → Says tower book (refusal-said r)
 unfolding Says make-said
 says-refused tower book r e output areas room enough = ap make-said (made-refused tower (ascii book) output areas enough r e)
 
 -- a file that is made is said by its length
-says-made : (tower : List ℕ) (book : String) (file : List ℕ) → length file ≤ 26 → made-file tower (ascii book) ≡ give file
+pub says-made : (tower : List ℕ) (book : String) (file : List ℕ) → length file ≤ 26 → made-file tower (ascii book) ≡ give file
     → Says tower book (answered (length file ∷ []))
 unfolding Says make-said
 says-made tower book file few e output areas room enough =

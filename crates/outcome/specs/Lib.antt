@@ -15,4 +15,5 @@ pub mod RightAnswer
 pub mod Shown
 pub mod SmallTower
 pub mod TinyTowers
+pub mod KindTable
 pub mod RefusalTable

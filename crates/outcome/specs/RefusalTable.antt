@@ -76,9 +76,10 @@ pub record RefusalTable : Type 0 where
   pub no-2-start : TowerSays (with-byte 3 3) (refused 2 0 [])
   pub no-2-marks : TowerSays (with-byte 2 17) (refused 2 0 [])
   pub fit-marks : TowerSays (with-byte 2 16) let-pass
-  -- 3: length 0, kind above 1
+  -- 3: length 0, kind above 2
   pub no-3 : TowerSays (with-byte 8 0) (refused 3 0 [])
-  pub no-3-kind : TowerSays (with-byte 9 2) (refused 3 0 [])
+  pub no-3-kind : TowerSays (with-byte 9 3) (refused 3 0 [])
+  pub fit-kind : TowerSays (with-byte 9 2) let-pass
   pub fit-length : TowerSays (with-byte 8 255) let-pass
   -- 4: target neither below S nor 255
   pub no-4 : TowerSays (with-byte 20 3) (refused 4 0 [])

@@ -6,6 +6,7 @@ pub mod layout;
 mod steps;
 
 pub use fields::actions;
+pub use fields::row_count;
 pub use fields::row_state;
 pub use fields::rows;
 pub use fields::states;

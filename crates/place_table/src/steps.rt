@@ -26,9 +26,9 @@ fn has(bytes: &[u8], row: usize, action: usize) -> bool {
     step_of(bytes, row, action) < fields::steps_count(bytes)
 }
 
-// Whether a row withholds an action of the player's that is enabled.
+// Whether a row withholds an action that is enabled and may not be withheld.
 fn withholds(tower: &[u8], bytes: &[u8], row: usize, action: usize) -> bool {
-    if place_tower::kind(tower, action) != 0 {
+    if file_kinds::controllable(place_tower::kind(tower, action)) {
         return false;
     }
     if target(tower, fields::row_state(bytes, row), action) == NONE {
@@ -37,7 +37,7 @@ fn withholds(tower: &[u8], bytes: &[u8], row: usize, action: usize) -> bool {
     !has(bytes, row, action)
 }
 
-// The first action of the player's that a row withholds, or 255.
+// The first such action of a row, or 255.
 pub fn withheld(tower: &[u8], bytes: &[u8], row: usize) -> usize {
     let actions = place_tower::actions(tower);
     let mut action = 0;

@@ -34,14 +34,14 @@ fn spot_at(state: usize, action: usize, at: usize, value: usize) -> Spot {
     }
 }
 
-// What is wrong with an action: its length is 0, or its kind is above 1.
+// What is wrong with an action: its length is 0, or there is no such kind.
 fn action_spot(bytes: &[u8], action: usize) -> Spot {
     let at = fields::action_place(action);
     if number_at(bytes, at) == 0 {
         return spot_at(0, action, at, 0);
     }
     let kind = fields::kind(bytes, action);
-    if 1 < kind {
+    if file_kinds::unknown(kind) {
         return spot_at(0, action, plus(at, 1), kind);
     }
     nowhere()
@@ -140,12 +140,20 @@ pub fn bad_mask(bytes: &[u8]) -> Spot {
     nowhere()
 }
 
-// Whether some action is enabled in the state that begins at a place.
+// Whether an action is enabled in the state that begins at a place, and counts as going on.
+fn leads_on(bytes: &[u8], at: usize, action: usize) -> bool {
+    if number_at(bytes, plus(at, plus(2, action))) == 255 {
+        return false;
+    }
+    file_kinds::goes_on(fields::kind(bytes, action))
+}
+
+// Whether some action is.
 fn goes_on(bytes: &[u8], at: usize) -> bool {
     let actions = fields::actions(bytes);
     let mut action = 0;
     while action < actions {
-        if number_at(bytes, plus(at, plus(2, action))) != 255 {
+        if leads_on(bytes, at, action) {
             return true;
         }
         action += 1;
@@ -153,7 +161,7 @@ fn goes_on(bytes: &[u8], at: usize) -> bool {
     false
 }
 
-// The first state that no action leaves, or the number of states.
+// The first state that no action leaves but the player's, or the number of states.
 pub fn stuck(bytes: &[u8]) -> usize {
     let states = fields::states(bytes);
     let mut state = 0;

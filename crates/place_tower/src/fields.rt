@@ -33,7 +33,7 @@ pub fn action_place(action: usize) -> usize {
     plus(8, plus(action, action))
 }
 
-// The kind of an action: 0 the player's, 1 ours.
+// The kind of an action (crates/file_kinds).
 pub fn kind(bytes: &[u8], action: usize) -> usize {
     number_at(bytes, plus(action_place(action), 1))
 }

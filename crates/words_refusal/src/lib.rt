@@ -56,7 +56,7 @@ fn explain(
         Refusal::NoTable => {
             in_file(
                 book,
-                b"no table is good for this tower: the rules cannot be kept for ever, whatever is withheld",
+                b"no table is good for this tower: whatever is withheld, a rule is broken, or nobody but the player can go on",
             );
         }
         Refusal::Layout => {

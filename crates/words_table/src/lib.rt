@@ -173,17 +173,27 @@ fn of_row(table: &[u8], bytes: &[u8], row: usize) {
     say(b": ");
 }
 
-// b: the player's action that is withheld.
+// Whose an action is that may not be withheld.
+fn whose(tower: &[u8], action: usize) {
+    if file_kinds::goes_on(place_tower::kind(tower, action)) {
+        say(b" is sure to come");
+        return;
+    }
+    say(b" is the player's");
+}
+
+// b: the action that is withheld and may not be.
 fn withheld(table: &[u8], bytes: &[u8], tower: &[u8], row: usize) {
     of_row(table, bytes, row);
     let action = place_table::withheld(tower, bytes, row);
     if action == NONE {
-        say(b"a player's action is enabled there and not allowed\n");
+        say(b"an action that may not be withheld is enabled there and not allowed\n");
         return;
     }
     say(b"action ");
     say_number(action);
-    say(b" is the player's and enabled there, and the row does not allow it\n");
+    whose(tower, action);
+    say(b" and enabled there, and the row does not allow it\n");
 }
 
 // An allowed action leads to a row of another state.
@@ -218,10 +228,16 @@ fn wrong_step(table: &[u8], bytes: &[u8], tower: &[u8], row: usize) {
     other_state(bytes, row, action, state);
 }
 
-// d: the row has no step.
+// d: the row has no step, or steps of the player's alone.
 fn stopped(table: &[u8], bytes: &[u8], row: usize) {
     of_row(table, bytes, row);
-    say(b"the row allows no action, so that the tower stops there\n");
+    if place_table::row_count(bytes, row) == 0 {
+        say(b"the row allows no action, so that the tower stops there\n");
+        return;
+    }
+    say(
+        b"the row allows no action but the player's, so that the tower stops there when nobody plays\n",
+    );
 }
 
 // a: row 0 has another state.

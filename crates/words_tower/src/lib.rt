@@ -133,7 +133,7 @@ pub fn action(file: &[u8], bytes: &[u8]) {
     say_number(spot.at);
     say(b") is ");
     say_number(spot.value);
-    say(b"; it must be 0, the player's, or 1, ours\n");
+    say(b"; it must be 0, the player's, 1, ours, or 2, sure to come\n");
 }
 
 // 4: a target.
@@ -188,7 +188,7 @@ pub fn mask(file: &[u8], bytes: &[u8]) {
 pub fn dead_end(file: &[u8], bytes: &[u8]) {
     of_file(file);
     say(
-        b"no table is good for this tower, even without any rule: a dead end cannot be kept away from, a state that no action leaves",
+        b"no table is good for this tower, even without any rule: a dead end cannot be kept away from, a state that no action leaves but the player's",
     );
     let state = place_tower::stuck(bytes);
     if state < place_tower::states(bytes) {

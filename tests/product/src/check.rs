@@ -5,6 +5,8 @@ use crate::areas::{slices, Areas, CHECKER_AREAS};
 use crate::common::Random;
 use crate::entry::{bytes, hexadecimal, Entry};
 use crate::{book, tables, towers};
+use reference::table::{self, Row, Step};
+use reference::tower::{self, Kind, Tower};
 use reference::{check, Refusal};
 use std::fmt;
 
@@ -71,6 +73,9 @@ impl Entry for Check {
         ("14 c", 500),
         ("14 d", 500),
         ("14 e", 500),
+        (SURE_WITHHELD, 500),
+        (PLAYER_ALONE, 500),
+        (GOES_ON_BY_SURE, 100),
     ];
     const FILES: &'static [&'static str] = &["check.txt"];
 
@@ -106,12 +111,21 @@ impl Entry for Check {
         }
     }
 
-    fn kinds(_: &Call, answer: &Answer) -> Vec<&'static str> {
+    fn kinds(call: &Call, answer: &Answer) -> Vec<&'static str> {
         match (answer.number, answer.letter) {
+            (0, _) => named(GOES_ON_BY_SURE, goes_on_by_sure(call)),
             (14, b'a') => vec!["14 a"],
-            (14, b'b') => vec!["14 b"],
+            (14, b'b') => [
+                vec!["14 b"],
+                named(SURE_WITHHELD, withholds_sure(call, answer.place)),
+            ]
+            .concat(),
             (14, b'c') => vec!["14 c"],
-            (14, b'd') => vec!["14 d"],
+            (14, b'd') => [
+                vec!["14 d"],
+                named(PLAYER_ALONE, !rows(call)[answer.place].steps.is_empty()),
+            ]
+            .concat(),
             (14, b'e') => vec!["14 e"],
             _ => vec![],
         }
@@ -132,4 +146,43 @@ impl Entry for Check {
     fn fits_line(_: &str, answer: &Answer, stated: &str) -> bool {
         stated.strip_prefix("good").unwrap_or(stated) == answer.to_string()
     }
+}
+
+const SURE_WITHHELD: &str = "14 b, an action that is sure to come";
+const PLAYER_ALONE: &str = "14 d, a row with the player's actions alone";
+const GOES_ON_BY_SURE: &str = "good, with a row that goes on by what is sure to come alone";
+
+/// The name where something holds, and else none.
+fn named(name: &'static str, holds: bool) -> Vec<&'static str> {
+    holds.then_some(name).into_iter().collect()
+}
+
+/// The tower and the rows of a call whose files are fit.
+fn tower_of(call: &Call) -> Tower {
+    tower::parse(&call.tower).expect("a tower that is fit to use")
+}
+
+fn rows(call: &Call) -> Vec<Row> {
+    table::decode(&call.table)
+        .expect("a table that is laid out")
+        .rows
+}
+
+/// Whether the first action that a row withholds and may not is sure to come.
+fn withholds_sure(call: &Call, row: usize) -> bool {
+    let (tower, row) = (tower_of(call), &rows(call)[row]);
+    let withheld = |action: &usize| {
+        !tower.kind(*action).controllable()
+            && tower.target(row.state, *action).is_some()
+            && row.target(*action).is_none()
+    };
+    let first = (0..tower.actions.len()).find(withheld);
+    first.is_some_and(|action| tower.kind(action) == Kind::Sure)
+}
+
+/// Whether some row has no action of ours.
+fn goes_on_by_sure(call: &Call) -> bool {
+    let tower = tower_of(call);
+    let ours = |step: &Step| tower.kind(step.action) == Kind::Ours;
+    rows(call).iter().any(|row| !row.steps.iter().any(ours))
 }

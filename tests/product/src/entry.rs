@@ -2,6 +2,7 @@
 
 use crate::answer::Answer;
 use crate::common::Random;
+use reference::vectors;
 use std::collections::BTreeMap;
 use std::fmt;
 use std::fs;
@@ -93,6 +94,21 @@ impl Tally {
         proved
     }
 
+    /// Compares both answers to each line of a file of vectors with the one that it states.
+    fn compare_lines<E: Entry>(&mut self, file: &str, path: &Path) {
+        let text = fs::read_to_string(path).expect("a file of vectors");
+        for (number, line) in text.lines().enumerate() {
+            let place = format!("{}, line {}", path.display(), number + 1);
+            let (inputs, stated) = line.split_once(" = ").expect("inputs and an answer");
+            let inputs: Vec<&str> = inputs.split(' ').collect();
+            let case = E::of_line(file, &inputs).unwrap_or_else(|| panic!("{place}"));
+            let answer = self.compare::<E>(&case);
+            if !E::fits_line(file, &answer, stated) {
+                self.note_wrong(format!("{place}: {answer}, and not {stated}"));
+            }
+        }
+    }
+
     fn note_wrong(&mut self, text: String) {
         self.wrong += 1;
         if self.wrong <= 5 {
@@ -124,18 +140,10 @@ impl Test for Vectors {
             return true;
         }
         let mut tally = Tally::new(E::NAME);
+        let folder = Path::new(env!("CARGO_MANIFEST_DIR")).join("../vectors");
         for file in E::FILES {
-            let folder = Path::new(env!("CARGO_MANIFEST_DIR")).join("../vectors");
-            let text = fs::read_to_string(folder.join(file)).expect("a file of vectors");
-            for (number, line) in text.lines().enumerate() {
-                let place = format!("{file}, line {}", number + 1);
-                let (inputs, stated) = line.split_once(" = ").expect("inputs and an answer");
-                let inputs: Vec<&str> = inputs.split(' ').collect();
-                let case = E::of_line(file, &inputs).unwrap_or_else(|| panic!("{place}"));
-                let answer = tally.compare::<E>(&case);
-                if !E::fits_line(file, &answer, stated) {
-                    tally.note_wrong(format!("{place}: {answer}, and not {stated}"));
-                }
+            for path in vectors::files(&folder, file) {
+                tally.compare_lines::<E>(file, &path);
             }
         }
         tally.print();

@@ -85,7 +85,12 @@ impl Entry for Make {
     const NAME: &'static str = "maker";
     const GENERATED: usize = 60_000;
     const REFUSALS: &'static [u8] = &[1, 2, 3, 4, 5, 6, 7, 8, 9, 10, 11, 12, 15, 16];
-    const KINDS: &'static [(&'static str, usize)] = &[(WITHHOLDS, 10), (REPEATS, 30)];
+    const KINDS: &'static [(&'static str, usize)] = &[
+        (WITHHOLDS, 10),
+        (REPEATS, 30),
+        (WAITS, 500),
+        (NARROWER, 500),
+    ];
     const FILES: &'static [&'static str] = &["make.txt"];
 
     /// A table that is made is accepted by the checker, under its own book.
@@ -144,6 +149,14 @@ impl Entry for Make {
                 kinds.push(REPEATS);
             }
         }
+        if matches!(answer.number, 0 | 12) {
+            let sure = make::make(&all_sure(&call.tower), &call.text, table::most_bytes());
+            match (answer.number, sure) {
+                (12, Ok(_)) => kinds.push(WAITS),
+                (0, Ok(other)) if other != file(answer) => kinds.push(NARROWER),
+                _ => {}
+            }
+        }
         kinds
     }
 
@@ -180,5 +193,19 @@ fn to_make(random: &mut Random) -> Ruled {
     }
 }
 
+/// The tower with the player's actions sure to come.
+fn all_sure(tower: &[u8]) -> Vec<u8> {
+    let mut file = tower.to_vec();
+    for action in 0..usize::from(tower[1]) {
+        let kind = &mut file[tower::HEADER + tower::ACTION * action + 1];
+        if *kind == 0 {
+            *kind = 2;
+        }
+    }
+    file
+}
+
+const WAITS: &str = "12, and a table if the player's actions were sure to come";
+const NARROWER: &str = "another table if the player's actions were sure to come";
 const WITHHOLDS: &str = "an enabled action is withheld";
 const REPEATS: &str = "two rows have one state";

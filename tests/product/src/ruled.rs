@@ -61,7 +61,7 @@ pub fn slow(random: &mut Random) -> Ruled {
 /// A ring with one action of one tick, and a book with which about 1,000 pairs are met, of which
 /// `onward` have nothing pending.
 pub fn ring(random: &mut Random, states: usize, onward: usize) -> Ruled {
-    let kind = random.below(2) as u8;
+    let kind = 1 + random.below(2) as u8;
     let next = |state: usize| vec![((state + 1) % states) as u8];
     let states: Vec<(u16, Vec<u8>)> = (0..states).map(|state| (0, next(state))).collect();
     let pairs = 996 + random.below(9);

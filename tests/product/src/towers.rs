@@ -65,7 +65,7 @@ fn past_limits(random: &mut Random) -> Vec<u8> {
 fn sized(random: &mut Random, states: usize, actions: usize, marks: usize) -> Vec<u8> {
     let start = random.below(states) as u8;
     let lengths: Vec<[u8; 2]> = (0..actions)
-        .map(|_| [1 + random.below(255) as u8, random.below(2) as u8])
+        .map(|_| [1 + random.below(255) as u8, random.below(3) as u8])
         .collect();
     let masks = 1 << marks.min(16);
     let states: Vec<(u16, Vec<u8>)> = (0..states)

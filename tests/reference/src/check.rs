@@ -13,7 +13,7 @@ use std::fmt;
 pub enum Reason {
     /// a: row 0 has another state than the start.
     Start,
-    /// b: an enabled action of the player's is not allowed.
+    /// b: an enabled action that may not be withheld is not allowed.
     Withheld,
     /// c: an allowed action is not enabled, or its target row has another state than the one reached.
     Misled,

@@ -15,6 +15,7 @@ pub mod program;
 pub mod runs;
 pub mod table;
 pub mod tower;
+pub mod vectors;
 
 /// The most pairs, and the most rows of a table file.
 pub const MOST_PAIRS: usize = 1_000;

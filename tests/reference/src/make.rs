@@ -77,9 +77,9 @@ impl Pairs {
         Some(Pairs { states, next })
     }
 
-    /// The pairs from which play can go on for ever whatever the player does. The others are removed
-    /// one by one: a pair goes once an action is lost there that is not controllable, or every action
-    /// that goes on.
+    /// The pairs from which play can go on for ever, whatever comes that is not ours and without waiting
+    /// for the player. The others are removed one by one: a pair goes once an action is lost there that
+    /// is not controllable, or every action that goes on.
     fn safe(&self, tower: &Tower) -> Vec<bool> {
         let count = self.states.len();
         let mut leading_here = vec![Vec::new(); count];

@@ -35,11 +35,13 @@ pub fn states_at(actions: usize) -> usize {
 pub enum Kind {
     Player,
     Ours,
+    /// Uncontrollable, but sure to come, as the clock's train.
+    Sure,
 }
 
 impl Kind {
     /// All kinds, each at its number in a file.
-    pub const ALL: [Kind; 2] = [Kind::Player, Kind::Ours];
+    pub const ALL: [Kind; 3] = [Kind::Player, Kind::Ours, Kind::Sure];
 
     /// The kind with this number in a file.
     fn of_number(number: u8) -> Option<Self> {
@@ -49,7 +51,7 @@ impl Kind {
     /// Whether an action of this kind may be withheld.
     pub fn controllable(self) -> bool {
         match self {
-            Kind::Player => false,
+            Kind::Player | Kind::Sure => false,
             Kind::Ours => true,
         }
     }
@@ -57,7 +59,8 @@ impl Kind {
     /// Whether an action of this kind counts as going on: a row that allows one has not stopped.
     pub fn goes_on(self) -> bool {
         match self {
-            Kind::Player | Kind::Ours => true,
+            Kind::Player => false,
+            Kind::Ours | Kind::Sure => true,
         }
     }
 }

@@ -159,7 +159,8 @@ fn made_tables_are_good_and_allow_no_broken_run() {
     assert!(tables > 1_000);
 }
 
-/// Whether a run is unbroken and can be continued for `rounds` more actions whatever the player does.
+/// Whether a run is unbroken and can be continued for `rounds` more actions, whatever comes that is not
+/// ours and without waiting for the player.
 fn can_go_on(tower: &Tower, book: &Book, run: &[usize], rounds: usize) -> bool {
     if is_broken(tower, book, run) {
         return false;

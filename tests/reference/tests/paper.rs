@@ -8,6 +8,7 @@ use reference::check::{check, Answer, Reason};
 use reference::follow::follow;
 use reference::listing::listing;
 use reference::make::{make, pair_count};
+use reference::table::Table;
 use reference::tower::Kind;
 use reference::{table, tower, Refusal};
 
@@ -57,7 +58,7 @@ fn order_of_tower_refusals() {
     };
     assert_eq!(change(16, 8), 5);
     assert_eq!(change(33, 3), 4);
-    assert_eq!(change(15, 2), 3);
+    assert_eq!(change(15, 3), 3);
     assert_eq!(change(4, 9), 1);
     assert_eq!(change(3, 3), 2);
     assert_eq!(refusal_of_tower(&file[..7]).number, 1);
@@ -72,14 +73,47 @@ fn order_of_tower_refusals() {
     }
 }
 
-/// The player's actions are never withheld, ours may be, and both go on.
+/// Only ours may be withheld; ours and what is sure to come go on.
 #[test]
 fn kinds_of_actions() {
     let small = tower::parse(&SMALL_TOWER).unwrap();
-    let kinds = [Kind::Ours, Kind::Player, Kind::Ours, Kind::Player];
+    let kinds = [Kind::Ours, Kind::Sure, Kind::Ours, Kind::Sure];
     assert_eq!([0, 1, 2, 3].map(|action| small.kind(action)), kinds);
     let means = Kind::ALL.map(|kind| (kind.controllable(), kind.goes_on()));
-    assert_eq!(means, [(false, true), (true, true)]);
+    assert_eq!(means, [(false, false), (true, true), (false, true)]);
+    assert_eq!(refusal_of_tower(&changed(11, 3)), Refusal::new(3));
+}
+
+/// One state with two actions of these kinds, of one tick and of two.
+fn two_kinds(first: u8, second: u8) -> Vec<u8> {
+    tower_file(0, 0, &[[1, first], [2, second]], &[(0, vec![0, 0])])
+}
+
+/// Under a rule that the second action breaks, a table may only allow the first.
+#[test]
+fn rows_that_wait_for_the_player_alone() {
+    let rule = lines(&["always N <= 1 T"]);
+    let first_alone = Table::of_rows(1, 2, &[(0, &[(0, 0)])]).encode();
+    let none = Err(Refusal::new(12));
+    let stopped = Answer::NotGood(Reason::Stopped, 0);
+    let withheld = Answer::NotGood(Reason::Withheld, 0);
+    for (first, second, made, judged) in [
+        (0, 1, none.clone(), stopped),
+        (1, 1, Ok(first_alone.clone()), Answer::Good),
+        (2, 1, Ok(first_alone.clone()), Answer::Good),
+        (1, 0, none.clone(), withheld),
+        (1, 2, none, withheld),
+    ] {
+        let tower = two_kinds(first, second);
+        assert_eq!(make(&tower, &rule, table::most_bytes()), made);
+        assert_eq!(check(&tower, &rule, &first_alone), judged);
+    }
+    let small = |kind: u8| {
+        let mut tower = SMALL_TOWER;
+        (tower[11], tower[15]) = (kind, kind);
+        make(&tower, b"", table::most_bytes()).err()
+    };
+    assert_eq!([0, 1, 2].map(small), [Some(Refusal::new(12)), None, None]);
 }
 
 #[test]

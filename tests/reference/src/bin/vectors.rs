@@ -1,5 +1,6 @@
-//! Runs the vectors. Each line is one case: the inputs, ` = ` and the right answer, with bytes in
-//! hexadecimal and `-` for no bytes. The folder may be given as an argument.
+//! Runs the vectors, also those of the folders in theirs. Each line is one case: the inputs, ` = ` and
+//! the right answer, with bytes in hexadecimal and `-` for no bytes. The folder may be given as an
+//! argument.
 //!
 //! | file | inputs | answer |
 //! |---|---|---|
@@ -10,7 +11,7 @@
 //!
 //! Any other refusal is `refused NUMBER PLACE`.
 
-use reference::{book, check, follow, make};
+use reference::{book, check, follow, make, vectors};
 use std::fs;
 use std::path::{Path, PathBuf};
 use std::process::ExitCode;
@@ -29,7 +30,10 @@ fn main() -> ExitCode {
     let folder = std::env::args().nth(1).map_or_else(beside, PathBuf::from);
     let mut all_right = true;
     for (name, answer) in FILES {
-        all_right &= run_file(name, &folder.join(name).with_extension("txt"), answer);
+        for path in vectors::files(&folder, &format!("{name}.txt")) {
+            let name = path.strip_prefix(&folder).unwrap_or(&path);
+            all_right &= run_file(&name.display().to_string(), &path, answer);
+        }
     }
     if all_right {
         ExitCode::SUCCESS

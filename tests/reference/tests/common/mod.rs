@@ -7,7 +7,7 @@ use reference::tower::{self, Tower, NOT_ENABLED};
 
 pub const SMALL_TOWER: [u8; 34] = [
     0x03, 0x04, 0x03, 0x00, 0x08, 0x00, 0x10, 0x00, // header
-    0x01, 0x01, 0x01, 0x00, 0x01, 0x01, 0x01, 0x00, // actions
+    0x01, 0x01, 0x01, 0x02, 0x01, 0x01, 0x01, 0x02, // actions
     0x01, 0x00, 0x01, 0xFF, 0x02, 0xFF, // state 0
     0x02, 0x00, 0xFF, 0x00, 0xFF, 0xFF, // state 1
     0x04, 0x00, 0xFF, 0xFF, 0xFF, 0x00, // state 2
@@ -82,12 +82,17 @@ impl Random {
     }
 }
 
+/// The number of a kind; most actions are ours.
+pub fn kind(random: &mut Random) -> u8 {
+    [0, 1, 1, 1, 1, 2][random.below(6)]
+}
+
 /// A small tower with at most `most_actions` actions.
 pub fn random_tower(random: &mut Random, most_actions: usize) -> (Vec<u8>, Tower) {
     let states = 1 + random.below(5);
     let marks = random.below(4);
     let actions: Vec<[u8; 2]> = (0..1 + random.below(most_actions))
-        .map(|_| [1 + random.below(4) as u8, !random.once_in(3) as u8])
+        .map(|_| [1 + random.below(4) as u8, kind(random)])
         .collect();
     let states: Vec<(u16, Vec<u8>)> = (0..states)
         .map(|_| {

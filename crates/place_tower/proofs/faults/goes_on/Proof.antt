@@ -16,5 +16,5 @@ pub goes-on-spec : {M : Type 1} → statement M
 goes-on-spec = tie.close (tie.spec
     Inv-loop
     μ-loop
-    (λ c κs. search all) (λ c. search all) (λ c κs. search all) (λ c κs. search all) (λ c κs. search all) (λ c. search all)
-    (λ c. search all) (λ c. search all) (λ c. search all) (λ c. search all))
+    (λ c κs. search all) (λ c. search all) (λ c κs. search all) (λ c. search all) (λ c. search all) (λ c. search all)
+    (λ c. search all) (λ c. search all))
