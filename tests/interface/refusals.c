@@ -351,6 +351,7 @@ static void towers(void)
     bad_tower("no bytes", copy_of(small_tower, 0), SUCCORYVISE_TOWER_SIZE);
     bad_tower("S = 0", with(small_tower, 34, 0, 0), SUCCORYVISE_RANGE);
     bad_tower("action 00 01", with(small_tower, 34, 8, 0), SUCCORYVISE_ACTION);
+    bad_tower("kind 3", with(small_tower, 34, 9, 3), SUCCORYVISE_ACTION);
     bad_tower("target 03 with S = 3", with(small_tower, 34, 18, 3), SUCCORYVISE_TARGET);
     bad_tower("mask 08 00 with P = 3", with(small_tower, 34, 16, 8), SUCCORYVISE_MASK);
 }
@@ -437,6 +438,13 @@ static void tables(void)
     bad_table("no step", table_of(&stopped, 1), "", 0, SUCCORYVISE_STOPPED);
     expect("book 5", make("book 5", tower, none, action_at(3, 4), &made), SUCCORYVISE_DONE, 0, 0);
     bad_table("table 5 under book 1", made, book_1, 0, SUCCORYVISE_BROKEN);
+
+    /* The player's key in place of the clock's train: rows 1 and 2 wait for the player alone. */
+    tower.at[11] = tower.at[15] = 0;
+    expect("the player alone", make("the player alone", tower, none, SUCCORYVISE_TABLE_MOST, NULL),
+           SUCCORYVISE_NO_TABLE, 0, 0);
+    expect("the player alone", check("the player alone", tower, text, table), SUCCORYVISE_NOT_GOOD, 1,
+           SUCCORYVISE_STOPPED);
 
     expect("row 5 of 5", follow("row 5 of 5", table, 5, 0), SUCCORYVISE_OUTSIDE, 0, 0);
     expect("action 4 of 4", follow("action 4 of 4", table, 0, 4), SUCCORYVISE_OUTSIDE, 0, 0);

@@ -52,6 +52,7 @@ fn towers_that_are_not_fit() {
         (SMALL_TOWER[..7].to_vec(), Refusal::TowerSize),
         (small_tower_with(0, 0), Refusal::Range),
         (small_tower_with(8, 0), Refusal::Action),
+        (small_tower_with(9, 3), Refusal::Action),
         (small_tower_with(18, 3), Refusal::Target),
         (small_tower_with(16, 8), Refusal::Mask),
     ];
@@ -111,6 +112,16 @@ fn tables_that_are_not_fit_or_not_good() {
     let all = make(&SMALL_TOWER, b"").expect("outcome 5");
     let broken = check(&SMALL_TOWER, BOOK_1, &all);
     assert_eq!(broken, Err(Refusal::NotGood(Reason::Broken)));
+}
+
+/// With the player's key in place of the clock's train the small tower has stopped.
+#[test]
+fn rows_that_wait_for_the_player_alone() {
+    let mut tower = SMALL_TOWER.to_vec();
+    (tower[11], tower[15]) = (0, 0);
+    assert_eq!(make(&tower, b""), Err(Refusal::NoTable));
+    let stopped = check(&tower, BOOK_1, &table_1());
+    assert_eq!(refused(stopped), (14, 1, Some('d')));
 }
 
 #[test]

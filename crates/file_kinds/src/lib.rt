@@ -8,7 +8,7 @@ ghost use Rattle.logic.specs.Tower.{controllable, goes-on, last-kind};
 const OURS: usize = 1;
 
 // The kind of the actions that may not be withheld and are sure to come. It is the largest.
-const SURE: usize = 2;
+pub const SURE: usize = 2;
 
 // There is no such kind.
 pub fn unknown(kind: usize) -> bool

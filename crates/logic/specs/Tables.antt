@@ -65,7 +65,7 @@ pub record IsTable (table : Table) : Type 0 where
 unfoldable pub GoodStart : Tower → Table → Type 0
 GoodStart tower table = row-at table 0 .state ≡ tower .start
 
--- (b) In row r each enabled action that may not be withheld is allowed.
+-- (b) In row r each enabled action that may not be withheld, of kind 0 or 2, is allowed.
 unfoldable pub NoneWithheld : Tower → Table → ℕ → Type 0
 NoneWithheld tower table r =
     (a y : ℕ) → tower .target (row-at table r .state) a ≡ some y → controllable (tower .kind a) ≡ false → AllowsAction table r a
@@ -75,7 +75,7 @@ unfoldable pub StepsRight : Tower → Table → ℕ → Type 0
 StepsRight tower table r =
     (a s : ℕ) → move table r a ≡ some s → tower .target (row-at table r .state) a ≡ some (row-at table s .state)
 
--- (d) In row r some action is allowed, of a kind that counts as going on.
+-- (d) In row r some action is allowed, of a kind that counts as going on: 1 or 2 (02, item 1).
 unfoldable pub GoesOn : Tower → Table → ℕ → Type 0
 GoesOn tower table r = (a : ℕ) × AllowsAction table r a × (goes-on (tower .kind a) ≡ true)
 

@@ -97,6 +97,10 @@ saved r n tower text out e made = go (made-file tower text) refl (sym (made .ans
           laid = rw (← count, whole) (made-known tower text file f .laid);
         }
 
+-- The first n bytes of an area that has as many are n.
+pub part-taken : (n : ℕ) (area : List ℕ) → n ≤ length area → n ≡ length (take n area)
+part-taken n area l = sym (length-take-le n area l)
+
 pub made-within : (r : MakeAnswer) (n : ℕ) (tower text out : List ℕ) → r ≡ Made n → MadeFile r tower text out → n ≤ length out
 made-within r n tower text out e made = saved r n tower text out e made .within
 

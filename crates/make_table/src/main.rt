@@ -156,19 +156,58 @@ fn dead_end(tower: &[u8]) -> bool {
     }
 }
 
+// The value that stands for no state.
+const NONE: usize = 255;
+
+// The state of a row that waits for the player alone, in the table that a tower and the rules make; 255
+// where there is none. `sure` is the tower as it would be if the player were sure to come.
+fn waiting_in(tower: &[u8], sure: &[u8], text: &[u8], spare: &mut [u8; 52012]) -> usize {
+    match make(sure, text, spare) {
+        MakeAnswer::Made(n) => place_table::waiting_state(tower, spare),
+        MakeAnswer::Refused(why) => NONE,
+    }
+}
+
+// A state in which a table that keeps the rules would wait for the player alone; 255 where there is none.
+fn waiting_state(tower: &[u8], text: &[u8]) -> usize {
+    let mut sure = [0u8; program_limits::TOWER];
+    let t = place_tower::sure_copy(tower, &mut sure);
+    let mut spare = [0u8; 52012];
+    waiting_in(tower, &sure[..t], text, &mut spare)
+}
+
 // Whether a refusal is 12.
 fn is_no_table(why: Refusal) -> bool {
     refusal_numbers::number(why) == 12
 }
 
-// Says why the tower or the rules are refused. Where the tower alone has no good table, the rules are
-// not to blame.
+// Says why there is no good table. Where the tower alone has none, the rules are not to blame; else they
+// leave only the player to go on, or cannot be kept.
+fn refuse_none(
+    why: Refusal,
+    tower: &[u8],
+    book: &[u8],
+    table: &[u8],
+    tower_bytes: &[u8],
+    text: &[u8],
+) {
+    if dead_end(tower_bytes) {
+        words_refusal::refuse_tower(why, tower, tower_bytes);
+        return;
+    }
+    let state = waiting_state(tower_bytes, text);
+    if state < NONE {
+        words_refusal::refuse_waiting(why, book, state);
+        return;
+    }
+    words_refusal::refuse(why, tower, book, table, tower_bytes, text, b"");
+}
+
+// Says why the tower or the rules are refused.
 fn refuse(why: Refusal, tower: &[u8], book: &[u8], table: &[u8], tower_bytes: &[u8], text: &[u8]) {
     if is_no_table(why) {
-        if dead_end(tower_bytes) {
-            words_refusal::refuse_tower(why, tower, tower_bytes);
-            return;
-        }
+        refuse_none(why, tower, book, table, tower_bytes, text);
+        return;
     }
     words_refusal::refuse(why, tower, book, table, tower_bytes, text, b"");
 }

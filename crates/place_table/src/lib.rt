@@ -15,5 +15,6 @@ pub use layout::Fault;
 pub use layout::wrong_layout;
 pub use steps::allowed_somewhere;
 pub use steps::target_row;
+pub use steps::waiting_state;
 pub use steps::withheld;
 pub use steps::wrong_step;

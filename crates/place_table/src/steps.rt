@@ -1,5 +1,5 @@
-// The steps of a row against the tower: the action behind reasons b and c; and the actions that no row
-// allows.
+// The steps of a row against the tower: the action behind reasons b and c; rows that wait for the player
+// alone; and the actions that no row allows.
 use crate::fields;
 use place_bytes::plus;
 use place_tower::target;
@@ -72,6 +72,34 @@ pub fn wrong_step(tower: &[u8], bytes: &[u8], row: usize) -> usize {
             return action;
         }
         action += 1;
+    }
+    NONE
+}
+
+// Whether a row has no step but the player's.
+fn waits(tower: &[u8], bytes: &[u8], row: usize) -> bool {
+    let first = fields::row_first(bytes, row);
+    let count = fields::row_count(bytes, row);
+    let mut i = 0;
+    while i < count {
+        let action = fields::step_action(bytes, plus(first, i));
+        if file_kinds::goes_on(place_tower::kind(tower, action)) {
+            return false;
+        }
+        i += 1;
+    }
+    true
+}
+
+// The state of the first row that waits for the player alone, or 255.
+pub fn waiting_state(tower: &[u8], bytes: &[u8]) -> usize {
+    let rows = fields::rows(bytes);
+    let mut row = 0;
+    while row < rows {
+        if waits(tower, bytes, row) {
+            return fields::row_state(bytes, row);
+        }
+        row += 1;
     }
     NONE
 }

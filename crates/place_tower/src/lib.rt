@@ -2,6 +2,7 @@
 // proved to be right; these functions only look for the place, and are proved to be safe.
 mod faults;
 mod fields;
+mod sure;
 
 pub use faults::Spot;
 pub use faults::bad_action;
@@ -18,3 +19,4 @@ pub use fields::state_size;
 pub use fields::states;
 pub use fields::states_place;
 pub use fields::target;
+pub use sure::sure_copy;

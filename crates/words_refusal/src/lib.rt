@@ -4,7 +4,9 @@
 use base::Reason;
 use base::Refusal;
 use program_saying::in_file;
+use program_saying::of_file;
 use program_saying::say;
+use program_saying::say_number;
 
 // Why a call was refused, with the names of the files that it was about and what they hold.
 fn explain(
@@ -56,7 +58,7 @@ fn explain(
         Refusal::NoTable => {
             in_file(
                 book,
-                b"no table is good for this tower: whatever is withheld, a rule is broken, or nobody but the player can go on",
+                b"no table is good for this tower: the rules cannot be kept for ever, whatever is withheld",
             );
         }
         Refusal::Layout => {
@@ -103,6 +105,19 @@ pub fn refuse(
 pub fn refuse_tower(why: Refusal, tower: &[u8], tower_bytes: &[u8]) {
     if print_line(why) {
         words_tower::dead_end(tower, tower_bytes);
+    }
+}
+
+// The same where the rules can be kept only by rows that wait for the player alone, such as one of this
+// state.
+pub fn refuse_waiting(why: Refusal, book: &[u8], state: usize) {
+    if print_line(why) {
+        of_file(book);
+        say(
+            b"no table is good for this tower: the rules can be kept only by waiting for the player alone, such as in state ",
+        );
+        say_number(state);
+        say(b", and then the tower stops when nobody plays\n");
     }
 }
 

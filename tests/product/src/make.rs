@@ -152,7 +152,12 @@ impl Entry for Make {
         if matches!(answer.number, 0 | 12) {
             let sure = make::make(&all_sure(&call.tower), &call.text, table::most_bytes());
             match (answer.number, sure) {
-                (12, Ok(_)) => kinds.push(WAITS),
+                (12, Ok(table)) => {
+                    // docs/GUIDE-RULES.md: it waits for the player alone, and the checker says where.
+                    let judged = check::expected(&call.tower, &call.text, &table);
+                    assert_eq!((judged.number, judged.letter), (14, b'd'), "{call}");
+                    kinds.push(WAITS);
+                }
                 (0, Ok(other)) if other != file(answer) => kinds.push(NARROWER),
                 _ => {}
             }
