@@ -10,6 +10,9 @@ use base::MakeAnswer;
 use base::Refusal;
 use program_files::Contents;
 
+// The bytes of the longest table.
+const LONGEST_TABLE: usize = 52012;
+
 // Prints the listing's first line.
 fn print_head(table: &[u8]) -> bool
     requires { ⌜ laid-out (now table) ≡ true ⌝ }
@@ -55,7 +58,7 @@ fn print_listing(table: &[u8]) -> bool
 }
 
 // The answer, with work areas (docs/WORK-AREAS.md).
-fn make(tower: &[u8], text: &[u8], out: &mut [u8; 52012]) -> MakeAnswer
+fn make(tower: &[u8], text: &[u8], out: &mut [u8; LONGEST_TABLE]) -> MakeAnswer
     ensures { λ r. ⌜ MadeFile r (now (tower .entry)) (now (text .entry)) (now (out .exit)) ⌝ }
 {
     let mut nodes = [0u8; 512];
@@ -149,7 +152,7 @@ fn finish(bytes: &[u8], table: &[u8], tower_bytes: &[u8], text: &[u8])
 
 // No table is good for the tower under a book without a rule: a dead end of the tower itself.
 fn dead_end(tower: &[u8]) -> bool {
-    let mut spare = [0u8; 52012];
+    let mut spare = [0u8; LONGEST_TABLE];
     match make(tower, b"", &mut spare) {
         MakeAnswer::Made(n) => false,
         MakeAnswer::Refused(why) => is_no_table(why),
@@ -161,7 +164,7 @@ const NONE: usize = 255;
 
 // The state of a row that waits for the player alone, in the table that a tower and the rules make; 255
 // where there is none. `sure` is the tower as it would be if the player were sure to come.
-fn waiting_in(tower: &[u8], sure: &[u8], text: &[u8], spare: &mut [u8; 52012]) -> usize {
+fn waiting_in(tower: &[u8], sure: &[u8], text: &[u8], spare: &mut [u8; LONGEST_TABLE]) -> usize {
     match make(sure, text, spare) {
         MakeAnswer::Made(n) => place_table::waiting_state(tower, spare),
         MakeAnswer::Refused(why) => NONE,
@@ -172,7 +175,7 @@ fn waiting_in(tower: &[u8], sure: &[u8], text: &[u8], spare: &mut [u8; 52012]) -
 fn waiting_state(tower: &[u8], text: &[u8]) -> usize {
     let mut sure = [0u8; program_limits::TOWER];
     let t = place_tower::sure_copy(tower, &mut sure);
-    let mut spare = [0u8; 52012];
+    let mut spare = [0u8; LONGEST_TABLE];
     waiting_in(tower, &sure[..t], text, &mut spare)
 }
 
@@ -214,7 +217,7 @@ fn refuse(why: Refusal, tower: &[u8], book: &[u8], table: &[u8], tower_bytes: &[
 
 // Makes the table; where it is made, writes it to its file and then prints its listing.
 fn make_from(tower_bytes: &[u8], text: &[u8], tower: &[u8], book: &[u8], table: &[u8]) {
-    let mut out = [0u8; 52012];
+    let mut out = [0u8; LONGEST_TABLE];
     match make(tower_bytes, text, &mut out) {
         MakeAnswer::Made(n) => {
             finish(&out[..n], table, tower_bytes, text);
