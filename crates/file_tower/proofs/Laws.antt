@@ -7,21 +7,20 @@ use mathlib.Core.Option.{Option, none, some}
 use mathlib.Core.List.{List}
 use lib.ListN.{length}
 use lib.Dec.{leb, ltb, eqb}
-use borrow.Author.Tests.{ltb-true, ltb-false, leb-true, eqb-true, eqb-false, not-false}
+use borrow.Author.Tests.{ltb-true, ltb-false, leb-true, eqb-true, not-false}
 use Rattle.base.specs.Answers.{Answer, refuse, give, _if_else_}
-use Rattle.base.specs.Lists.{some-of, below}
 use Rattle.base.specs.declared.Refusal.{Refusal}
 use Rattle.base.specs.declared.Refusal.the-variants.{TowerSize, Range, Action, Target, Mask}
-use Rattle.base.proofs.Lists.{or-fails-left, or-fails-right, some-none, below-mem}
+use Rattle.base.proofs.Lists.{or-fails-left, or-fails-right}
 use Rattle.base.proofs.Answers.{if-gives}
-use Rattle.logic.specs.Tower.{Tower, Listed, FitTower, tower-of, in-range, most-actions, most-marks, last-kind, layout-of}
-use Rattle.logic.specs.Tower.{states-of, actions-of, marks-of, start-of, actions-offset, states-offset, states-at, state-at, length-of, kind-of}
+use Rattle.logic.specs.Tower.{Tower, Listed, FitTower, tower-of, in-range, most-actions, most-marks, layout-of}
+use Rattle.logic.specs.Tower.{states-of, actions-of, marks-of, start-of, actions-offset, states-offset, states-at, state-at, kind-of}
 use Rattle.logic.specs.Tower.{no-header, bad-counts, bad-size, bad-actions, bad-targets, bad-masks}
 use Rattle.logic.proofs.Layouts.{file-layout-fits}
 use Rattle.logic.proofs.TowerFile.{target-enabled, range-out, fit-tower}
 use Rattle.reading.specs.TowerReading.{read-tower}
 use Rattle.file_tower.specs.TowerRead.{tower-read, target-read}
-use Rattle.file_tower.specs.Stages.{Ranges, Headed, Counted, Sized, bad-action}
+use Rattle.file_tower.specs.Stages.{Ranges, Headed, Counted, Sized}
 use Rattle.file_tower.specs.declared.TowerRead.{TowerRead}
 use Rattle.file_tower.specs.declared.TowerRead.the-variants.{Fit, Refused}
 use Rattle.file_tower.specs.declared.Reached.{Reached}
@@ -94,25 +93,7 @@ fit-sized {bytes} fit = sized bytes (fit .header) (fit .counts) (fit .size)
 pub fit-headed : {bytes : List ℕ} → FitTower bytes → Headed bytes
 fit-headed fit = fit-sized fit .counted .headed
 
--- ---- actions, targets and masks
-
--- no test holds below n: not at any number below n
-none-at : (test : ℕ → Bool) (n i : ℕ) → some-of test (below n) ≡ false → i < n → test i ≡ false
-none-at test n i e l = some-none test e (below-mem n i l)
-
--- An action of a fit file takes at least one tick.
-pub fit-action-length : {bytes : List ℕ} → FitTower bytes → (a : ℕ) → a < actions-of bytes → 1 ≤ length-of bytes a
-unfolding bad-actions bad-action
-fit-action-length {bytes} fit a l =
-    let e = none-at (bad-action bytes) (actions-of bytes) a (fit .actions) l in
-    omega (arith, eqb-false (length-of bytes a) 0 (or-fails-left (eqb (length-of bytes a) 0) (ltb last-kind (kind-of bytes a)) e))
-
--- An action of a fit file is of a known kind.
-pub fit-action-kind : {bytes : List ℕ} → FitTower bytes → (a : ℕ) → a < actions-of bytes → kind-of bytes a ≤ last-kind
-unfolding bad-actions bad-action
-fit-action-kind {bytes} fit a l =
-    let e = none-at (bad-action bytes) (actions-of bytes) a (fit .actions) l in
-    ltb-false last-kind (kind-of bytes a) (or-fails-right (eqb (length-of bytes a) 0) (ltb last-kind (kind-of bytes a)) e)
+-- ---- actions
 
 -- Whatever is enabled is one of the tower's actions.
 pub tower-listed : (bytes : List ℕ) → Listed (tower-of bytes)
@@ -154,8 +135,6 @@ pub record TowerBounds (tower : Tower) : Type 0 where
   pub actions-most : tower .actions ≤ 16
   pub marks-most : tower .marks ≤ 16
   pub start-below : tower .start < tower .states
-  pub kinds : (a : ℕ) → a < tower .actions → tower .kind a ≤ last-kind
-  pub lengths : (x a : ℕ) → a < tower .actions → 1 ≤ tower .step-length x a .0
   pub targets : (x a y : ℕ) → x < tower .states → tower .target x a ≡ some y → y < tower .states
   pub listed : Listed tower
 
@@ -171,8 +150,6 @@ fit-bounds {bytes} fit =
       actions-most = ranges .actions-most;
       marks-most = ranges .marks-most;
       start-below = ranges .start-below;
-      kinds = fit-action-kind fit;
-      lengths = λ x a l. fit-action-length fit a l;
       targets = λ x a y l e. fit-tower bytes fit .targets x a y e;
       listed = tower-listed bytes;
     }

@@ -105,7 +105,7 @@ pub made-within : (r : MakeAnswer) (n : ℕ) (tower text out : List ℕ) → r �
 made-within r n tower text out e made = saved r n tower text out e made .within
 
 pub made-taken : (r : MakeAnswer) (n : ℕ) (tower text out : List ℕ) → r ≡ Made n → MadeFile r tower text out → n ≡ length (take n out)
-made-taken r n tower text out e made = sym (length-take-le n out (made-within r n tower text out e made))
+made-taken r n tower text out e made = part-taken n out (made-within r n tower text out e made)
 
 pub made-laid : (r : MakeAnswer) (n : ℕ) (tower text out : List ℕ) → r ≡ Made n → MadeFile r tower text out → laid-out (take n out) ≡ true
 made-laid r n tower text out e made = saved r n tower text out e made .laid

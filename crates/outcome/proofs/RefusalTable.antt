@@ -6,7 +6,7 @@ use native.Mathlib.Omega.{arith}
 use lib.ListN.{length, take}
 use Rattle.base.specs.Text.{ascii}
 use Rattle.base.specs.Bytes.{long-enough}
-use Rattle.base.specs.Answers.{answered, refusal-said, book-said, make-said, verdict-said, follow-said, Answer, give, refuse}
+use Rattle.base.specs.Answers.{answered, refusal-said, book-said, make-said, follow-said, Answer, give, refuse}
 use Rattle.base.specs.declared.Refusal.{Refusal}
 use Rattle.base.specs.declared.Refusal.the-variants.{TowerSize, Range, Action, Target, Mask, NoTable, Layout}
 use Rattle.base.specs.declared.Reason.the-variants.{Stopped}
@@ -14,14 +14,15 @@ use Rattle.logic.specs.Book.{Book}
 use Rattle.outcome.specs.Areas.{book-area, book-areas, make-areas}
 use Rattle.outcome.specs.ReadBook.{book-answer, book-under}
 use Rattle.outcome.specs.Make.{made-file}
-use Rattle.outcome.specs.Check.{Finding, not-good, checked-file, verdict}
+use Rattle.outcome.specs.Check.{not-good}
 use Rattle.outcome.specs.Follow.{stepped, row-after, follow-answer, follow-outcome}
 use Rattle.outcome.specs.SmallTower.{small-tower, book-1, table-1, table-5}
-use Rattle.outcome.specs.RefusalTable.{TowerSays, BookSays, TableSays, with-byte, true-lines, spaced, in-brackets, no-step, with-target, RefusalTable}
+use Rattle.outcome.specs.RefusalTable.{TowerSays, BookSays, with-byte, true-lines, spaced, in-brackets, no-step, with-target, RefusalTable}
 use Rattle.outcome.proofs.ElevenOutcomes.{opened, file-1}
-use Rattle.outcome.proofs.Refusals.{book-enough, make-short, check-enough}
+use Rattle.outcome.proofs.Refusals.{book-enough, make-short}
 use Rattle.outcome.proofs.FitCalls.{file-answered, file-no-room}
 use Rattle.outcome.proofs.Answering.{made-refused}
+use Rattle.outcome.proofs.TinyTowers.{judges}
 
 -- a refusal of a tower is said, and a file that is made by its length
 tower-not : (tower : List ℕ) (r : Refusal) → made-file tower [] ≡ refuse r → TowerSays tower (refusal-said r)
@@ -37,14 +38,9 @@ book-as : (text : List ℕ) (o : Answer Book) → book-under 3 text ≡ o → Bo
 unfolding BookSays
 book-as text o e areas enough = ap book-said (book-enough 3 text areas enough .0 ∙ ap book-answer e)
 
--- a table is said as it is judged
-table-as : (file : List ℕ) (o : Answer Finding) → checked-file small-tower [] file ≡ o → TableSays file (verdict-said (verdict o))
-unfolding TableSays
-table-as file o e areas enough = ap verdict-said (check-enough small-tower [] file areas enough .0 ∙ ap verdict e)
-
 -- All of them.
 pub refusal-table : RefusalTable
-unfolding opened TowerSays BookSays TableSays with-byte true-lines spaced in-brackets no-step with-target table-1 table-5 book-areas make-areas book-area long-enough book-said book-answer book-under follow-said follow-outcome follow-answer row-after stepped
+unfolding opened TowerSays BookSays with-byte true-lines spaced in-brackets no-step with-target table-1 table-5 book-areas make-areas book-area long-enough book-said book-answer book-under follow-said follow-outcome follow-answer row-after stepped
 refusal-table =
     record {
       no-1 = tower-not (take 7 small-tower) TowerSize refl;
@@ -85,9 +81,9 @@ refusal-table =
       fit-timed = book-as (ascii "start E 1 p0 | p1\n") (book-under 3 (ascii "start E 1 p0 | p1\n")) refl;
       no-10-until = book-as (ascii "start U 1 (T, A 1 p0)\n") (book-under 3 (ascii "start U 1 (T, A 1 p0)\n")) refl;
       fit-until = book-as (ascii "start U 1 (A 1 p0, T)\n") (book-under 3 (ascii "start U 1 (A 1 p0, T)\n")) refl;
-      no-13 = table-as (with-target 5) (refuse Layout) refl;
+      no-13 = judges small-tower [] (with-target 5) (refuse Layout) refl;
       no-13-followed = refl;
-      no-14 = table-as no-step (give (not-good (Stopped 0))) refl;
+      no-14 = judges small-tower [] no-step (give (not-good (Stopped 0))) refl;
       no-17 = refl;
       no-17-action = refl;
       fit-row = refl;

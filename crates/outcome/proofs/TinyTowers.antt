@@ -1,17 +1,19 @@
 -- Outcomes on tiny towers, by computing the definitions.
 use Prim.Native.Nat.{ℕ, _≤_}
 use Prim.Native.String.{String}
-use mathlib.Core.Path.{_≡_, refl, ap}
+use mathlib.Core.Path.{_≡_, refl, _∙_, ap}
 use mathlib.Core.List.{List, [], _∷_}
 use native.Mathlib.Omega.{arith}
 use lib.ListN.{length}
 use Rattle.base.specs.Text.{ascii}
-use Rattle.base.specs.Answers.{answered, make-said, refusal-said, give, refuse}
+use Rattle.base.specs.Answers.{answered, make-said, verdict-said, refusal-said, Answer, give, refuse}
 use Rattle.base.specs.declared.Refusal.{Refusal}
 use Rattle.base.specs.declared.Refusal.the-variants.{Mask, NoTable}
 use Rattle.outcome.specs.Make.{made-file}
-use Rattle.outcome.specs.TinyTowers.{one-state, two-states, leaves-p0, enters-p0, Says, TinyTowerTable}
+use Rattle.outcome.specs.Check.{Finding, checked-file, verdict}
+use Rattle.outcome.specs.TinyTowers.{one-state, two-states, leaves-p0, enters-p0, Says, Judges, TinyTowerTable}
 use Rattle.outcome.proofs.ElevenOutcomes.{opened}
+use Rattle.outcome.proofs.Refusals.{check-enough}
 use Rattle.outcome.proofs.FitCalls.{file-answered}
 use Rattle.outcome.proofs.Answering.{made-refused}
 
@@ -26,6 +28,11 @@ pub says-made : (tower : List ℕ) (book : String) (file : List ℕ) → length 
 unfolding Says make-said
 says-made tower book file few e output areas room enough =
     ap make-said (file-answered tower (ascii book) output areas file enough e (omega arith))
+
+-- a table is said as it is judged
+pub judges : (tower text file : List ℕ) (o : Answer Finding) → checked-file tower text file ≡ o → Judges tower text file (verdict-said (verdict o))
+unfolding Judges
+judges tower text file o e areas enough = ap verdict-said (check-enough tower text file areas enough .0 ∙ ap verdict e)
 
 -- the tables of one row with one step, and of two rows with one step each
 one : List ℕ

@@ -8,13 +8,13 @@ use lib.ListN.{length, take, set, replicate}
 use Rattle.base.specs.Lists.{joined}
 use Rattle.base.specs.Text.{byte, ascii}
 use Rattle.base.specs.Bytes.{long-enough}
-use Rattle.base.specs.Answers.{Said, answered, refused, book-said, make-said, verdict-said, follow-said}
-use Rattle.outcome.specs.Areas.{book-areas, make-areas, check-areas}
+use Rattle.base.specs.Answers.{Said, answered, refused, book-said, make-said, follow-said}
+use Rattle.outcome.specs.Areas.{book-areas, make-areas}
 use Rattle.outcome.specs.ReadBook.{read-outcome}
 use Rattle.outcome.specs.Make.{make-outcome}
-use Rattle.outcome.specs.Check.{check-outcome}
 use Rattle.outcome.specs.Follow.{follow-outcome}
 use Rattle.outcome.specs.SmallTower.{small-tower, book-1, table-1}
+use Rattle.outcome.specs.TinyTowers.{Judges}
 
 -- what the maker says of a tower and no rules, with any output of 50 bytes or more and any areas that are long enough
 unfoldable pub TowerSays : List ℕ → Said → Type 0
@@ -25,11 +25,6 @@ TowerSays tower said =
 -- what the book reader says of a book under three marks, with any area that is long enough
 unfoldable pub BookSays : List ℕ → Said → Type 0
 BookSays text said = (areas : List (List ℕ)) → long-enough book-areas areas ≡ true → book-said (read-outcome 3 text areas .answer) ≡ said
-
--- what the checker says of a table for the small tower and no rules, with any areas that are long enough
-unfoldable pub TableSays : List ℕ → Said → Type 0
-TableSays file said =
-    (areas : List (List ℕ)) → long-enough check-areas areas ≡ true → verdict-said (check-outcome small-tower [] file areas .answer) ≡ said
 
 -- the small tower with one byte changed
 unfoldable pub with-byte : ℕ → ℕ → List ℕ
@@ -113,10 +108,10 @@ pub record RefusalTable : Type 0 where
   pub no-12 : (output : List ℕ) (areas : List (List ℕ)) → long-enough make-areas areas ≡ true
       → make-said (make-outcome small-tower (ascii "start F\n") output areas .answer) ≡ refused 12 0 []
   -- 13: table not laid out so; target row = rows
-  pub no-13 : TableSays (with-target 5) (refused 13 0 [])
+  pub no-13 : Judges small-tower [] (with-target 5) (refused 13 0 [])
   pub no-13-followed : follow-said (follow-outcome (with-target 5) 0 0) ≡ refused 13 0 []
   -- 14: not good; a row of state 0 with no step
-  pub no-14 : TableSays no-step (refused 14 0 (byte "d" ∷ []))
+  pub no-14 : Judges small-tower [] no-step (refused 14 0 (byte "d" ∷ []))
   -- 15: work area too short; length 0
   pub no-15 : (output : List ℕ) (areas : List (List ℕ)) → make-said (make-outcome small-tower (ascii book-1) output ([] ∷ areas) .answer) ≡ refused 15 0 []
   -- 16: output too short; 49 bytes for 50

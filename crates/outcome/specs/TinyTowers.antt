@@ -8,9 +8,10 @@ use mathlib.Core.List.{List, [], _∷_}
 use lib.ListN.{length}
 use Rattle.base.specs.Text.{ascii}
 use Rattle.base.specs.Bytes.{long-enough}
-use Rattle.base.specs.Answers.{Said, answered, refused, make-said}
-use Rattle.outcome.specs.Areas.{make-areas}
+use Rattle.base.specs.Answers.{Said, answered, refused, make-said, verdict-said}
+use Rattle.outcome.specs.Areas.{make-areas, check-areas}
 use Rattle.outcome.specs.Make.{make-outcome}
+use Rattle.outcome.specs.Check.{check-outcome}
 
 -- one state with this mask, under three marks, and one action of ours of length 5 that leads back to it
 unfoldable pub one-state : ℕ → List ℕ
@@ -32,6 +33,11 @@ unfoldable pub Says : List ℕ → String → Said → Type 0
 Says tower book said =
     (output : List ℕ) (areas : List (List ℕ)) → 26 ≤ length output → long-enough make-areas areas ≡ true
     → make-said (make-outcome tower (ascii book) output areas .answer) ≡ said
+
+-- What the checker says of this tower, text and table, with any areas that are long enough.
+unfoldable pub Judges : List ℕ → List ℕ → List ℕ → Said → Type 0
+Judges tower text file said =
+    (areas : List (List ℕ)) → long-enough check-areas areas ≡ true → verdict-said (check-outcome tower text file areas .answer) ≡ said
 
 -- a table of one row with one step, or of two rows with one step each
 abbrev pub one-row : Said
