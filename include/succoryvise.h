@@ -1,4 +1,4 @@
-/* Play tables for bell towers: the four entries for C, C++ or any language that can call C.
+/* Play tables for bell towers: the five entries for C, C++ or any language that can call C.
  *
  * The paper 'Play tables for bell towers' says what a tower file, a rule book, a table and a refusal
  * are; docs/FORMATS.md has every byte of the files, and docs/LINKING.md how to link. The answers are
@@ -36,6 +36,7 @@ extern "C" {
 #define succoryvise_make succoryvise_make_v1
 #define succoryvise_check succoryvise_check_v1
 #define succoryvise_follow succoryvise_follow_v1
+#define succoryvise_read_log succoryvise_read_log_v1
 
 /* The numbers of an answer. There may be more in time: treat one that you do not know as a refusal. */
 enum succoryvise_number {
@@ -57,7 +58,8 @@ enum succoryvise_number {
     SUCCORYVISE_AREA = 15,        /* a work area is too short */
     SUCCORYVISE_OUTPUT = 16,      /* the output is too short */
     SUCCORYVISE_OUTSIDE = 17,     /* the row or the action is outside the table */
-    SUCCORYVISE_NOT_ALLOWED = 18  /* the action is not allowed in this row */
+    SUCCORYVISE_NOT_ALLOWED = 18, /* the action is not allowed in this row */
+    SUCCORYVISE_LOG = 19          /* log: a line is not of its form */
 };
 
 /* The letters of a 14. */
@@ -67,6 +69,12 @@ enum succoryvise_letter {
     SUCCORYVISE_WRONG_STEP = 'c',     /* an action that is not enabled, or leads to a row of another state */
     SUCCORYVISE_STOPPED = 'd',  /* no action of kind 1 or 2 is allowed */
     SUCCORYVISE_BROKEN = 'e'    /* an allowed run is broken */
+};
+
+/* What a log comes to: the first value of its reader's answer. */
+enum succoryvise_course {
+    SUCCORYVISE_FITS = 0, /* every line fits; second is the final row */
+    SUCCORYVISE_FAILS = 1 /* some line does not fit; second is the first such line, from 0 */
 };
 
 /* The least lengths of the work areas, in bytes. They may be longer, and need neither alignment nor
@@ -98,14 +106,15 @@ enum succoryvise_letter {
 
 /* Stack for a call that reads a rule book, in bytes: it grows with the depth of brackets, N, A, E and U.
  * The deepest text of 4,096 bytes takes up to 1.5 MiB (measured on x86-64; docs/LINKING.md has each
- * shape), the deepest book that is accepted 14 KiB. succoryvise_follow needs less than 1 KiB. */
+ * shape), the deepest book that is accepted 14 KiB. succoryvise_follow needs less than 1 KiB, and
+ * succoryvise_read_log 33 KiB, however long the log is. */
 #define SUCCORYVISE_STACK 2097152
 
 /* What every function answers. */
 struct succoryvise_answer {
-    uint32_t number; /* 0: done; else the number of the refusal, 1 to 18 */
+    uint32_t number; /* 0: done; else the number of the refusal, 1 to 19 */
     uint8_t letter;  /* of a 14: 'a' to 'e'; else 0 */
-    size_t place;    /* of 6 to 10: the line, from 0; of a 14 b to d: the row; else 0 */
+    size_t place;    /* of 6 to 10 and 19: the line, from 0; of a 14 b to d: the row; else 0 */
     size_t first;    /* the values, where number is 0; else 0 */
     size_t second;
     size_t third;    /* room for another one: 0 */
@@ -151,6 +160,16 @@ struct succoryvise_answer succoryvise_check(
 struct succoryvise_answer succoryvise_follow(
     const uint8_t *table, size_t table_length,
     size_t row, size_t action);
+
+/* Holds a stroke log against a table, from row 0 on: 1 to 5, 13, 14 a to d, or 19. A log has no longest
+ * length, so a line's number may pass 65,535.
+ * Done: first is SUCCORYVISE_FITS or SUCCORYVISE_FAILS. A line fits where the table allows its action
+ * after the lines before it, and its tick is that of the line before plus the length of that line's
+ * action; the first tick is free. */
+struct succoryvise_answer succoryvise_read_log(
+    const uint8_t *tower, size_t tower_length,
+    const uint8_t *table, size_t table_length,
+    const uint8_t *log, size_t log_length);
 
 #ifdef __cplusplus
 }

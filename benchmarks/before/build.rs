@@ -6,7 +6,16 @@ use std::fs;
 use std::path::{Path, PathBuf};
 use std::process::Command;
 
+/// The entries that every library has, and the log reader, which earlier ones have not.
 const ENTRIES: [&str; 4] = ["read_book", "make", "check", "follow"];
+const LOG_READER: &str = "read_log";
+
+/// Stands for the log reader where there is none.
+const NO_LOG_READER: &str = "
+pub fn read_log(_tower: &[u8], _table: &[u8], _log: &[u8]) -> Answer {
+    unreachable!()
+}
+";
 
 fn main() {
     println!("cargo:rerun-if-env-changed=BEFORE_LIBRARIES");
@@ -25,11 +34,26 @@ fn main() {
     println!("cargo:rustc-link-lib=static=before");
 }
 
+/// How the declaration of an entry begins.
+fn declared(entry: &str) -> String {
+    format!("answer succoryvise_{entry}(")
+}
+
+fn reads_logs(header: &str) -> bool {
+    header.contains(&declared(LOG_READER))
+}
+
+/// The entries that the header declares.
+fn entries(header: &str) -> impl Iterator<Item = &'static str> {
+    let log_reader = reads_logs(header).then_some(LOG_READER);
+    ENTRIES.into_iter().chain(log_reader)
+}
+
 /// Copies the archive, with `before_NAME` for each entry, whatever its version, and no other name that
 /// can be seen.
 fn rename(header: &str, archive: &Path, renamed: &Path) {
     let mut objcopy = Command::new("objcopy");
-    for entry in ENTRIES {
+    for entry in entries(header) {
         let define = format!("#define succoryvise_{entry} ");
         let line = header.lines().find_map(|line| line.strip_prefix(&define));
         let usual = format!("succoryvise_{entry}");
@@ -62,7 +86,7 @@ fn parts(declared: &str) -> (&str, &str) {
 /// The parameters of an entry. A slice is a pointer and a length; what may be written is an area, but
 /// for the output.
 fn parameters(header: &str, entry: &str) -> Vec<Parameter> {
-    let text = between(header, &format!("answer succoryvise_{entry}("), ");");
+    let text = between(header, &declared(entry), ");");
     let mut declared = text.split(',').map(parts);
     let mut parameters = Vec::new();
     while let Some((kind, name)) = declared.next() {
@@ -87,7 +111,7 @@ fn between<'a>(text: &'a str, from: &str, to: &str) -> &'a str {
     rest.split_once(to).expect("declared to the end").0
 }
 
-/// The struct, the lengths of the areas and the four functions.
+/// The struct, the lengths of the areas and the functions.
 fn declarations(header: &str) -> String {
     let mut text = "#[repr(C)]\n#[derive(Clone, Copy)]\npub struct Answer {\n".to_string();
     let fields = between(header, "struct succoryvise_answer {", "};");
@@ -116,8 +140,13 @@ fn declarations(header: &str) -> String {
         areas.len(),
         areas.join(", ")
     );
-    for entry in ENTRIES {
+    for entry in entries(header) {
         text += &function(entry, &parameters(header, entry));
+    }
+    let reads_logs = reads_logs(header);
+    text += &format!("\npub const READS_LOGS: bool = {reads_logs};\n");
+    if !reads_logs {
+        text += NO_LOG_READER;
     }
     text
 }

@@ -50,4 +50,12 @@ impl Library for Entries {
             |row, action: &usize| answer(sys::follow(black_box(table), row, *action)).values[0];
         actions.iter().fold(0, next)
     }
+
+    fn reads_logs(&self) -> bool {
+        READS_LOGS
+    }
+
+    fn read_log(&mut self, tower: &[u8], table: &[u8], log: &[u8]) -> Answer {
+        answer(sys::read_log(tower, table, log))
+    }
 }

@@ -1,4 +1,4 @@
-//! Towers, books and tables of stated sizes, the same in every run.
+//! Towers, books, tables and logs of stated sizes, the same in every run.
 
 use crate::plain::check::Checker;
 use crate::plain::make::{Maker, Size};
@@ -334,12 +334,19 @@ pub fn table_counts(table: &[u8]) -> [usize; 2] {
     [0, 2].map(|at| two_bytes(table, at))
 }
 
-/// The table of the small tower under its book 1.
-pub fn small_table() -> Vec<u8> {
+/// The small tower, and its table under book 1.
+fn small() -> [Vec<u8>; 2] {
     let mut lines = vectors::lines("make.txt").into_iter();
     let line = lines.find(|line| line.answer.starts_with("made 05000600"));
-    let table = line.expect("a vector with 5 rows and 6 steps").answer;
-    vectors::bytes(table.strip_prefix("made ").expect("a table"))
+    let line = line.expect("a vector with 5 rows and 6 steps");
+    let table = line.answer.strip_prefix("made ").expect("a table");
+    [&line.inputs[0], table].map(vectors::bytes)
+}
+
+/// The table of the small tower under its book 1.
+pub fn small_table() -> Vec<u8> {
+    let [_, table] = small();
+    table
 }
 
 /// A table of 1,000 rows for 200 states and 16 actions, with so many steps in each row.
@@ -365,18 +372,105 @@ pub fn table_file(steps_of_row: usize) -> Vec<u8> {
     file
 }
 
+/// One of the steps of a row: its action, and the row that it leads to.
+fn some_step(table: &[u8], row: usize, random: &mut Random) -> [usize; 2] {
+    let at = HEADER + ROW * row;
+    let count = usize::from(table[at + COUNT]);
+    let step = two_bytes(table, at + FIRST) + random.below(count);
+    let at = two_bytes(table, 6) + STEP * step;
+    [usize::from(table[at]), two_bytes(table, at + 1)]
+}
+
 /// Actions that a table allows one after the other from row 0 on.
 pub fn walk(table: &[u8], length: usize) -> Vec<usize> {
     let mut random = Random::new(2);
     let mut row = 0;
-    let steps_at = two_bytes(table, 6);
     let step = |_| {
-        let at = HEADER + ROW * row;
-        let count = usize::from(table[at + COUNT]);
-        let step = two_bytes(table, at + FIRST) + random.below(count);
-        let at = steps_at + STEP * step;
-        row = two_bytes(table, at + 1);
-        usize::from(table[at])
+        let [action, target] = some_step(table, row, &mut random);
+        row = target;
+        action
     };
     (0..length).map(step).collect()
+}
+
+/// A tower, a table for it, and a log.
+pub struct Logged {
+    pub tower: Vec<u8>,
+    pub table: Vec<u8>,
+    pub log: Vec<u8>,
+}
+
+impl Logged {
+    fn with_no_log(tower: Vec<u8>, table: Vec<u8>) -> Self {
+        let log = Vec::new();
+        Logged { tower, table, log }
+    }
+
+    /// The small tower.
+    pub fn small() -> Self {
+        let [tower, table] = small();
+        Logged::with_no_log(tower, table)
+    }
+
+    /// The rounds with 1,000 rows with what is pending.
+    pub fn rounds() -> Self {
+        let Ruled { tower, table, .. } = with_items(1_000);
+        Logged::with_no_log(tower, table)
+    }
+
+    /// A tower of 200 states and 16 actions of 1 to 255 ticks that are all enabled, and a table of 1,000
+    /// rows with 16 steps each: five rows have the same state.
+    pub fn largest() -> Self {
+        let states = 200;
+        let mut random = Random::new(4);
+        let actions: Vec<[u8; 2]> = (0..16).map(|_| [1 + random.below(255) as u8, 1]).collect();
+        let mut table = table_file(16);
+        let targets = |state: usize| {
+            let target = |_| random.below(states) as u8;
+            (state as u16, (0..16).map(target).collect::<Vec<u8>>())
+        };
+        let states: Vec<(u16, Vec<u8>)> = (0..states).map(targets).collect();
+        let [rows, _] = table_counts(&table);
+        let steps_at = two_bytes(&table, 6);
+        for (step, bytes) in table[steps_at..].chunks_exact_mut(STEP).enumerate() {
+            let (row, action) = (step / 16, step % 16);
+            let state = usize::from(states[row % states.len()].1[action]);
+            let target = state + states.len() * random.below(rows / states.len());
+            bytes[1..].copy_from_slice(&(target as u16).to_le_bytes());
+        }
+        Logged::with_no_log(tower_file(16, &actions, &states), table)
+    }
+
+    /// With a log of so many bytes at the most: lines that fit, from this tick on.
+    pub fn with_log(mut self, mut tick: usize, bytes: usize) -> Self {
+        let mut random = Random::new(3);
+        let mut row = 0;
+        self.log.reserve(bytes);
+        loop {
+            let [action, target] = some_step(&self.table, row, &mut random);
+            let line = format!("{tick} {action}\n");
+            if self.log.len() + line.len() > bytes {
+                return self;
+            }
+            self.log.extend(line.bytes());
+            tick += usize::from(self.tower[8 + 2 * action]);
+            row = target;
+        }
+    }
+
+    /// With an action that no table has in this line.
+    pub fn wrong_in(mut self, line: usize) -> Self {
+        let mut lines = self.log.split_inclusive(|byte| *byte == b'\n');
+        let before: usize = lines.by_ref().take(line).map(<[u8]>::len).sum();
+        let line = lines.next().expect("a line");
+        let end = before + line.len() - 1;
+        let space = line.iter().position(|byte| *byte == b' ');
+        let action = before + space.expect("a space") + 1;
+        self.log.splice(action..end, *b"99");
+        self
+    }
+
+    pub fn lines(&self) -> usize {
+        self.log.iter().filter(|byte| **byte == b'\n').count()
+    }
 }

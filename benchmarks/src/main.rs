@@ -12,11 +12,12 @@ mod proved;
 mod vectors;
 
 use answer::Answer;
-use inputs::Ruled;
+use inputs::{Logged, Ruled};
 use measure::{Growth, Pace, Times};
 use plain::book::Book;
 use plain::check::Checker;
 use plain::follow::follow;
+use plain::log::{Course, LogReader};
 use plain::make::Maker;
 use plain::table::MOST_BYTES;
 use plain::Refusal;
@@ -28,12 +29,18 @@ use std::time::Duration;
 /// The sizes at which the checker and the maker are measured.
 const SIZES: [usize; 3] = [250, 500, 1_000];
 
+/// How many times plain Rust's time a log may take.
+const MOST_OF_PLAIN: f64 = 1.0;
+
 /// What is measured, in the lines of tables.
 struct Report {
     pace: Pace,
     libraries: Vec<Box<dyn Library>>,
+    /// How many of them have the entry that is measured.
+    measured: usize,
     lines: Vec<String>,
-    passed: bool,
+    /// What is over its limit.
+    failures: Vec<&'static str>,
 }
 
 impl Report {
@@ -42,18 +49,21 @@ impl Report {
         let mut report = Report {
             pace,
             libraries: proved::libraries(),
+            measured: 0,
             lines: Vec::new(),
-            passed: true,
+            failures: Vec::new(),
         };
         read_books(&mut report);
         follow_tables(&mut report);
         check_tables(&mut report);
         make_tables(&mut report);
+        read_logs(&mut report);
         report
     }
 
-    /// Begins a table whose first columns tell the input.
+    /// Begins a table whose first columns tell the input. Every library has the entry.
     fn begin(&mut self, title: &str, columns: &[&str]) {
+        self.measured = self.libraries.len();
         let columns = columns.join(" | ");
         self.lines.push(format!("\n### {title}\n"));
         let proved = match self.libraries.len() {
@@ -74,27 +84,32 @@ impl Report {
     ) -> Answer {
         let plain = Answer::of(plain);
         assert_eq!(plain.number, 0, "{plain}");
-        for library in &mut self.libraries {
+        for library in &mut self.libraries[..self.measured] {
             assert_eq!(proved(library.as_mut()), plain);
         }
         plain
     }
 
-    /// Measures a call of each side; `calls` is how many calls of the entry each of them makes.
+    /// Measures a call of each side. `work` is what each of them does in it.
     fn measure(
         &mut self,
         input: &[String],
-        calls: usize,
+        work: Work,
         proved: impl FnMut(&mut dyn Library),
         plain: impl FnMut(),
     ) -> Times {
-        let times = self.pace.measure(&mut self.libraries, proved, plain);
-        let show = |time: Duration| show_time(time, calls);
+        let libraries = &mut self.libraries[..self.measured];
+        let times = self.pace.measure(libraries, proved, plain);
+        let show = |time: Duration| work.show(time);
         let ratio = |time: Duration| format!("{:.2}", measure::ratio(times.proved, time));
+        // A library without the entry has no time.
+        let missing = vec!["-".to_string(); self.libraries.len() - self.measured];
         let mut columns = input.to_vec();
         columns.extend(times.before.map(show));
+        columns.extend_from_slice(&missing);
         columns.push(show(times.proved));
         columns.extend(times.before.map(ratio));
+        columns.extend(missing);
         columns.extend([show(times.plain), ratio(times.plain)]);
         self.lines.push(format!("| {} |", columns.join(" | ")));
         times
@@ -112,13 +127,52 @@ impl Report {
             growth.relative(),
             Growth::MOST
         ));
-        self.passed &= growth.is_fine();
+        if !growth.is_fine() {
+            self.failures
+                .push("a time grows too fast beside plain Rust's");
+        }
+    }
+
+    /// Judges the times of the logs, each beside plain Rust's.
+    fn judge_logs(&mut self, times: &[Times]) {
+        let ratios = times
+            .iter()
+            .map(|times| measure::ratio(times.proved, times.plain));
+        let largest = ratios.fold(0.0, f64::max);
+        self.lines.push(format!(
+            "\nThe largest ratio is {largest:.2} (at most {MOST_OF_PLAIN:.1})."
+        ));
+        if largest > MOST_OF_PLAIN {
+            self.failures
+                .push("a log takes longer than with plain Rust");
+        }
     }
 }
 
-/// The time of one of so many calls.
-fn show_time(time: Duration, calls: usize) -> String {
-    let nanoseconds = time.as_secs_f64() * 1e9 / calls as f64;
+/// What is done in the time that is shown.
+#[derive(Clone, Copy)]
+enum Work {
+    /// So many calls of the entry; shown is the time of one.
+    Calls(usize),
+    /// One call that reads so many bytes; shown is how many there are to a second, too.
+    Bytes(usize),
+}
+
+impl Work {
+    fn show(self, time: Duration) -> String {
+        let seconds = time.as_secs_f64();
+        match self {
+            Work::Calls(calls) => show_time(seconds / calls as f64),
+            Work::Bytes(bytes) => {
+                let rate = bytes as f64 / seconds / 1e6;
+                format!("{}, {rate:.0} MB/s", show_time(seconds))
+            }
+        }
+    }
+}
+
+fn show_time(seconds: f64) -> String {
+    let nanoseconds = seconds * 1e9;
     match nanoseconds {
         ..1e3 => format!("{nanoseconds:.1} ns"),
         ..1e6 => format!("{:.2} µs", nanoseconds / 1e3),
@@ -149,7 +203,7 @@ fn read_books(report: &mut Report) {
         let [lines, nodes] = answer.values.map(grouped);
         report.measure(
             &[name.to_string(), grouped(book.len()), lines, nodes],
-            1,
+            Work::Calls(1),
             |library| {
                 black_box(library.read_book(marks, black_box(&book)));
             },
@@ -179,7 +233,7 @@ fn follow_tables(report: &mut Report) {
         }
         report.measure(
             &[rows, steps, grouped(table.len()), grouped(length)],
-            length,
+            Work::Calls(length),
             |library| {
                 black_box(library.follow_all(&table, &actions));
             },
@@ -207,7 +261,7 @@ fn check_tables(report: &mut Report) {
         let [rows, steps] = inputs::table_counts(table);
         report.measure(
             &[checker.met(), ruled.states(), rows, steps].map(grouped),
-            1,
+            Work::Calls(1),
             |library| {
                 black_box(library.check(black_box(tower), book, table));
             },
@@ -260,7 +314,7 @@ fn make_tables(report: &mut Report) {
         let numbers = numbers.map(grouped);
         report.measure(
             &[&[name.to_string()], &numbers[..]].concat(),
-            1,
+            Work::Calls(1),
             |library| {
                 black_box(library.make(black_box(tower), book, &mut of_proved));
             },
@@ -276,17 +330,66 @@ fn make_tables(report: &mut Report) {
     report.judge_growth(&times);
 }
 
+fn read_logs(report: &mut Report) {
+    let columns = ["log", "rows", "steps", "lines", "bytes"];
+    report.begin("Reading a log", &columns);
+    let libraries = report.libraries.iter();
+    report.measured = libraries.filter(|library| library.reads_logs()).count();
+    let mut reader = LogReader::new();
+    let mut measure = |name: &str, logged: Logged| {
+        let Logged { tower, table, log } = &logged;
+        let plain = reader.read(tower, table, log).map(|course| match course {
+            Course::Row(row) => [0, row],
+            Course::Line(line) => [1, line],
+        });
+        report.compare(|library| library.read_log(tower, table, log), plain);
+        let [rows, steps] = inputs::table_counts(table);
+        let numbers = [rows, steps, logged.lines(), log.len()].map(grouped);
+        report.measure(
+            &[&[name.to_string()], &numbers[..]].concat(),
+            Work::Bytes(log.len()),
+            |library| {
+                black_box(library.read_log(tower, table, black_box(log)));
+            },
+            || {
+                let _ = black_box(reader.read(tower, table, black_box(log)));
+            },
+        )
+    };
+    let [small, rounds, largest] = [Logged::small, Logged::rounds, Logged::largest];
+    let (bytes, ten_digits) = (10_000_000, 4_000_000_000);
+    let times = [
+        measure("the small tower", small().with_log(0, bytes)),
+        measure(
+            "the same, from tick 4,000,000,000",
+            small().with_log(ten_digits, bytes),
+        ),
+        measure("rounds", rounds().with_log(0, bytes)),
+        measure(
+            "the same, wrong in line 99",
+            rounds().with_log(0, bytes).wrong_in(99),
+        ),
+        measure("rounds, a year", rounds().with_log(0, 10 * bytes)),
+        measure(
+            "1,000 rows, from tick 4,000,000,000",
+            largest().with_log(ten_digits, bytes),
+        ),
+    ];
+    report.judge_logs(&times);
+}
+
 fn main() -> ExitCode {
     vectors::compare();
     let report = Report::of(Pace::FULL);
     for line in &report.lines {
         println!("{line}");
     }
-    if report.passed {
+    for failure in &report.failures {
+        eprintln!("{failure}");
+    }
+    if report.failures.is_empty() {
         ExitCode::SUCCESS
     } else {
-        let most = Growth::MOST;
-        eprintln!("a time grows more than {most} times as much as plain Rust's");
         ExitCode::FAILURE
     }
 }
@@ -314,6 +417,6 @@ mod tests {
                 assert_eq!(cells.len(), columns, "{row}");
             }
         }
-        assert_eq!(inputs, 15);
+        assert_eq!(inputs, 21);
     }
 }

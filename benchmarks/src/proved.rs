@@ -14,11 +14,17 @@ pub trait Library {
 
     /// The row after actions that a table allows one after the other.
     fn follow_all(&mut self, table: &[u8], actions: &[usize]) -> usize;
+
+    /// Whether there is a log reader.
+    fn reads_logs(&self) -> bool;
+
+    fn read_log(&mut self, tower: &[u8], table: &[u8], log: &[u8]) -> Answer;
 }
 
 mod now {
     use std::hint::black_box;
     use succoryvise_sys as sys;
+    const READS_LOGS: bool = true;
     include!("entries.rs");
 }
 
@@ -26,6 +32,7 @@ mod now {
 mod before {
     use before as sys;
     use std::hint::black_box;
+    use sys::READS_LOGS;
     include!("entries.rs");
 }
 

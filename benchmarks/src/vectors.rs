@@ -4,6 +4,7 @@ use crate::answer::Answer;
 use crate::plain::book::Book;
 use crate::plain::check::Checker;
 use crate::plain::follow::follow;
+use crate::plain::log::{Course, LogReader};
 use crate::plain::make::Maker;
 use crate::plain::table::MOST_BYTES;
 use std::fs;
@@ -19,9 +20,9 @@ pub fn lines(file: &str) -> Vec<Line> {
     let folder = Path::new(env!("CARGO_MANIFEST_DIR")).join("../tests/vectors");
     let inside = fs::read_dir(&folder).expect("a folder of vectors");
     let mut folders: Vec<PathBuf> = inside.map(|entry| entry.expect("a file").path()).collect();
-    folders.retain(|path| path.join(file).is_file());
     folders.sort();
     folders.insert(0, folder);
+    folders.retain(|path| path.join(file).is_file());
     let read = |folder: &PathBuf| fs::read_to_string(folder.join(file)).expect("a file of vectors");
     let text: String = folders.iter().map(read).collect();
     let line = |line: &str| {
@@ -46,6 +47,7 @@ pub fn bytes(hexadecimal: &str) -> Vec<u8> {
 pub fn compare() -> usize {
     let mut maker = Maker::new();
     let mut checker = Checker::new();
+    let mut log_reader = LogReader::new();
     let mut count = 0;
     let mut each = |file: &str, answer: &mut dyn FnMut(&[String]) -> String| {
         for line in lines(file) {
@@ -87,6 +89,14 @@ pub fn compare() -> usize {
     ) {
         Ok(row) => format!("row {row}"),
         Err(refusal) => Answer::of(Err(refusal)).to_string(),
+    });
+    each("log.txt", &mut |inputs| {
+        let [tower, table, log] = [0, 1, 2].map(|i| bytes(&inputs[i]));
+        match log_reader.read(&tower, &table, &log) {
+            Ok(Course::Row(row)) => format!("row {row}"),
+            Ok(Course::Line(line)) => format!("line {line}"),
+            Err(refusal) => Answer::of(Err(refusal)).to_string(),
+        }
     });
     count
 }

@@ -1,5 +1,5 @@
-/* Every refusal of the paper through the interface for C, by the examples of its table; and after every
- * call the output, the areas and the inputs are as they have to be. Each block of memory has just the
+/* Every refusal through the interface for C, by the examples of the paper's table; and after every call
+ * the output, the areas and the inputs are as they have to be. Each block of memory has just the
  * length that is told, so that a tool such as valgrind sees a byte read or written beside it. */
 #include "succoryvise.h"
 
@@ -29,7 +29,10 @@ struct bytes {
 };
 
 static int right, wrong;
-static int came[19];
+
+/* Which numbers have come, up to the last one. */
+#define LAST SUCCORYVISE_LOG
+static int came[LAST + 1];
 
 static void count(int holds, const char *what, const char *fact)
 {
@@ -125,7 +128,7 @@ static void expect(const char *what, struct succoryvise_answer answer, uint32_t 
     if (!holds)
         printf("    %u %zu %u, and not %u %zu %d\n", (unsigned)answer.number, answer.place,
                (unsigned)answer.letter, (unsigned)number, place, letter);
-    if (answer.number <= 18)
+    if (answer.number <= LAST)
         came[answer.number] = 1;
 }
 
@@ -195,6 +198,21 @@ static struct succoryvise_answer follow(const char *what, struct bytes table, si
     answer = succoryvise_follow(table.at, table.length, row, action);
     count(same(table, before), what, "the table has changed");
     free(before.at);
+    return answer;
+}
+
+static struct succoryvise_answer read_log(const char *what, struct bytes tower, struct bytes table,
+                                          struct bytes log)
+{
+    struct bytes before = copy_of(tower.at, tower.length), file = copy_of(table.at, table.length);
+    struct bytes lines = copy_of(log.at, log.length);
+    struct succoryvise_answer answer;
+
+    answer = succoryvise_read_log(tower.at, tower.length, table.at, table.length, log.at, log.length);
+    count(same(tower, before) && same(table, file) && same(log, lines), what, "an input has changed");
+    free(before.at);
+    free(file.at);
+    free(lines.at);
     return answer;
 }
 
@@ -309,16 +327,18 @@ static struct bytes with(const uint8_t *file, size_t length, size_t at, uint8_t 
     return bytes;
 }
 
-/* A tower that is refused, by maker and checker. */
+/* A tower that is refused, by all three that read one; the log is not read. */
 static void bad_tower(const char *what, struct bytes tower, uint32_t number)
 {
-    struct bytes text = text_of(book_1), table = table_1();
+    struct bytes text = text_of(book_1), table = table_1(), log = text_of("x");
 
     expect(what, make(what, tower, text, SUCCORYVISE_TABLE_MOST, NULL), number, 0, 0);
     expect(what, check(what, tower, text, table), number, 0, 0);
+    expect(what, read_log(what, tower, table, log), number, 0, 0);
     free(tower.at);
     free(text.at);
     free(table.at);
+    free(log.at);
 }
 
 /* A book that is refused, by all three that read one. */
@@ -334,15 +354,49 @@ static void bad_book(const char *what, struct bytes text, uint32_t number, size_
     free(table.at);
 }
 
-/* A table that is not good for the small tower. */
+/* A table that is not good for the small tower. Without a book, a to d come before the log is read, and e
+ * never comes. */
 static void bad_table(const char *what, struct bytes table, const char *book, size_t row, int letter)
 {
     struct bytes tower = copy_of(small_tower, sizeof small_tower), text = text_of(book);
+    struct bytes log = text_of("x");
 
     expect(what, check(what, tower, text, table), SUCCORYVISE_NOT_GOOD, row, letter);
+    if (letter == SUCCORYVISE_BROKEN)
+        expect(what, read_log(what, tower, table, log), SUCCORYVISE_LOG, 0, 0);
+    else
+        expect(what, read_log(what, tower, table, log), SUCCORYVISE_NOT_GOOD, row, letter);
     free(tower.at);
     free(text.at);
     free(table.at);
+    free(log.at);
+}
+
+/* A log for the small tower under table 1. */
+static struct succoryvise_answer read_small_log(const char *what, struct bytes log)
+{
+    struct bytes tower = copy_of(small_tower, sizeof small_tower), table = table_1();
+    struct succoryvise_answer answer = read_log(what, tower, table, log);
+
+    free(tower.at);
+    free(table.at);
+    free(log.at);
+    return answer;
+}
+
+/* One that is read, and what it comes to. */
+static void good_log(const char *what, struct bytes log, size_t first, size_t second)
+{
+    struct succoryvise_answer answer = read_small_log(what, log);
+
+    expect(what, answer, SUCCORYVISE_DONE, 0, 0);
+    count(answer.first == first && answer.second == second, what, "what the log comes to");
+}
+
+/* One of which this line is not of the form. */
+static void bad_log(const char *what, struct bytes log, size_t line)
+{
+    expect(what, read_small_log(what, log), SUCCORYVISE_LOG, line, 0);
 }
 
 static void towers(void)
@@ -431,6 +485,8 @@ static void tables(void)
     expect("target row = rows", check("target row = rows", tower, text, outside),
            SUCCORYVISE_LAYOUT, 0, 0);
     expect("target row = rows", follow("target row = rows", outside, 0, 0), SUCCORYVISE_LAYOUT, 0, 0);
+    expect("target row = rows", read_log("target row = rows", tower, outside, none), SUCCORYVISE_LAYOUT, 0,
+           0);
     free(outside.at);
     bad_table("row 0 of state 1", table_1_with(state_at(0), 1), "", 0, SUCCORYVISE_START);
     bad_table("action 0 for 1", table_1_with(action_at(ROWS_1, 2), 0), "", 1, SUCCORYVISE_WITHHELD);
@@ -484,6 +540,63 @@ static void areas(void)
     free(table.at);
 }
 
+/* A log of 70,000 lines that fits and ends in row 4, and this behind it. */
+static struct bytes long_log(const char *end)
+{
+    struct bytes most = block(70000 * strlen("70099 0\n") + strlen(end) + 1), log;
+    char *at = (char *)most.at;
+    unsigned i;
+
+    for (i = 0; i < 70000; i++)
+        at += sprintf(at, "%u %u\n", 100 + i, i % 4);
+    at += sprintf(at, "%s", end);
+    log = copy_of(most.at, (size_t)(at - (char *)most.at));
+    free(most.at);
+    return log;
+}
+
+static void logs(void)
+{
+    static const struct {
+        const char *text;
+        size_t first, second;
+    } good[] = {
+        { "", SUCCORYVISE_FITS, 0 },
+        { "7 0\n8 1\n9 2\n10 3\n", SUCCORYVISE_FITS, 4 },
+        { "0000000007 00\n08 01\n", SUCCORYVISE_FITS, 3 },
+        { "4294967294 0\n4294967295 1\n", SUCCORYVISE_FITS, 3 },
+        { "7 1\n", SUCCORYVISE_FAILS, 0 },
+        { "7 4\n", SUCCORYVISE_FAILS, 0 },
+        { "7 99\n", SUCCORYVISE_FAILS, 0 },
+        { "7 0\n9 1\n10 9\n", SUCCORYVISE_FAILS, 1 },
+        { "4294967295 0\n0 1\n", SUCCORYVISE_FAILS, 1 },
+    };
+    static const struct {
+        const char *text;
+        size_t line;
+    } bad[] = {
+        { "\n", 0 },
+        { "7", 0 },
+        { "7 ", 0 },
+        { "7 0", 0 },
+        { "7 0\n8 01", 1 },
+        { "7 0\n\n8 1\n", 1 },
+        { "7 000\n", 0 },
+        { "00000000007 0\n", 0 },
+        { "4294967296 0\n", 0 },
+        { "7 9\n8 1\nx\n", 2 },
+    };
+    size_t i;
+
+    for (i = 0; i < sizeof good / sizeof *good; i++)
+        good_log(good[i].text, text_of(good[i].text), good[i].first, good[i].second);
+    for (i = 0; i < sizeof bad / sizeof *bad; i++)
+        bad_log(bad[i].text, text_of(bad[i].text), bad[i].line);
+    good_log("70,000 lines", long_log(""), SUCCORYVISE_FITS, 4);
+    good_log("70,000 lines, and one late", long_log("70101 0\n"), SUCCORYVISE_FAILS, 70000);
+    bad_log("70,000 lines, and one not ended", long_log("70100 0"), 70000);
+}
+
 int main(void)
 {
     size_t more;
@@ -501,7 +614,8 @@ int main(void)
             if (more == 0)
                 areas();
         }
-    for (i = 0; i <= 18; i++)
+    logs();
+    for (i = 0; i <= LAST; i++)
         count(came[i], "all numbers", "one has not come");
     printf("refusals: %d right, %d wrong\n", right, wrong);
     return wrong != 0;

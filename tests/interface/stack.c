@@ -1,7 +1,7 @@
-/* How much stack each function takes for books of each shape: lines 'FUNCTION, SHAPE: BYTES'. Each call
- * runs on a thread whose stack was filled with one byte before; from the lowest byte that is another
- * one afterwards it was used. Fails where an answer is another one than stated, or where
- * SUCCORYVISE_STACK bytes are not enough. */
+/* How much stack each function takes: lines 'FUNCTION: BYTES', and where it reads a book, for books of each
+ * shape, lines 'FUNCTION, SHAPE: BYTES'. Each call runs on a thread whose stack was filled with one byte
+ * before; from the lowest byte that is another one afterwards it was used. Fails where an answer is
+ * another one than stated, or where SUCCORYVISE_STACK bytes are not enough. */
 #define _POSIX_C_SOURCE 200809L
 #include "succoryvise.h"
 
@@ -48,6 +48,13 @@ static struct succoryvise_answer check(void)
 static struct succoryvise_answer follow(void)
 {
     return succoryvise_follow(table, table_length, 0, 0);
+}
+
+static struct succoryvise_answer read_log(void)
+{
+    static const uint8_t log[] = "4294967293 0\n4294967294 00\n4294967295 0\n";
+
+    return succoryvise_read_log(tower, sizeof tower, table, table_length, log, sizeof log - 1);
 }
 
 /* A call, and what came of it. */
@@ -151,17 +158,21 @@ int main(void)
     static const struct {
         const char *name;
         struct succoryvise_answer (*function)(void);
-    } functions[] = { { "read_book", read_book }, { "make", make }, { "check", check } };
+    } without_book[] = { { "follow", follow }, { "read_log", read_log } },
+      functions[] = { { "read_book", read_book }, { "make", make }, { "check", check } };
     struct call call;
     size_t i, j;
 
     text_length = 0;
     table_length = make().first;
     memcpy(table, out, table_length);
-    call = call_on_a_thread(follow);
-    if (call.answer.number != SUCCORYVISE_DONE)
-        return 1;
-    printf("follow: %lu\n", (unsigned long)call.used);
+    for (i = 0; i < sizeof without_book / sizeof *without_book; i++) {
+        call = call_on_a_thread(without_book[i].function);
+        /* Row 0; and a log that fits. */
+        if (call.answer.number != SUCCORYVISE_DONE || call.answer.first != 0)
+            return 1;
+        printf("%s: %lu\n", without_book[i].name, (unsigned long)call.used);
+    }
     for (i = 0; i < sizeof shapes / sizeof *shapes; i++) {
         build(&shapes[i]);
         for (j = 0; j < 3; j++) {

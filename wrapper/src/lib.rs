@@ -2,9 +2,10 @@
 //!
 //! A play table tells a tower's clavier which actions it may release after all that has happened so
 //! far. This crate reads rule books ([`read_book`]), makes the table for a tower and a book
-//! ([`make()`]), checks anybody's table ([`check`]) and follows a table by one action ([`follow`]). It
-//! is a thin layer over the archive of the Rattle crate of the same name, in which the answers are
-//! proved for every input; what this layer adds, types and the memory that is lent, is plain Rust.
+//! ([`make()`]), checks anybody's table ([`check`]), follows a table by one action ([`follow`]) and
+//! holds a stroke log against a table ([`read_log`]). It is a thin layer over the archive of the Rattle
+//! crate of the same name, in which the answers are proved for every input; what this layer adds, types
+//! and the memory that is lent, is plain Rust.
 //!
 //! The words tower file, rule book, table, row and refusal are those of the paper 'Play tables for
 //! bell towers'; `docs/FORMATS.md` has every byte of the files.
@@ -30,18 +31,22 @@
 //! assert_eq!(player.play(0), Ok(1)); // the first bell: row 1
 //! assert_eq!(player.play(1), Ok(3)); // back to the rest: row 3
 //! assert!(!player.allows(0)); // now the other bell is due
+//!
+//! let log = b"7 0\n8 1\n9 0\n"; // tick and action of each stroke
+//! let reading = succoryvise::read_log(&tower, &table, log)?;
+//! assert_eq!(reading, succoryvise::LogReading::Line(2)); // the first bell again
 //! # Ok(())
 //! # }
 //! ```
 //!
 //! # Stack
 //!
-//! [`follow`] and [`Player`] need less than 1 KiB of stack. What reads a rule book calls itself for
-//! every bracket, `N`, `A`, `E` and `U` that a part of a formula stands in: up to 14 KiB for books that
-//! are accepted, and for a text of 4,096 bytes that is not, up to 1.5 MiB if it is all brackets, and
-//! 0.5 MiB if it is all `A` (measured on x86-64; `docs/LINKING.md` has each shape). The threads of the
-//! standard library have 2 MiB if nothing else is asked for. On a thread with too little the program is
-//! ended by the guard page, as after any other recursion.
+//! [`follow`] and [`Player`] need less than 1 KiB of stack, [`read_log`] 33 KiB. What reads a rule book
+//! calls itself for every bracket, `N`, `A`, `E` and `U` that a part of a formula stands in: up to 14 KiB
+//! for books that are accepted, and for a text of 4,096 bytes that is not, up to 1.5 MiB if it is all
+//! brackets, and 0.5 MiB if it is all `A` (measured on x86-64; `docs/LINKING.md` has each shape). The
+//! threads of the standard library have 2 MiB if nothing else is asked for. On a thread with too little
+//! the program is ended by the guard page, as after any other recursion.
 //!
 //! # Linking
 //!
@@ -161,4 +166,44 @@ pub fn check(tower: &[u8], text: &[u8], table: &[u8]) -> Result<(), Refusal> {
 pub fn follow(table: &[u8], row: usize, action: usize) -> Result<usize, Refusal> {
     let [next, ..] = values(sys::follow(table, row, action))?;
     Ok(next)
+}
+
+/// What a log comes to along a table.
+#[derive(Clone, Copy, Debug, PartialEq, Eq)]
+pub enum LogReading {
+    /// Every line fits, and this is the final row: 0 for a log without lines.
+    Row(usize),
+    /// This line, from 0, is the first that does not fit.
+    Line(usize),
+}
+
+/// Holds a stroke log against a table, from row 0 on.
+///
+/// A line of the log is a tick, a space, the number of an action and byte 10. It fits where the table
+/// allows the action after the lines before it, and the tick is that of the line before plus the length
+/// of that line's action; the first tick is free. A log may have any length, and nothing is borrowed from
+/// the heap.
+///
+/// The refusals are those of the tower (numbers 1 to 5), [`Layout`](Refusal::Layout),
+/// [`NotGood`](Refusal::NotGood) for every reason but [`Broken`](Reason::Broken), since no book is read,
+/// and [`Log`](Refusal::Log) with the first line that is not of the form, also where one before it does
+/// not fit.
+///
+/// ```
+/// # let tower = include_bytes!("../../examples/small-tower/tower.bin");
+/// use succoryvise::{make, read_log, LogReading, Refusal};
+///
+/// let table = make(tower, b"").unwrap();
+/// assert_eq!(read_log(tower, &table, b"7 0\n8 1\n9 2\n"), Ok(LogReading::Row(2)));
+/// assert_eq!(read_log(tower, &table, b"7 0\n9 1\n"), Ok(LogReading::Line(1))); // due at 8
+/// assert_eq!(read_log(tower, &table, b"7 3\n8 2\n"), Ok(LogReading::Line(0))); // not allowed
+/// let refused = read_log(tower, &table, b"7 0\n8\n");
+/// assert!(matches!(refused, Err(Refusal::Log { line: 1, .. })));
+/// ```
+pub fn read_log(tower: &[u8], table: &[u8], log: &[u8]) -> Result<LogReading, Refusal> {
+    let [first, second, _] = values(sys::read_log(tower, table, log))?;
+    Ok(match first {
+        0 => LogReading::Row(second),
+        _ => LogReading::Line(second),
+    })
 }

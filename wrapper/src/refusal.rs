@@ -88,6 +88,12 @@ pub enum Refusal {
     Outside,
     /// 18: the action is not allowed in this row.
     NotAllowed,
+    /// 19: a line of the log is not of its form.
+    #[non_exhaustive]
+    Log {
+        /// The line.
+        line: usize,
+    },
     /// Any other number: the archive knows more refusals than this crate.
     #[non_exhaustive]
     Other {
@@ -135,7 +141,7 @@ pub enum Reason {
 }
 
 impl Refusal {
-    /// The number of the paper, 1 to 18 so far.
+    /// The number of the paper, 1 to 19 so far.
     pub fn number(&self) -> u32 {
         match self {
             Refusal::TowerSize => 1,
@@ -156,18 +162,20 @@ impl Refusal {
             Refusal::Output => 16,
             Refusal::Outside => 17,
             Refusal::NotAllowed => 18,
+            Refusal::Log { .. } => 19,
             Refusal::Other { number, .. } => *number,
         }
     }
 
-    /// The place of the paper: the line from 0 for 6 to 10, the row for a 14 b to d, otherwise 0.
+    /// The place of the paper: the line from 0 for 6 to 10 and 19, the row for a 14 b to d, otherwise 0.
     pub fn place(&self) -> usize {
         match self {
             Refusal::Grammar { line }
             | Refusal::Number { line }
             | Refusal::Mark { line }
             | Refusal::Limit { line }
-            | Refusal::Timed { line } => *line,
+            | Refusal::Timed { line }
+            | Refusal::Log { line } => *line,
             Refusal::NotGood(reason) => reason.place(),
             Refusal::Other { place, .. } => *place,
             _ => 0,
@@ -204,6 +212,7 @@ impl Refusal {
             16 => Refusal::Output,
             17 => Refusal::Outside,
             18 => Refusal::NotAllowed,
+            19 => Refusal::Log { line },
             number => Refusal::Other { number, place },
         }
     }
@@ -274,6 +283,7 @@ impl fmt::Display for Refusal {
             Refusal::Output => f.write_str("the output is too short for the table"),
             Refusal::Outside => f.write_str("the row or the action is outside the table"),
             Refusal::NotAllowed => f.write_str("the action is not allowed now"),
+            Refusal::Log { .. } => write!(f, "line {counted} of the log is not of its form"),
             Refusal::Other { number, place } => {
                 write!(f, "refused with number {number}, place {place}")
             }
@@ -287,7 +297,9 @@ impl fmt::Display for Reason {
         match self {
             Reason::Start => f.write_str("row 0 has not the start state"),
             Reason::Withheld { row } => write!(f, "row {row} withholds an action that is not ours"),
-            Reason::WrongStep { row } => write!(f, "row {row} has a step that the tower does not have"),
+            Reason::WrongStep { row } => {
+                write!(f, "row {row} has a step that the tower does not have")
+            }
             Reason::Stopped { row } => write!(f, "row {row} allows no action but the player's"),
             Reason::Broken => f.write_str("it allows a run that breaks a rule"),
             Reason::Other { letter, place } => write!(f, "reason {letter}, place {place}"),
@@ -315,9 +327,9 @@ mod tests {
     /// Number, place and letter of each refusal are those that it was made of.
     #[test]
     fn numbers_there_and_back() {
-        for number in (1..=18).filter(|number| *number != 14) {
+        for number in (1..=19).filter(|number| *number != 14) {
             let refusal = refusal(number, 7, 0);
-            let place = if (6..=10).contains(&number) { 7 } else { 0 };
+            let place = if matches!(number, 6..=10 | 19) { 7 } else { 0 };
             assert_eq!((refusal.number(), refusal.place()), (number, place));
             assert_eq!(refusal.reason(), None);
             assert!(!matches!(refusal, Refusal::Other { .. }));
@@ -344,7 +356,7 @@ mod tests {
             for place in [0, 7, usize::MAX] {
                 let refusal = refusal(number, place, 0);
                 assert_eq!(refusal.number(), number);
-                let known = number <= 18;
+                let known = number <= 19;
                 assert_eq!(matches!(refusal, Refusal::Other { .. }), !known);
                 assert!(known || refusal.place() == place);
                 assert!(!refusal.to_string().is_empty());
@@ -371,8 +383,12 @@ mod tests {
             "the table is not good: row 2 allows no action but the player's"
         );
         assert_eq!(
-            refusal(19, 2, 0).to_string(),
-            "refused with number 19, place 2"
+            refusal(19, 65_536, 0).to_string(),
+            "line 65537 of the log is not of its form"
+        );
+        assert_eq!(
+            refusal(20, 2, 0).to_string(),
+            "refused with number 20, place 2"
         );
     }
 }

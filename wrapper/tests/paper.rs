@@ -1,4 +1,4 @@
-//! The paper's examples of refusals, and the small tower, through the safe interface.
+//! The paper's examples of refusals, the small tower and logs of it, through the safe interface.
 
 #[path = "../../tests/reference/tests/common/mod.rs"]
 mod common;
@@ -8,7 +8,8 @@ use reference::table::{action_at, state_at, target_at};
 use std::fs;
 use std::path::Path;
 use std::thread;
-use succoryvise::{check, follow, make, read_book, Maker, Player, Reason, Refusal};
+use succoryvise::{check, follow, make, read_book, read_log};
+use succoryvise::{LogReading, Maker, Player, Reason, Refusal};
 
 /// A file of the examples.
 fn example(name: &str) -> Vec<u8> {
@@ -59,6 +60,7 @@ fn towers_that_are_not_fit() {
     for (tower, refusal) in towers {
         assert_eq!(make(&tower, BOOK_1), Err(refusal));
         assert_eq!(check(&tower, BOOK_1, &table_1()), Err(refusal));
+        assert_eq!(read_log(&tower, &table_1(), b"x"), Err(refusal));
     }
     assert_eq!(read_book(17, BOOK_1), Err(Refusal::Range));
 }
@@ -95,23 +97,26 @@ fn no_table_and_too_many_pairs() {
 
 #[test]
 fn tables_that_are_not_fit_or_not_good() {
-    let judge = |at: usize, byte: u8, book: &[u8]| {
+    let with = |at: usize, byte: u8| {
         let mut table = table_1();
         table[at] = byte;
-        check(&SMALL_TOWER, book, &table)
+        table
     };
-    assert_eq!(judge(target_at(5, 0), 5, BOOK_1), Err(Refusal::Layout));
-    let start = judge(state_at(0), 1, b"");
-    assert_eq!(start, Err(Refusal::NotGood(Reason::Start)));
-    let withheld = judge(action_at(5, 2), 0, b"");
-    assert_eq!(refused(withheld), (14, 1, Some('b')));
-    let step = judge(target_at(5, 3), 1, b"");
-    assert_eq!(refused(step), (14, 2, Some('c')));
-    let stopped = check(&SMALL_TOWER, b"", &stopped_table().encode());
-    assert_eq!(refused(stopped), (14, 0, Some('d')));
+    let tables = [
+        (with(target_at(5, 0), 5), (13, 0, None)),
+        (with(state_at(0), 1), (14, 0, Some('a'))),
+        (with(action_at(5, 2), 0), (14, 1, Some('b'))),
+        (with(target_at(5, 3), 1), (14, 2, Some('c'))),
+        (stopped_table().encode(), (14, 0, Some('d'))),
+    ];
+    for (table, refusal) in tables {
+        assert_eq!(refused(check(&SMALL_TOWER, b"", &table)), refusal);
+        assert_eq!(refused(read_log(&SMALL_TOWER, &table, b"x")), refusal);
+    }
     let all = make(&SMALL_TOWER, b"").expect("outcome 5");
     let broken = check(&SMALL_TOWER, BOOK_1, &all);
     assert_eq!(broken, Err(Refusal::NotGood(Reason::Broken)));
+    assert_eq!(read_log(&SMALL_TOWER, &all, b""), Ok(LogReading::Row(0)));
 }
 
 /// With the player's key in place of the clock's train the small tower has stopped.
@@ -152,6 +157,41 @@ fn a_performance() {
     player.restart();
     assert_eq!(player.row(), 0);
     assert_eq!(player.table(), table_1());
+}
+
+#[test]
+fn logs() {
+    let read = |log: &[u8]| read_log(&SMALL_TOWER, &table_1(), log);
+    let logs = [
+        (&[][..], LogReading::Row(0)),
+        (&["7 0", "8 1", "9 2", "10 3"], LogReading::Row(4)),
+        (&["0000000007 00", "08 01"], LogReading::Row(3)),
+        (&["7 99"], LogReading::Line(0)),
+        (&["7 0", "9 1", "10 9"], LogReading::Line(1)),
+        (&["4294967295 0", "0 1"], LogReading::Line(1)),
+    ];
+    for (log, reading) in logs {
+        assert_eq!(read(&lines(log)), Ok(reading));
+    }
+    for (log, line) in [
+        (&b"7 0"[..], 0),
+        (b"4294967296 0\n", 0),
+        (b"7 0\n\n", 1),
+        (b"7 9\n8 1\nx\n", 2),
+    ] {
+        assert_eq!(refused(read(log)), (19, line, None));
+    }
+}
+
+/// A log has no longest length, and its lines are counted on.
+#[test]
+fn a_long_log() {
+    let line = |number: usize| format!("{} {}\n", 100 + number, number % 4);
+    let log: String = (0..70_000).map(line).collect();
+    let read = |end: &str| read_log(&SMALL_TOWER, &table_1(), (log.clone() + end).as_bytes());
+    assert_eq!(read(""), Ok(LogReading::Row(4)));
+    assert_eq!(read("70101 0\n"), Ok(LogReading::Line(70_000)));
+    assert_eq!(refused(read("70100 0")), (19, 70_000, None));
 }
 
 /// A refusal changes no byte of the output, bytes behind a table stay, and a maker makes the same

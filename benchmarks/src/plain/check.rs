@@ -41,15 +41,7 @@ impl Checker {
         let tower = Tower::read(tower)?;
         let book = Book::read(tower.marks, book)?;
         let table = Table::read(table)?;
-        if table.states != tower.states || table.actions != tower.actions {
-            return Err(Refusal::new(13));
-        }
-        if table.state(0) != tower.start {
-            return Err(Refusal::not_good(b'a', 0));
-        }
-        for row in 0..table.rows {
-            judge_row(&tower, &table, row)?;
-        }
+        judge_rows(&tower, &table)?;
         if self.allows_a_broken_run(&tower, &book, &table)? {
             return Err(Refusal::not_good(b'e', 0));
         }
@@ -101,6 +93,17 @@ impl Checker {
         }
         Ok(broken)
     }
+}
+
+/// 13 where the table is for towers of another size, and the reasons a to d.
+pub fn judge_rows(tower: &Tower, table: &Table) -> Result<(), Refusal> {
+    if table.states != tower.states || table.actions != tower.actions {
+        return Err(Refusal::new(13));
+    }
+    if table.state(0) != tower.start {
+        return Err(Refusal::not_good(b'a', 0));
+    }
+    (0..table.rows).try_for_each(|row| judge_row(tower, table, row))
 }
 
 /// The reasons b, c and d.

@@ -1,10 +1,11 @@
-//! The four entries in plain Rust, as one would write them for speed and without proofs: what is
+//! The five entries in plain Rust, as one would write them for speed and without proofs: what is
 //! read lies in arrays of fixed size, and the room of the searches is kept from call to call.
 
 pub mod book;
 pub mod check;
 pub mod follow;
 pub mod hash;
+pub mod log;
 pub mod make;
 pub mod pending;
 pub mod table;

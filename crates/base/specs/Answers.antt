@@ -1,4 +1,4 @@
--- 01, 'Why a call is turned down': the number, place and values of every answer.
+-- 01, 'Why a call is turned down', and 02: the number, place and values of every answer.
 use Prim.Native.Nat.{ℕ}
 use mathlib.Core.Bool.{Bool}
 use mathlib.Core.List.{List, [], _∷_}
@@ -7,7 +7,7 @@ use Rattle.base.specs.Text.{byte}
 use Rattle.base.specs.declared.Reason.{Reason}
 use Rattle.base.specs.declared.Reason.the-variants.{Start, Withheld, WrongStep, Stopped, Broken}
 use Rattle.base.specs.declared.Refusal.{Refusal}
-use Rattle.base.specs.declared.Refusal.the-variants.{TowerSize, Range, Action, Target, Mask, Grammar, Number, Mark, Limit, Timed, Pairs, NoTable, Layout, Area, Output, Outside, NotAllowed}
+use Rattle.base.specs.declared.Refusal.the-variants.{TowerSize, Range, Action, Target, Mask, Grammar, Number, Mark, Limit, Timed, Pairs, NoTable, Layout, Area, Output, Outside, NotAllowed, Log}
 use Rattle.base.specs.declared.BookAnswer.{BookAnswer}
 use Rattle.base.specs.declared.BookAnswer.the-variants as Book
 use Rattle.base.specs.declared.MakeAnswer.{MakeAnswer}
@@ -16,6 +16,8 @@ use Rattle.base.specs.declared.Verdict.{Verdict}
 use Rattle.base.specs.declared.Verdict.the-variants as Check
 use Rattle.base.specs.declared.FollowAnswer.{FollowAnswer}
 use Rattle.base.specs.declared.FollowAnswer.the-variants as Follow
+use Rattle.base.specs.declared.LogAnswer.{LogAnswer}
+use Rattle.base.specs.declared.LogAnswer.the-variants as Logged
 
 -- What the papers say of an answer: its values; or number and place of a refusal, with the reason's letter inside a 14.
 pub data Said : Type 0 where
@@ -57,8 +59,9 @@ refusal-number Area = 15
 refusal-number Output = 16
 refusal-number Outside = 17
 refusal-number NotAllowed = 18
+refusal-number (Log line) = 19
 
--- its place: the line for 6 to 10, otherwise 0
+-- its place: the line for 6 to 10 and for 19, otherwise 0
 abbrev pub refusal-place : Refusal → ℕ
 refusal-place TowerSize = 0
 refusal-place Range = 0
@@ -77,6 +80,7 @@ refusal-place Area = 0
 refusal-place Output = 0
 refusal-place Outside = 0
 refusal-place NotAllowed = 0
+refusal-place (Log line) = line
 
 -- what is said of a refusal
 unfoldable pub refusal-said : Refusal → Said
@@ -106,6 +110,13 @@ verdict-said (Check.Refused r) = refusal-said r
 unfoldable pub follow-said : FollowAnswer → Said
 follow-said (Follow.Row row) = answered (row ∷ [])
 follow-said (Follow.Refused r) = refusal-said r
+
+-- the log reader's values: 0 and the final row, or 1 and the first line that does not fit
+unfoldable pub log-said : LogAnswer → Said
+log-said (Logged.Row row) = answered (0 ∷ row ∷ [])
+log-said (Logged.Line line) = answered (1 ∷ line ∷ [])
+log-said (Logged.NotGood reason) = reason-said reason
+log-said (Logged.Refused r) = refusal-said r
 
 -- What a definition gives: a value, or the refusal in its place.
 pub data Answer (A : Type 0) : Type 0 where

@@ -1,5 +1,5 @@
-// The answers of the four entries, and the one type of refusal that they share.
-// 01, 'Why a call is turned down'; specs/Answers.antt gives number, place and values of every case.
+// The answers of the five entries, and the one type of refusal that they share.
+// 01, 'Why a call is turned down', and 02; specs/Answers.antt gives number, place and values of every case.
 
 // Why the checker does not call a table good: the letter of 01, with the row for b to d.
 pub enum Reason {
@@ -15,8 +15,8 @@ pub enum Reason {
     Broken,
 }
 
-// Why a call is turned down, a case for each number of 01 in its order, but 14: a table that is not good is a case of
-// the checker's answer. A rule book's refusal carries its line.
+// Why a call is turned down, a case for each number of 01 and 02 in its order, but 14: a table that is not good is a
+// case of the answer. A rule book's refusal carries its line, and so does a log's.
 pub enum Refusal {
     // 1: the tower's length, or an offset in its header.
     TowerSize,
@@ -52,6 +52,8 @@ pub enum Refusal {
     Outside,
     // 18: the action is not allowed in that row.
     NotAllowed,
+    // 19: this line of the log is not of its form.
+    Log(usize),
 }
 
 // What the book reader answers.
@@ -77,5 +79,16 @@ pub enum Verdict {
 // What the follower answers: the row that the action leads to.
 pub enum FollowAnswer {
     Row(usize),
+    Refused(Refusal),
+}
+
+// What the log reader answers.
+pub enum LogAnswer {
+    // Every line fits: the final row.
+    Row(usize),
+    // The first line that does not fit.
+    Line(usize),
+    // 14: the table is not good, for a reason from a to d.
+    NotGood(Reason),
     Refused(Refusal),
 }

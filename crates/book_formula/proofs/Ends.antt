@@ -18,7 +18,8 @@ use Rattle.reading.specs.Grammar.{Bound, no-bound, compared, optional, Connecti
 use Rattle.reading.proofs.SpelledTokens.{passages-end, compared-by, optional-by}
 use Rattle.reading.proofs.SpelledFormulas.{spelled-ends, Found, Sound, found, level-sound}
 use Rattle.reading.proofs.FormulaBack.{rank-few}
-use Rattle.book_tokens.proofs.Laws.{byte-inside, skip-ahead}
+use Rattle.text_numerals.proofs.Laws.{byte-inside}
+use Rattle.book_tokens.proofs.Laws.{skip-ahead}
 use Rattle.book_formula.specs.Parse.{parse}
 
 -- ---- ends

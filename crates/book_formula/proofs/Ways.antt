@@ -22,17 +22,19 @@ use Rattle.logic.specs.declared.Tick.{Tick}
 use Rattle.reading.specs.Tokens.{stands, skip, numeral, mark-named, mark-at, mark-token}
 use Rattle.reading.specs.Grammar.{Bound, no-bound, compared, optional, Connective, connective, connectives, BoundRead, bound-at, Parsed, bad, got, onward, behind, Level, or-level, and-level, unit-level, or-rest, and-rest, joining, bracketed, two-parts, with-bound, led, marked-unit, unit-at, read-level, formula-one, formula-two, formula-at}
 use Rattle.reading.specs.BookArea.{comparison-code}
-use Rattle.book_tokens.specs.Told.{place-behind, numeral-told, bound-told, bound-code, row-told, led-told, bound-by}
+use Rattle.book_tokens.specs.Told.{place-behind, bound-told, bound-code, row-told, led-told, bound-by}
 use Rattle.book_tokens.specs.declared.Place.{Place}
 use Rattle.book_tokens.specs.declared.Place.the-variants.{At, Nowhere}
-use Rattle.book_tokens.specs.declared.Number.{Number}
-use Rattle.book_tokens.specs.declared.Number.the-variants as N
+use Rattle.text_numerals.specs.Numerals.{numeral-told}
+use Rattle.text_numerals.specs.declared.Number.{Number}
+use Rattle.text_numerals.specs.declared.Number.the-variants as N
 use Rattle.book_tokens.specs.declared.Bounded.{Bounded}
 use Rattle.book_tokens.specs.declared.Bounded.the-variants as B
 use Rattle.book_tokens.specs.declared.Row.{Row}
 use Rattle.book_tokens.specs.declared.Led.{Led}
 use Rattle.book_tokens.specs.declared.Led.the-variants.{Nothing, By}
-use Rattle.book_tokens.proofs.Laws.{byte-inside, skip-ahead, numeral-missing, numeral-read}
+use Rattle.text_numerals.proofs.Laws.{byte-inside, numeral-missing, numeral-read}
+use Rattle.book_tokens.proofs.Laws.{skip-ahead}
 use Rattle.book_nodes.specs.State.{fault-at, State, state-of, usual-in, absorb, one-if, leaf, mark-node, last-node, bounded-node, until-node, Opens}
 use Rattle.book_nodes.proofs.Area.{leaf-usual, opens-usual}
 use Rattle.book_nodes.proofs.Absorb.{absorb-usual, absorb-constant, absorb-mark, absorb-open, absorb-and, absorb-or, absorb-next, absorb-always, absorb-until}

@@ -11,8 +11,8 @@ ghost use Rattle.book_nodes.specs.State as State;
 ghost use Rattle.book_formula.specs.Parse as Parse;
 use book_tokens::Bounded;
 use book_tokens::Led;
-use book_tokens::Number;
 use book_tokens::Place;
+use text_numerals::Number;
 
 // 01, 'Why a call is turned down': the most open brackets.
 const MOST_BRACKETS: usize = 16;
@@ -92,7 +92,7 @@ fn unit(s: &[u8], at: usize, room: usize, area: &mut [u8]) -> usize
     requires { ⌜ 512 ≤ length (now area) ⌝ }
     ensures { λ r. ⌜ Parse.Reads r (Parse.parse (State.usual-in (now (area .entry))) (now (s .entry)) Grammar.Level.unit-level at) room (now (area .entry)) (now (area .exit)) ⌝ }
 {
-    let b = book_tokens::byte_at(s, at);
+    let b = text_numerals::byte_at(s, at);
     if b == b'(' {
         return bracketed(s, at, room, area);
     }
@@ -125,11 +125,11 @@ fn mark(s: &[u8], at: usize, wanted: bool, area: &mut [u8]) -> usize
     requires { ⌜ 512 ≤ length (now area) ⌝ }
     ensures { λ r. ⌜ Parse.Marks r wanted (now (s .entry)) at (now (area .entry)) (now (area .exit)) ⌝ }
 {
-    let b = book_tokens::byte_at(s, at);
+    let b = text_numerals::byte_at(s, at);
     if b != b'p' {
         return 0;
     }
-    let Number::Read { said, next } = book_tokens::numeral(s, at + 1, MARK_DIGITS) else {
+    let Number::Read { said, next } = text_numerals::numeral(s, at + 1, MARK_DIGITS) else {
         return 0;
     };
     book_nodes::mark_node(area, mark_code(wanted), said);

@@ -32,7 +32,7 @@ use Rattle.reading.specs.BookReading as Reading
 use Rattle.reading.specs.BookReading.{most-bytes, usual-bound, ReadSoFar, judge-line, line-at, worded, ended, lines-step, read-lines, read-book}
 use Rattle.outcome.specs.Areas.{book-areas}
 use Rattle.outcome.specs.ReadBook.{book-answer, book-under, read-outcome}
-use Rattle.book_tokens.proofs.Laws.{byte-inside}
+use Rattle.text_numerals.proofs.Laws.{byte-inside}
 use Rattle.book_nodes.specs.State.{fault-at, timed-at, marks-at, usual-at, state-of, usual-in, last-node}
 use Rattle.book_nodes.proofs.Area.{byte-set, state, state-sets}
 use Rattle.book_formula.specs.Parse.{Reads, not-of, is-read}

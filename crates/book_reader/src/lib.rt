@@ -81,7 +81,7 @@ fn line_rest(s: &[u8], at: usize, form: u8, area: &mut [u8]) -> Line
     if next == 0 {
         return Line::Bad;
     }
-    let b = book_tokens::byte_at(s, next);
+    let b = text_numerals::byte_at(s, next);
     if b != b'\n' {
         return Line::Bad;
     }

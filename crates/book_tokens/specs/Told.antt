@@ -1,19 +1,16 @@
 -- What the token readers answer: the definitions of reading/specs, as values of the code's types.
-use Prim.Native.Nat.{ℕ, zero, suc, _+_, _-_, _≤_}
-use mathlib.Core.Path.{_≡_}
+use Prim.Native.Nat.{ℕ, _+_}
 use mathlib.Core.Option.{Option, none, some}
 use mathlib.Core.List.{List}
 use lib.Dec.{eqb}
 use Rattle.base.specs.Choice.{pick}
 use Rattle.base.specs.Text.{byte}
 use Rattle.logic.specs.Book as Logic
-use Rattle.reading.specs.Tokens.{stands, skip, Token, digits, value}
+use Rattle.reading.specs.Tokens.{stands, skip, Token}
 use Rattle.reading.specs.Grammar.{Bound, no-bound, compared, optional, Connective, BoundRead, bound-at}
 use Rattle.reading.specs.BookArea.{comparison-code}
 use Rattle.book_tokens.specs.declared.Place.{Place}
 use Rattle.book_tokens.specs.declared.Place.the-variants.{At, Nowhere}
-use Rattle.book_tokens.specs.declared.Number.{Number}
-use Rattle.book_tokens.specs.declared.Number.the-variants as N
 use Rattle.book_tokens.specs.declared.Compared.{Compared}
 use Rattle.book_tokens.specs.declared.Compared.the-variants as C
 use Rattle.book_tokens.specs.declared.Bounded.{Bounded}
@@ -25,10 +22,6 @@ use Rattle.book_tokens.specs.declared.Led.the-variants.{Nothing, By}
 -- the position behind byte b, spaces before it passed over, if it stands there
 unfoldable pub place-behind : List ℕ → ℕ → ℕ → Place
 place-behind s p b = pick (stands s (skip s p) b) (λ _. At (skip s p + 1)) (λ _. Nowhere)
-
-unfoldable pub numeral-told : Option (Token ℕ) → Number
-numeral-told none = N.Missing
-numeral-told (some t) = N.Read (t .said) (t .next)
 
 unfoldable pub token-told : Token Logic.Comparison → Compared
 token-told t = C.Read (comparison-code (t .said)) (t .next)
@@ -55,11 +48,6 @@ unfoldable pub led-told : Option Connective → Led
 led-told none = Nothing
 led-told (some c) = By (row-told c)
 
--- what n digits spell: nothing where there are none
-unfoldable pub spelled : ℕ → ℕ → ℕ → Number
-spelled zero said next = N.Missing
-spelled (suc n) said next = N.Read said next
-
 -- a comparison at p of two lengths, as codes: the longer one if `=` follows
 unfoldable pub longer-told : List ℕ → ℕ → ℕ → ℕ → Compared
 longer-told s p long short = pick (stands s (p + 1) (byte "=")) (λ _. C.Read long (p + 1 + 1)) (λ _. C.Read short (p + 1))
@@ -69,10 +57,3 @@ unfoldable pub bound-by : ℕ → ℕ → List ℕ → ℕ → Bounded
 bound-by usual kind s p =
     pick (eqb kind 1) (λ _. bound-told (bound-at usual compared s p)) (λ _.
     pick (eqb kind 2) (λ _. bound-told (bound-at usual optional s p)) (λ _. B.Missing))
-
--- The digits of a number as far as they were read: n of at most so many, from p on.
-pub record Spelling (s : List ℕ) (p most n said next : ℕ) : Type 0 where
-  pub few : n ≤ most
-  pub here : next ≡ p + n
-  pub told : said ≡ value n s p
-  pub rest : digits most s p ≡ n + digits (most - n) s next

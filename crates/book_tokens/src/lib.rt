@@ -2,21 +2,17 @@
 ghost use mathlib.Core.Path.{_≡_};
 ghost use Prim.Native.Nat.{_+_, _≤_, _<_};
 ghost use lib.ListN.{length};
-ghost use Rattle.base.specs.Bytes.{byte-at};
 ghost use Rattle.reading.specs.Tokens as Tokens;
 ghost use Rattle.reading.specs.Grammar as Grammar;
 ghost use Rattle.book_tokens.specs.Told as Told;
+use text_numerals::Number;
+use text_numerals::byte_at;
+use text_numerals::numeral;
 
 // A position, if there is one.
 pub enum Place {
     At(usize),
     Nowhere,
-}
-
-// A number that was read, and the position after it.
-pub enum Number {
-    Missing,
-    Read { said: usize, next: usize },
 }
 
 // A comparison that was read, as the code of its node, and the position after it.
@@ -116,13 +112,6 @@ const MORE: u8 = 10;
 // The most digits of a number.
 const MOST_DIGITS: usize = 3;
 
-// The byte at a position; 0 past the end, which no token has.
-pub fn byte_at(s: &[u8], at: usize) -> u8
-    ensures { λ r. ⌜ r ≡ byte-at (now (s .entry)) at ⌝ }
-{
-    if at < s.len() { s[at] } else { 0 }
-}
-
 // The position after the spaces.
 pub fn skip(s: &[u8], at: usize) -> usize
     ensures { λ r. ⌜ r ≡ Tokens.skip (now (s .entry)) at ⌝ }
@@ -150,46 +139,6 @@ pub fn behind(s: &[u8], at: usize, b: u8) -> Place
         return Place::Nowhere;
     }
     Place::At(next + 1)
-}
-
-fn is_digit(b: u8) -> bool
-    ensures { λ r. ⌜ r ≡ Tokens.is-digit b ⌝ }
-{
-    if b < b'0' {
-        return false;
-    }
-    b <= b'9'
-}
-
-// A number of at least one and at most so many digits.
-pub fn numeral(s: &[u8], at: usize, most: usize) -> Number
-    requires { ⌜ (1 ≤ most) × (most ≤ 3) ⌝ }
-    ensures { λ r. ⌜ r ≡ Told.numeral-told (Tokens.numeral most (now (s .entry)) at) ⌝ }
-{
-    let mut n = 0;
-    let mut said = 0;
-    let mut next = at;
-    while n < most {
-        let b = byte_at(s, next);
-        if !is_digit(b) {
-            return spelled(n, said, next);
-        }
-        said = 10 * said + (b - b'0') as usize;
-        next += 1;
-        n += 1;
-    }
-    spelled(n, said, next)
-}
-
-// What n digits spell: nothing where there are none.
-fn spelled(n: usize, said: usize, next: usize) -> Number
-    ensures { λ r. ⌜ r ≡ Told.spelled n said next ⌝ }
-{
-    if n == 0 {
-        Number::Missing
-    } else {
-        Number::Read { said, next }
-    }
 }
 
 // One of `<=` `<` `>=` `>`.

@@ -9,19 +9,19 @@ use borrow.Author.Tests.{leb-true, le-leb, lt-leb}
 use Rattle.base.specs.Answers.{verdict-said, Answer, refuse, give, _then_}
 use Rattle.base.specs.declared.Reason.{Reason}
 use Rattle.base.specs.declared.Refusal.{Refusal}
-use Rattle.base.specs.declared.Refusal.the-variants.{Layout, Area}
+use Rattle.base.specs.declared.Refusal.the-variants.{Area}
 use Rattle.base.specs.declared.Verdict.{Verdict}
 use Rattle.base.specs.declared.Verdict.the-variants as Check
 use Rattle.base.proofs.Lists.{and-left, and-right}
 use Rattle.logic.specs.Tower.{Tower, FitTower, tower-of}
-use Rattle.reading.specs.TableReading.{table-of, read-table}
-use Rattle.reading.proofs.FitInput.{laid-out-read}
-use Rattle.outcome.specs.Check.{verdict}
+use Rattle.reading.specs.TableReading.{read-table}
+use Rattle.outcome.specs.Check.{rows-judged, judge, verdict}
 use Rattle.book_progression.specs.NodeBytes.{IsHeld}
-use Rattle.checker_rows.specs.RowVerdict.{RowsJudgeable, rows-verdict, answer-after}
-use Rattle.checker_rows.specs.declared.RowVerdict.{RowVerdict}
-use Rattle.checker_rows.specs.declared.RowVerdict.the-variants.{Right, Wrong}
-use Rattle.checker_rows.proofs.Laws.{judge-after-rows}
+use Rattle.checker_rows.specs.RowVerdict.{RowsJudgeable}
+use Rattle.checker_files.specs.Testing.{TableTested}
+use Rattle.checker_files.specs.declared.Tested.{Tested}
+use Rattle.checker_files.specs.declared.Tested.the-variants as Tests
+use Rattle.checker_files.proofs.Laws.{table-refused, table-not-good, table-sound}
 use Rattle.base.specs.Bytes.{long-enough, cleared}
 use Rattle.base.specs.declared.BookAnswer.{BookAnswer}
 use Rattle.base.specs.declared.BookAnswer.the-variants as Reads
@@ -37,57 +37,37 @@ use Rattle.file_tower.specs.declared.TowerRead.the-variants as Fits
 use Rattle.file_tower.proofs.Laws.{fit-of, fit-gives, refused-of}
 use Rattle.book_reader.specs.Lines.{Answers}
 use Rattle.book_reader.proofs.BookHeld.{BookHeld}
-use Rattle.file_table.specs.Layout.{laid-out-for}
-use Rattle.file_table.proofs.Laws.{laid-for-parts, not-laid-for-read}
-use Rattle.pair_entries.specs.PendingEntries.{TowerWithBook}
 use Rattle.checker.specs.Checking.{checked-table, checked-book, TableChecked, runs-answer, RunsChecked, Room, AllCleared, Checks}
-
--- ---- for_tower
-
--- The reader's answer for the tower's counts.
-pub for-counts : (tower table : List ℕ) (s a : ℕ) (b : Bool) → s ≡ tower-of tower .states → a ≡ tower-of tower .actions → b ≡ laid-out-for table s a
-    → b ≡ laid-out-for table (tower-of tower .states) (tower-of tower .actions)
-for-counts tower table s a b is-s is-a e = rw (← is-s, ← is-a) e
 
 -- ---- check_table
 
-module _ (tower table nodes : List ℕ) (b : Bool)
-    (is-b : b ≡ laid-out-for table (tower-of tower .states) (tower-of tower .actions)) where
-  -- A table that is for the tower can be judged.
-  pub judgeable : TowerWithBook tower nodes → b ≡ true → RowsJudgeable tower table
-  judgeable world f =
-      let (layout, states, actions) = laid-for-parts table (tower-of tower .states) (tower-of tower .actions) (sym is-b ∙ f) in
-      record { fit = world .fit; layout = layout; states = states; actions = actions }
+-- What is asked of a table: 13, its rows, and behind them its runs.
+checked-is : (tower : Tower) (book : Book) (table : List ℕ)
+    → checked-table tower book table ≡ (read-table tower table then λ rows. rows-judged tower rows (runs-answer tower book rows))
+unfolding checked-table judge runs-answer
+checked-is tower book table = refl
+
+module _ (tower table nodes : List ℕ) (t : Tested) (told : TableTested t tower table) where
+  -- The rows of a sound table have been judged.
+  pub rows-there : t ≡ Tests.Sound → RowsJudgeable tower table
+  rows-there e = told .judged e
 
   -- 13.
-  pub not-for-tower : b ≡ false → TableChecked (Check.Refused Layout) tower table nodes
-  unfolding checked-table _then_ verdict
-  not-for-tower f = record { says = λ h. sym (rw (not-laid-for-read (tower-of tower) table (sym is-b ∙ f))) }
-
--- The rows decide, and then the walk.
-table-answer : (tower table : List ℕ) → RowsJudgeable tower table → read-table (tower-of tower) table ≡ give (table-of table)
-table-answer tower table ok = laid-out-read (tower-of tower) table (ok .layout) (ok .states) (ok .actions)
-
-module _ (tower table nodes : List ℕ) (b : Bool) (world : TowerWithBook tower nodes)
-    (is-b : b ≡ laid-out-for table (tower-of tower .states) (tower-of tower .actions)) (yes-b : b ≡ true) (v : RowVerdict)
-    (is-v : v ≡ rows-verdict (tower-of tower) (table-of table)) where
-  judged : (h : IsHeld nodes)
-      → checked-table (tower-of tower) (h .book) table ≡ answer-after v (runs-answer (tower-of tower) (h .book) (table-of table))
-  unfolding checked-table _then_ runs-answer
-  judged h =
-      rw (table-answer tower table (judgeable tower table nodes b is-b world yes-b))
-      (judge-after-rows (tower-of tower) (h .book) (table-of table)
-      ∙ ap (λ z. answer-after z (runs-answer (tower-of tower) (h .book) (table-of table))) (sym is-v))
+  pub table-refuses : (why : Refusal) → t ≡ Tests.Refused why → TableChecked (Check.Refused why) tower table nodes
+  unfolding verdict
+  table-refuses why e =
+      record { says = λ h. sym (ap verdict (checked-is (tower-of tower) (h .book) table ∙ table-refused tower table t told (runs-answer (tower-of tower) (h .book)) why e)) }
 
   -- 14 a to d.
-  pub rows-wrong : (reason : Reason) → v ≡ Wrong reason → TableChecked (Check.NotGood reason) tower table nodes
-  unfolding answer-after verdict
-  rows-wrong reason e = record { says = λ h. rw (judged h, e) }
+  pub rows-wrong : (reason : Reason) → t ≡ Tests.NotGood reason → TableChecked (Check.NotGood reason) tower table nodes
+  unfolding verdict
+  rows-wrong reason e =
+      record { says = λ h. sym (ap verdict (checked-is (tower-of tower) (h .book) table ∙ table-not-good tower table t told (runs-answer (tower-of tower) (h .book)) reason e)) }
 
   -- The runs decide.
-  pub rows-right : (r : Verdict) → v ≡ Right → RunsChecked r tower table nodes → TableChecked r tower table nodes
-  unfolding answer-after
-  rows-right r e runs = record { says = λ h. runs .says h ∙ sym (rw (judged h, e)) }
+  pub rows-right : (r : Verdict) → t ≡ Tests.Sound → RunsChecked r tower table nodes → TableChecked r tower table nodes
+  rows-right r e runs =
+      record { says = λ h. runs .says h ∙ sym (ap verdict (checked-is (tower-of tower) (h .book) table ∙ table-sound tower table t told (runs-answer (tower-of tower) (h .book)) e)) }
 
 -- ---- long_enough
 

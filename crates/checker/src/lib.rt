@@ -7,7 +7,6 @@ ghost use mathlib.Core.List.{[], _∷_};
 ghost use lib.ListN.{length};
 ghost use Rattle.base.specs.Bytes.{long-enough};
 ghost use Rattle.logic.specs.Tower.{FitTower, tower-of};
-ghost use Rattle.file_table.specs.Layout.{laid-out-for};
 ghost use Rattle.outcome.specs.Areas.{pairs-area, index-area, graph-area, check-areas};
 ghost use Rattle.outcome.specs.Check.{verdict, checked-file};
 ghost use Rattle.pair_entries.specs.PendingEntries.{TowerWithBook};
@@ -18,7 +17,7 @@ use base::BookAnswer;
 use base::Reason;
 use base::Refusal;
 use base::Verdict;
-use checker_rows::RowVerdict;
+use checker_files::Tested;
 use file_tower::TowerRead;
 use pair_search::Found;
 
@@ -104,16 +103,6 @@ fn check_runs(
     Verdict::Good
 }
 
-// The table is laid out as a table file, and its S and A are the tower's.
-fn for_tower(tower: &[u8], table: &[u8]) -> bool
-    requires { ⌜ FitTower (now tower) ⌝ }
-    ensures { λ b. ⌜ b ≡ laid-out-for (now (table .entry)) (tower-of (now (tower .entry)) .states) (tower-of (now (tower .entry)) .actions) ⌝ }
-{
-    let s = file_tower::states(tower);
-    let a = file_tower::actions(tower);
-    file_table::laid_out_for(table, s, a)
-}
-
 // The table, where tower and book are read: 13, 14 a to d, 11, 14 e.
 fn check_table(
     tower: &[u8],
@@ -129,14 +118,11 @@ fn check_table(
     requires { ⌜ graph-area ≤ length (now graph) ⌝ }
     ensures { λ r. ⌜ TableChecked r (now (tower .entry)) (now (table .entry)) (now (nodes .entry)) ⌝ }
 {
-    if !for_tower(tower, table) {
-        return Verdict::Refused(Refusal::Layout);
+    match checker_files::test_table(tower, table) {
+        Tested::Sound => check_runs(tower, table, nodes, pairs, index, graph),
+        Tested::NotGood(reason) => Verdict::NotGood(reason),
+        Tested::Refused(why) => Verdict::Refused(why),
     }
-    let rows = checker_rows::judge_rows(tower, table);
-    if let RowVerdict::Wrong(reason) = rows {
-        return Verdict::NotGood(reason);
-    }
-    check_runs(tower, table, nodes, pairs, index, graph)
 }
 
 // The areas are long enough.

@@ -6,13 +6,11 @@ use mathlib.Core.List.{List, [], _∷_}
 use lib.ListN.{length}
 use Rattle.base.specs.Choice.{pick}
 use Rattle.base.specs.Lists.{below}
-use Rattle.base.specs.Answers.{Answer, give, _if_else_}
-use Rattle.base.specs.declared.Reason.the-variants.{Start, Withheld, WrongStep, Stopped, Broken}
-use Rattle.base.specs.declared.Refusal.the-variants.{Pairs}
+use Rattle.base.specs.Answers.{Answer}
+use Rattle.base.specs.declared.Reason.the-variants.{Start, Withheld, WrongStep, Stopped}
 use Rattle.logic.specs.Tower.{Tower}
-use Rattle.logic.specs.Book.{Book}
-use Rattle.logic.specs.Tables.{Table, rows-tower}
-use Rattle.outcome.specs.Check.{Finding, good-table, _found-if_else_, wrong-start, stopped, judge-row, judge-rows, over-items, some-broken, judge}
+use Rattle.logic.specs.Tables.{Table}
+use Rattle.outcome.specs.Check.{Finding, _found-if_else_, wrong-start, stopped, judge-row, judge-rows, rows-judged}
 use Rattle.checker_rows.specs.RowVerdict.{some-withheld, some-wrong-step, row-verdict, rows-from, rows-verdict, answer-after}
 use Rattle.checker_rows.specs.declared.RowVerdict.{RowVerdict}
 use Rattle.checker_rows.specs.declared.RowVerdict.the-variants.{Wrong}
@@ -41,17 +39,11 @@ judge-rows-after tower table [] after = refl
 judge-rows-after tower table (r ∷ rs) after =
     ap (judge-row tower table r) (judge-rows-after tower table rs after) ∙ judge-row-after tower table r (rows-from tower table rs) after
 
--- The checker's answer for a table: the rows' if they are wrong, and else what comes after them.
-pub judge-after-rows : (tower : Tower) (book : Book) (table : Table)
-    → judge tower book table
-    ≡ answer-after (rows-verdict tower table)
-    (Pairs if over-items tower book table else Broken found-if some-broken (rows-tower tower table) book else give good-table)
-unfolding judge rows-verdict _found-if_else_ answer-after
-judge-after-rows tower book table = go (wrong-start tower table)
+-- What the rows say, and else what comes after them.
+pub rows-after : (tower : Tower) (table : Table) (after : Answer Finding) → rows-judged tower table after ≡ answer-after (rows-verdict tower table) after
+unfolding rows-verdict _found-if_else_ answer-after
+rows-after tower table after = go (wrong-start tower table)
   where
-    after : Answer Finding
-    after = Pairs if over-items tower book table else Broken found-if some-broken (rows-tower tower table) book else give good-table
-
     go : (b : Bool)
         → (Start found-if b else judge-rows tower table (below (length table)) after)
         ≡ answer-after (pick b (λ _. Wrong Start) (λ _. rows-from tower table (below (length table)))) after

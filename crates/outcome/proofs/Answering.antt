@@ -14,8 +14,7 @@ use Rattle.base.specs.Answers.{Answer, give, refuse}
 use Rattle.base.proofs.Lists.{whether, never-both}
 use Rattle.base.proofs.Answers.{if-on, if-refuses, then-on, then-stays}
 use Rattle.base.specs.declared.Reason.{Reason}
-use Rattle.base.specs.declared.Reason.the-variants.{Start, Withheld, Stopped, Broken}
-use Rattle.base.specs.declared.Reason.the-variants as Why
+use Rattle.base.specs.declared.Reason.the-variants.{Broken}
 use Rattle.base.specs.declared.Refusal.{Refusal}
 use Rattle.base.specs.declared.Refusal.the-variants.{Range, Pairs, NoTable, Layout, Output}
 use Rattle.base.specs.declared.BookAnswer.the-variants as Book
@@ -44,7 +43,7 @@ use Rattle.outcome.specs.Check.{Finding, good-table, judge, checked-file
 use Rattle.outcome.specs.Make.{table-for, made-file, written, make-outcome}
 use Rattle.outcome.specs.Reached.{ReachedPair, ReachedItem, MoreThan}
 use Rattle.outcome.specs.Calls.{FitFiles, Fit, FitTable, MadeCall}
-use Rattle.outcome.specs.VerdictRight.{FirstReason, reason-a, reason-b, reason-c, reason-d, too-many, reason-e, good}
+use Rattle.outcome.specs.VerdictRight.{FirstReason, by-rows, too-many, reason-e, good}
 use Rattle.outcome.specs.MadeRight as Right
 use Rattle.outcome.specs.MadeRight.{RightTable}
 use Rattle.outcome.specs.RightAnswer.{RightRead, read-area, read-range, read-refused, read-given, RightMake, make-area, make-tower, make-book, make-pairs, make-none, make-room, make-made, RightCheck, check-area, check-tower, check-book, check-layout, check-judged}
@@ -144,10 +143,7 @@ checks tower-file text file areas tower book table fit laid enough few =
     go : (o : Answer Finding) → FirstReason tower book table o → check-outcome tower-file text file areas .answer ≡ verdict o
         → (check-outcome tower-file text file areas .answer ≡ Check.Good)
         ⊎ ((why : Reason) × (check-outcome tower-file text file areas .answer ≡ Check.NotGood why))
-    go o (reason-a wrong) e = inr (Start, e)
-    go o (reason-b r lt right wrong) e = inr (Withheld r, e)
-    go o (reason-c r lt right b wrong) e = inr (Why.WrongStep r, e)
-    go o (reason-d r lt right b c wrong) e = inr (Stopped r, e)
+    go o (by-rows q first) e = inr (q, e)
     go o (too-many right many) e = absurd (few many)
     go o (reason-e right not-many wrong) e = inr (Broken, e)
     go o (good g not-many) e = inl e
@@ -399,6 +395,21 @@ makes-well tower-file text n file call = of-fit (call-fit tower-file text n file
     of-fit : Fit tower-file text → MadeWell tower-file text n file
     of-fit it =
         well-for tower-file text n file (it .tower) (it .book) (it .fit) (wrote tower-file text file n (it .tower) (it .book) (it .fit) call)
+
+-- so the bytes hold a good table
+pub made-holds : (tower-file text : List ℕ) (n : ℕ) (file : List ℕ) → MadeCall tower-file text n file → HoldsGood tower-file text file
+made-holds tower-file text n file call = of-well (makes-well tower-file text n file call)
+  where
+    of-well : MadeWell tower-file text n file → HoldsGood tower-file text file
+    of-well well =
+        record {
+          tower = well .tower;
+          book = well .book;
+          table = well .table;
+          fit = well .fit;
+          laid = well .laid;
+          good = well .made .good;
+        }
 
 -- the table in the bytes allows just the runs that good tables allow
 pub just-the-runs : (tower-file text : List ℕ) (n : ℕ) (file : List ℕ) (well : MadeWell tower-file text n file) (w : List ℕ)

@@ -1,9 +1,10 @@
--- The customer's letter, demands 1 to 3, each sentence above its theorems. They are about the outcomes on bytes with which the contracts of the
--- entries are equations: `read-outcome`, `make-outcome`, `check-outcome` and `follow-outcome`. The words are those of crate `logic`; nothing
--- here speaks of how an answer is found. Where the other words stand, in specs/ here:
+-- The customer's letter, demands 1 to 3, and item 2 of 02, each sentence above its theorems. They are about the outcomes on bytes with which the
+-- contracts of the entries are equations: `read-outcome`, `make-outcome`, `check-outcome`, `follow-outcome` and `log-outcome`. The words are those
+-- of crate `logic`; nothing here speaks of how an answer is found. Where the other words stand, in specs/ here:
 --   `FitFiles`, `FitTable`, `MadeCall`: Calls · the right answer of each entry: RightAnswer, with `FirstReason` in VerdictRight · what holds of every
---   call: EveryCall · what an answer shows: Shown · `MoreThan` and what is reached: Reached · the follower: FollowChain.
--- Numbers and places of answers are in base/specs/Answers.antt. The proofs are in Answering.antt, Refusals.antt and Following.antt.
+--   call: EveryCall · what an answer shows: Shown · `MoreThan` and what is reached: Reached · the follower: FollowChain · the log: LoggedRun.
+-- Numbers and places of answers are in base/specs/Answers.antt. The proofs are in Answering.antt, Refusals.antt, Following.antt and
+-- Logs.antt.
 use Prim.Native.Nat.{ℕ, _≤_}
 use mathlib.Core.Path.{_≡_, sym, _∙_, subst}
 use mathlib.Core.Logic.{_↔_, _⊎_}
@@ -11,7 +12,7 @@ use mathlib.Core.Bool.{true}
 use mathlib.Core.List.{List}
 use lib.ListN.{length}
 use Rattle.base.specs.Bytes.{long-enough}
-use Rattle.base.specs.Answers.{book-said, make-said, verdict-said, follow-said, Answer, give}
+use Rattle.base.specs.Answers.{book-said, make-said, verdict-said, follow-said, log-said, Answer, give}
 use Rattle.base.specs.declared.Reason.{Reason}
 use Rattle.base.specs.declared.Refusal.{Refusal}
 use Rattle.base.specs.declared.Refusal.the-variants.{Pairs, NoTable, Area}
@@ -23,10 +24,16 @@ use Rattle.base.specs.declared.Verdict.{Verdict}
 use Rattle.base.specs.declared.Verdict.the-variants as Check
 use Rattle.base.specs.declared.FollowAnswer.{FollowAnswer}
 use Rattle.base.specs.declared.FollowAnswer.the-variants as Follow
+use Rattle.base.specs.declared.LogAnswer.{LogAnswer}
+use Rattle.base.specs.declared.LogAnswer.the-variants as Logged
 use Rattle.logic.specs.Tower.{Tower, most-marks}
 use Rattle.logic.specs.Book.{Book, nodes}
 use Rattle.logic.specs.Tables.{Table, Allows, Good, GoodAllow}
 use Rattle.reading.specs.BookReading.{read-book}
+use Rattle.reading.specs.LogReading.{read-log}
+use Rattle.reading.specs.LogSpelling.{RightLog}
+use Rattle.reading.specs.declared.Stroke.{Stroke}
+use Rattle.reading.proofs.LogRight.{log-exactly}
 use Rattle.reading.specs.TableReading.{laid-out, table-of}
 use Rattle.pending.specs.Pairs.{most-pairs}
 use Rattle.outcome.specs.Areas.{book-areas, make-areas, check-areas}
@@ -34,17 +41,19 @@ use Rattle.outcome.specs.ReadBook.{read-outcome}
 use Rattle.outcome.specs.Make.{make-outcome}
 use Rattle.outcome.specs.Check.{Finding, verdict, check-outcome}
 use Rattle.outcome.specs.Follow.{follow-outcome}
+use Rattle.outcome.specs.Log.{log-outcome}
 use Rattle.outcome.specs.Reached.{ReachedPair, ReachedItem, MoreThan}
 use Rattle.outcome.specs.VerdictRight.{FirstReason}
 use Rattle.outcome.specs.Calls.{FitFiles, FitTable, MadeCall}
-use Rattle.outcome.specs.EveryCall.{book-numbers, make-numbers, check-numbers, follow-numbers, RefusesWith, AreasRight}
+use Rattle.outcome.specs.EveryCall.{book-numbers, make-numbers, check-numbers, follow-numbers, log-numbers, RefusesWith, AreasRight}
 use Rattle.outcome.specs.FollowChain.{FollowsTo, Chain}
-use Rattle.outcome.specs.RightAnswer.{RightRead, read-given, RightMake, make-pairs, make-none, RightCheck, check-judged, RightFollow}
-use Rattle.outcome.specs.Shown.{HoldsGood, NoneGood, TooManyPairs, MadeWell, EqualExactly, FewestRows, MakesTable}
+use Rattle.outcome.specs.RightAnswer.{RightRead, read-given, RightMake, make-pairs, make-none, RightCheck, check-judged, RightFollow, RightLogged}
+use Rattle.outcome.specs.Shown.{HoldsGood, NoneGood, TooManyPairs, MadeWell, EqualExactly, FewestRows, MakesTable, FinalRow, NamedLine, LogUnbroken}
 use Rattle.outcome.proofs.CallLaws.{accepted-call}
 use Rattle.outcome.proofs.Refusals as Refusals
 use Rattle.outcome.proofs.Answering as Answering
 use Rattle.outcome.proofs.Following as Following
+use Rattle.outcome.proofs.Logs as Logs
 
 -- ---- 1. 'Where a tower file, rule book, table, row, action or lent area is not fit to use, the call refuses with the number that our paper
 -- gives;'
@@ -238,3 +247,55 @@ same-bytes tower-file text other-text n m file other-file call other-call =
 
 pub fewest-rows : (tower-file text : List ℕ) (n : ℕ) (file : List ℕ) → MadeCall tower-file text n file → FewestRows tower-file file
 fewest-rows tower-file text n file call = Answering.fewest-rows tower-file text n file call
+
+-- ---- 02, item 2, the log reader: 'I want my Monday log held against the table.' Its outcome is `log-outcome`.
+
+-- 'A log is text: each line is a tick of 1 to 10 decimal digits (up to 4,294,967,295), one space, an action number in one or two digits, and
+-- byte 10.' A text is read as these lines, or refused with 19 at this line, exactly if the rules of reading/specs/LogSpelling.antt say so.
+pub log-spelled : (log : List ℕ) (o : Answer (List Stroke)) → (read-log log ≡ o) ↔ RightLog log o
+log-spelled log o = log-exactly log o
+
+-- 'The tower and table are tested first, in the checker's order through 14 d, without a book. It refuses with 19, after those, a log of which some
+-- line is not of this form; the place is the first such line, from 0.' The answer is x exactly if x is the right one of the cases in
+-- specs/RightAnswer.antt, which stand in this order.
+pub logs-exactly : (tower-file file log : List ℕ) (x : LogAnswer) → (log-outcome tower-file file log ≡ x) ↔ RightLogged tower-file file log x
+logs-exactly tower-file file log x =
+    (λ e. subst (RightLogged tower-file file log) e (Logs.log-right tower-file file log), Logs.log-only tower-file file log x)
+
+pub log-refuses : (tower-file file log : List ℕ) → RefusesWith log-numbers (log-said (log-outcome tower-file file log))
+log-refuses tower-file file log = Refusals.log-refuses tower-file file log
+
+-- 'The answer is the number, from 0, of the first line whose action the table does not allow or whose tick is not the previous line's plus the
+-- previous action's length (sums never wrap),' The lines before it are a run that the table allows, with right ticks, and with it they are none.
+-- 'An action outside the table counts as not allowed.' No run has one.
+pub named-line : (tower-file file log : List ℕ) (k : ℕ)
+    → (log-outcome tower-file file log ≡ Logged.Line k) ↔ NamedLine tower-file file log k
+named-line tower-file file log k = Logs.named-line tower-file file log k
+
+-- 'or the final row. The first tick is free.'
+pub final-row : (tower-file file log : List ℕ) (r : ℕ) → (log-outcome tower-file file log ≡ Logged.Row r) ↔ FinalRow tower-file file log r
+final-row tower-file file log r = Logs.final-row tower-file file log r
+
+-- Along a table that was accepted or made, a log that fits breaks no rule of the book, nor does any beginning of it; and where a line does not fit,
+-- the lines before it broke none.
+pub accepted-log-unbroken : (tower-file text file log : List ℕ) (areas : List (List ℕ)) (r : ℕ)
+    → check-outcome tower-file text file areas .answer ≡ Check.Good → log-outcome tower-file file log ≡ Logged.Row r
+    → (n : ℕ) → LogUnbroken tower-file text log n
+accepted-log-unbroken tower-file text file log areas r accepted e n =
+    Logs.fits-unbroken tower-file text file log (accepts-only-good tower-file text file areas accepted) r e n
+
+pub accepted-log-unbroken-before : (tower-file text file log : List ℕ) (areas : List (List ℕ)) (k : ℕ)
+    → check-outcome tower-file text file areas .answer ≡ Check.Good → log-outcome tower-file file log ≡ Logged.Line k
+    → LogUnbroken tower-file text log k
+accepted-log-unbroken-before tower-file text file log areas k accepted e =
+    Logs.before-unbroken tower-file text file log (accepts-only-good tower-file text file areas accepted) k e
+
+pub made-log-unbroken : (tower-file text : List ℕ) (m : ℕ) (file log : List ℕ) (r : ℕ) → MadeCall tower-file text m file
+    → log-outcome tower-file file log ≡ Logged.Row r → (n : ℕ) → LogUnbroken tower-file text log n
+made-log-unbroken tower-file text m file log r call e n =
+    Logs.fits-unbroken tower-file text file log (Answering.made-holds tower-file text m file call) r e n
+
+pub made-log-unbroken-before : (tower-file text : List ℕ) (m : ℕ) (file log : List ℕ) (k : ℕ) → MadeCall tower-file text m file
+    → log-outcome tower-file file log ≡ Logged.Line k → LogUnbroken tower-file text log k
+made-log-unbroken-before tower-file text m file log k call e =
+    Logs.before-unbroken tower-file text file log (Answering.made-holds tower-file text m file call) k e

@@ -47,13 +47,17 @@ pub makeable : (tower-file text : List ℕ) (tower : Tower) (book : Book) → Fi
 makeable tower-file text tower book fit =
     record { listed = tower-fits tower-file tower (fit .tower-read) .listed; fit = book-fit (tower .marks) text book (fit .book-read) }
 
+-- bytes that are read as a table hold one
+pub laid-table : (tower : Tower) (file : List ℕ) (table : Table) → FitTable tower file table → IsTable table
+unfolding FitTable
+laid-table tower file table laid =
+    let (is-laid, states, actions, same) = table-read tower file table laid in subst IsTable same (laid-out-fits file is-laid .is-table)
+
 pub judgeable : (tower-file text file : List ℕ) (tower : Tower) (book : Book) (table : Table) → FitFiles tower-file text tower book
     → FitTable tower file table → Judgeable tower book table
-unfolding FitTable
 judgeable tower-file text file tower book table fit laid =
     let able = makeable tower-file text tower book fit in
-    let (is-laid, states, actions, same) = table-read tower file table laid in
-    record { listed = able .listed; fit = able .fit; is-table = subst IsTable same (laid-out-fits file is-laid .is-table) }
+    record { listed = able .listed; fit = able .fit; is-table = laid-table tower file table laid }
 
 -- ---- what a call shows
 

@@ -7,6 +7,7 @@ pub mod RowPairs
 pub mod MadeTable
 pub mod Counted
 pub mod Items
+pub mod RowReasons
 pub mod Checker
 pub mod Maker
 pub mod Accepted
@@ -14,9 +15,11 @@ pub mod CallLaws
 pub mod Refusals
 pub mod FitCalls
 pub mod Following
+pub mod Logs
 pub mod Answering
 pub mod Demands
 pub mod Instances
 pub mod TinyTowers
 pub mod KindTable
 pub mod RefusalTable
+pub mod LogInstances

@@ -11,12 +11,12 @@ use Rattle.base.specs.Choice.{pick}
 use Rattle.base.specs.Lists.{some-of, below}
 use Rattle.base.specs.Bytes.{long-enough, cleared}
 use Rattle.base.specs.Recursion.{to-depth, run}
-use Rattle.base.specs.Answers.{Said, answered, refused, row-of, letter-of, refusal-number, refusal-place, refusal-said, reason-said, book-said, make-said, verdict-said, follow-said, Answer, refuse, give, _if_else_, _then_}
+use Rattle.base.specs.Answers.{Said, answered, refused, row-of, letter-of, refusal-number, refusal-place, refusal-said, reason-said, book-said, make-said, verdict-said, follow-said, log-said, Answer, refuse, give, _if_else_, _then_}
 use Rattle.base.specs.declared.Reason.{Reason}
 use Rattle.base.specs.declared.Reason.the-variants.{Start, Withheld, Stopped, Broken}
 use Rattle.base.specs.declared.Reason.the-variants as Why
 use Rattle.base.specs.declared.Refusal.{Refusal}
-use Rattle.base.specs.declared.Refusal.the-variants.{TowerSize, Range, Action, Target, Mask, Grammar, Number, Mark, Limit, Timed, Pairs, NoTable, Layout, Area, Output, Outside, NotAllowed}
+use Rattle.base.specs.declared.Refusal.the-variants.{TowerSize, Range, Action, Target, Mask, Grammar, Number, Mark, Limit, Timed, Pairs, NoTable, Layout, Area, Output, Outside, NotAllowed, Log}
 use Rattle.base.specs.declared.BookAnswer.the-variants as Book
 use Rattle.base.specs.declared.MakeAnswer.the-variants as Make
 use Rattle.base.specs.declared.Verdict.the-variants as Check
@@ -28,15 +28,18 @@ use Rattle.logic.specs.Tables.{Table, move}
 use Rattle.reading.specs.TowerReading.{read-tower}
 use Rattle.reading.specs.BookReading.{Line, no-line, line, line-at, ReadSoFar, most-bytes, usual-bound, over-number, over-mark, over-limit, judge-line, lines-step, read-lines, read-book}
 use Rattle.reading.specs.TableReading.{laid-out, rows-of, table-actions, table-of, read-table}
+use Rattle.reading.specs.LogReading.{log-from, read-log}
 use Rattle.pending.specs.Pairs.{first-pair, over-pairs}
 use Rattle.outcome.specs.Areas.{book-areas, make-areas, check-areas}
 use Rattle.outcome.specs.Game.{safe}
 use Rattle.outcome.specs.Rows.{made-table}
 use Rattle.outcome.specs.ReadBook.{book-answer, book-under, read-outcome}
 use Rattle.outcome.specs.Make.{table-for, made-file, fitting, written, make-outcome}
-use Rattle.outcome.specs.Check.{Finding, good-table, not-good, _found-if_else_, judge-row, judge-rows, judge, checked-file, verdict, check-outcome}
+use Rattle.outcome.specs.Check.{Finding, good-table, not-good, _found-if_else_, judge-row, judge-rows, rows-judged, judge, checked-file, verdict, check-outcome}
 use Rattle.outcome.specs.Follow.{stepped, row-after, follow-answer, follow-outcome}
-use Rattle.outcome.specs.EveryCall.{book-numbers, make-numbers, check-numbers, follow-numbers, RefusesWith, AreasRight}
+use Rattle.outcome.specs.Log.{LogFinding, wrong-table, comes-to, log-after, logged-file, log-answer, log-outcome}
+use Rattle.outcome.specs.declared.Course.the-variants.{Fits, Fails}
+use Rattle.outcome.specs.EveryCall.{book-numbers, make-numbers, check-numbers, follow-numbers, log-numbers, RefusesWith, AreasRight}
 
 -- ---- the refusals of a chain
 
@@ -116,6 +119,11 @@ module _ (P : Refusal → Type 0) where
       if-only Layout (not (laid-out bytes)) _ layout
       (if-only Layout _ _ layout (give-only (table-of bytes)))
 
+  -- the log: 19
+  pub lines-only : ((l : ℕ) → P (Log l)) → (log : List ℕ) → Only P (read-log log)
+  unfolding read-log
+  lines-only form log = if-only (Log (length (log-from log 0 .strokes))) _ _ (form (length (log-from log 0 .strokes))) (give-only _)
+
   -- the maker: 11, 12, 16
   made-only : P Pairs → P NoTable → (tower : Tower) (book : Book) → Only P (table-for tower book)
   unfolding table-for
@@ -133,20 +141,19 @@ module _ (P : Refusal → Type 0) where
   found-only q true o rest = give-only (not-good q)
   found-only q false o rest = rest
 
-  module _ (pairs : P Pairs) (tower : Tower) (book : Book) (table : Table) where
+  module _ (tower : Tower) (table : Table) where
     rows-only : (rs : List ℕ) (after : Answer Finding) → Only P after → Only P (judge-rows tower table rs after)
     unfolding judge-rows judge-row
     rows-only [] after rest = rest
     rows-only (r ∷ rs) after rest =
         found-only (Withheld r) _ _ (found-only (Why.WrongStep r) _ _ (found-only (Stopped r) _ _ (rows-only rs after rest)))
 
-    judge-only : Only P (judge tower book table)
+    rows-judged-only : (after : Answer Finding) → Only P after → Only P (rows-judged tower table after)
+    rows-judged-only after rest = found-only Start _ _ (rows-only (below (length table)) after rest)
+
+    judge-only : P Pairs → (book : Book) → Only P (judge tower book table)
     unfolding judge
-    judge-only =
-        found-only Start _ _
-        (rows-only (below (length table)) _
-        (if-only Pairs _ _ pairs
-        (found-only Broken _ _ (give-only good-table))))
+    judge-only pairs book = rows-judged-only _ (if-only Pairs _ _ pairs (found-only Broken _ _ (give-only good-table)))
 
 -- ---- the numbers
 
@@ -362,7 +369,7 @@ module _ (tower-file text file : List ℕ) where
       (book-only (One checking) (λ l. refl) (λ l. refl) (λ l. refl) (λ l. refl) (λ l. refl) (tower .marks) text)
       (λ book.
       then-only (One checking) (read-table tower file) _ (table-only (One checking) refl tower file)
-      (λ table. judge-only (One checking) refl tower book table)))
+      (λ table. judge-only (One checking) tower table refl book)))
 
   check-inner : RefusesWith checking (verdict-said (verdict (checked-file tower-file text file)))
   unfolding verdict verdict-said
@@ -410,3 +417,33 @@ follow-refuses file row action =
     (if-only (One (13 ∷ 17 ∷ 18 ∷ [])) Layout (not (laid-out file)) _ refl
     (if-only (One (13 ∷ 17 ∷ 18 ∷ [])) Outside (leb (rows-of file) row || leb (table-actions file) action) _ refl
     (stepped-only (One (13 ∷ 17 ∷ 18 ∷ [])) refl (move (table-of file) row action))))
+
+-- ---- the log reader
+
+abbrev logging : List ℕ
+logging = 1 ∷ 2 ∷ 3 ∷ 4 ∷ 5 ∷ 13 ∷ 14 ∷ 19 ∷ []
+
+-- 14 is one of them
+log-finding-with : (x : LogFinding) → RefusesWith logging (log-said (log-answer (give x)))
+unfolding log-answer log-said reason-said some-of
+log-finding-with (wrong-table q) = refused-with logging 14 (row-of q) (letter-of q ∷ []) refl
+log-finding-with (comes-to (Fits here)) = answered-with logging _
+log-finding-with (comes-to (Fails n here s)) = answered-with logging _
+
+log-after-only : (tower : Tower) (table : Table) (log : List ℕ) (x : Finding) → Only (One logging) (log-after tower table log x)
+unfolding One some-of log-after
+log-after-only tower table log (not-good q) = give-only (One logging) _
+log-after-only tower table log good-table =
+    then-only (One logging) (read-log log) _ (lines-only (One logging) (λ l. refl) log) (λ strokes. give-only (One logging) _)
+
+pub log-refuses : (tower-file file log : List ℕ) → RefusesWith log-numbers (log-said (log-outcome tower-file file log))
+unfolding One some-of log-numbers log-said log-answer log-outcome logged-file
+log-refuses tower-file file log =
+    said-only (λ o. log-said (log-answer o)) logging (λ r. refl) log-finding-with (logged-file tower-file file log)
+    (then-only (One logging) (read-tower tower-file) _ (tower-only (One logging) refl refl refl refl refl tower-file)
+    (λ tower.
+    then-only (One logging) (read-table tower file) _ (table-only (One logging) refl tower file)
+    (λ table.
+    then-only (One logging) (rows-judged tower table (give good-table)) _
+    (rows-judged-only (One logging) tower table (give good-table) (give-only (One logging) good-table))
+    (λ finding. log-after-only tower table log finding))))

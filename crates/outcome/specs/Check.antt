@@ -66,6 +66,10 @@ unfoldable pub judge-rows : Tower → Table → List ℕ → Answer Finding → 
 judge-rows tower table [] after = after
 judge-rows tower table (r ∷ rs) after = judge-row tower table r (judge-rows tower table rs after)
 
+-- 14 a; 14 b to d by row; or what comes after
+abbrev pub rows-judged : Tower → Table → Answer Finding → Answer Finding
+rows-judged tower table after = Start found-if wrong-start tower table else judge-rows tower table (below (length table)) after
+
 -- ---- 11 and reason e: rows with what is pending, which are the pairs of the table as a tower
 
 -- 11: more than 1,000 rows with what is pending are reached over unbroken allowed steps
@@ -86,11 +90,10 @@ some-broken tower book = some-of (breaks tower book) (pairs tower book)
 
 -- ---- the verdict
 
--- a table for a tower and a book: 14 a; 14 b to d; 11; 14 e, that some allowed run is broken
+-- a table for a tower and a book: 14 a to d; 11; 14 e, that some allowed run is broken
 unfoldable pub judge : Tower → Book → Table → Answer Finding
 judge tower book table =
-    Start found-if wrong-start tower table else
-    judge-rows tower table (below (length table))
+    rows-judged tower table
     (Pairs if over-items tower book table else
     Broken found-if some-broken (rows-tower tower table) book else
     give good-table)

@@ -9,7 +9,7 @@ use Rattle.base.specs.Lists.{some-of}
 use Rattle.base.specs.Bytes.{long-enough, cleared}
 use Rattle.base.specs.Answers.{Said, refused}
 
--- 01, 'Why a call is turned down': the numbers of each entry, in the paper's order
+-- 01, 'Why a call is turned down', and 02: the numbers of each entry, in the papers' order
 
 unfoldable pub book-numbers : List ℕ
 book-numbers = 15 ∷ 2 ∷ 6 ∷ 7 ∷ 8 ∷ 9 ∷ 10 ∷ []
@@ -22,6 +22,9 @@ check-numbers = 15 ∷ 1 ∷ 2 ∷ 3 ∷ 4 ∷ 5 ∷ 6 ∷ 7 ∷ 8 ∷ 9 ∷ 10 
 
 unfoldable pub follow-numbers : List ℕ
 follow-numbers = 13 ∷ 17 ∷ 18 ∷ []
+
+unfoldable pub log-numbers : List ℕ
+log-numbers = 1 ∷ 2 ∷ 3 ∷ 4 ∷ 5 ∷ 13 ∷ 14 ∷ 19 ∷ []
 
 -- If it is a refusal, its number is one of these.
 unfoldable pub RefusesWith : List ℕ → Said → Type 0

@@ -5,6 +5,8 @@ pub mod ReadBook
 pub mod Make
 pub mod Check
 pub mod Follow
+pub mod Log
+pub mod LoggedRun
 pub mod Reached
 pub mod VerdictRight
 pub mod MadeRight
@@ -17,3 +19,4 @@ pub mod SmallTower
 pub mod TinyTowers
 pub mod KindTable
 pub mod RefusalTable
+pub mod LogTable

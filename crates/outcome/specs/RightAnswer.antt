@@ -1,5 +1,5 @@
 -- 01, 'A number is given when its condition holds and nothing before it in the order does, and never else': the answer of each entry and why it
--- is the right one, in the paper's order, without computing what the code computes. Each case takes what the cases before it leave.
+-- is the right one, in the papers' order, without computing what the code computes. Each case takes what the cases before it leave.
 use Prim.Native.Nat.{ℕ, _≤_, _<_}
 use mathlib.Core.Path.{_≡_}
 use mathlib.Core.Logic.{_⊎_}
@@ -9,8 +9,9 @@ use mathlib.Core.List.{List}
 use lib.ListN.{length}
 use Rattle.base.specs.Bytes.{long-enough}
 use Rattle.base.specs.Answers.{Answer, give, refuse}
+use Rattle.base.specs.declared.Reason.{Reason}
 use Rattle.base.specs.declared.Refusal.{Refusal}
-use Rattle.base.specs.declared.Refusal.the-variants.{Range, Pairs, NoTable, Layout, Area, Output, Outside, NotAllowed}
+use Rattle.base.specs.declared.Refusal.the-variants.{Range, Pairs, NoTable, Layout, Area, Output, Outside, NotAllowed, Log}
 use Rattle.base.specs.declared.BookAnswer.{BookAnswer}
 use Rattle.base.specs.declared.BookAnswer.the-variants as Book
 use Rattle.base.specs.declared.MakeAnswer.{MakeAnswer}
@@ -19,6 +20,9 @@ use Rattle.base.specs.declared.Verdict.{Verdict}
 use Rattle.base.specs.declared.Verdict.the-variants as Check
 use Rattle.base.specs.declared.FollowAnswer.{FollowAnswer}
 use Rattle.base.specs.declared.FollowAnswer.the-variants as Follow
+use Rattle.base.specs.declared.LogAnswer.{LogAnswer}
+use Rattle.base.specs.declared.LogAnswer.the-variants as Logged
+use Rattle.logic.specs.declared.Position.{Position}
 use Rattle.logic.specs.Tower.{Tower, layout-of, most-marks}
 use Rattle.logic.specs.Book.{Book, nodes}
 use Rattle.logic.specs.Tables.{Table, move, Good, IsMade}
@@ -26,13 +30,16 @@ use Rattle.logic.specs.TableFile.{table-file}
 use Rattle.reading.specs.TowerReading.{read-tower}
 use Rattle.reading.specs.BookReading.{read-book}
 use Rattle.reading.specs.TableReading.{laid-out, rows-of, table-actions, table-of, read-table}
+use Rattle.reading.specs.LogReading.{read-log}
+use Rattle.reading.specs.declared.Stroke.{Stroke}
 use Rattle.pending.specs.Pairs.{most-pairs}
 use Rattle.outcome.specs.Areas.{book-areas, make-areas, check-areas}
 use Rattle.outcome.specs.Check.{Finding, verdict}
 use Rattle.outcome.specs.Reached.{ReachedPair, MoreThan}
 use Rattle.outcome.specs.Calls.{FitFiles, FitTable}
-use Rattle.outcome.specs.VerdictRight.{FirstReason}
+use Rattle.outcome.specs.VerdictRight.{RightBelow, FirstOfRows, FirstReason}
 use Rattle.outcome.specs.FollowChain.{FollowsTo}
+use Rattle.outcome.specs.LoggedRun.{LoggedRun, FirstMisfit}
 
 -- The book reader: 15, 2, the book; or the numbers of lines and nodes.
 pub data RightRead (marks : ℕ) (text : List ℕ) (areas : List (List ℕ)) : BookAnswer → Type 0 where
@@ -82,3 +89,23 @@ pub data RightFollow (file : List ℕ) (row action : ℕ) : FollowAnswer → Typ
   follow-not : laid-out file ≡ true → row < rows-of file → action < table-actions file → move (table-of file) row action ≡ none
       → RightFollow file row action (Follow.Refused NotAllowed)
   follow-row : (s : ℕ) → FollowsTo file row action s → RightFollow file row action (Follow.Row s)
+
+-- The files of tower and table are fit, and no reason from a to d holds.
+pub record SoundTable (tower-file file : List ℕ) (tower : Tower) (table : Table) : Type 0 where
+  pub tower-read : read-tower tower-file ≡ give tower
+  pub laid : FitTable tower file table
+  pub right : RightBelow tower table (length table)
+
+-- The log reader (02, item 2): the tower; 13; the first reason a to d; 19; and then the first line that does not fit, or the final row.
+pub data RightLogged (tower-file file log : List ℕ) : LogAnswer → Type 0 where
+  log-tower : (r : Refusal) → read-tower tower-file ≡ refuse r → RightLogged tower-file file log (Logged.Refused r)
+  log-layout : (tower : Tower) → read-tower tower-file ≡ give tower → read-table tower file ≡ refuse Layout
+      → RightLogged tower-file file log (Logged.Refused Layout)
+  log-reason : (tower : Tower) (table : Table) → read-tower tower-file ≡ give tower → FitTable tower file table → (q : Reason)
+      → FirstOfRows tower table q → RightLogged tower-file file log (Logged.NotGood q)
+  log-form : (tower : Tower) (table : Table) → SoundTable tower-file file tower table → (line : ℕ) → read-log log ≡ refuse (Log line)
+      → RightLogged tower-file file log (Logged.Refused (Log line))
+  log-misfit : (tower : Tower) (table : Table) → SoundTable tower-file file tower table → (strokes : List Stroke) → read-log log ≡ give strokes
+      → (n : Position) → FirstMisfit tower table strokes n → RightLogged tower-file file log (Logged.Line (n .0))
+  log-fits : (tower : Tower) (table : Table) → SoundTable tower-file file tower table → (strokes : List Stroke) → read-log log ≡ give strokes
+      → (r : ℕ) → LoggedRun tower table strokes r → RightLogged tower-file file log (Logged.Row r)

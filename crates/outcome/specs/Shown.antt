@@ -5,24 +5,30 @@ use mathlib.Core.Path.{_≡_}
 use mathlib.Core.Logic.{_↔_}
 use mathlib.Core.Bool.{true}
 use mathlib.Core.List.{List, _++_}
-use lib.ListN.{length, drop}
+use lib.ListN.{length, take, drop}
 use Rattle.base.specs.Bytes.{long-enough}
 use Rattle.base.specs.Answers.{give}
 use Rattle.base.specs.declared.Refusal.the-variants.{Output}
 use Rattle.base.specs.declared.MakeAnswer.the-variants as Make
 use Rattle.base.specs.declared.Verdict.the-variants as Check
+use Rattle.logic.specs.Time.{position}
 use Rattle.logic.specs.Tower.{Tower, layout-of}
 use Rattle.logic.specs.Book.{Book}
+use Rattle.logic.specs.Runs.{Unbroken}
 use Rattle.logic.specs.Tables.{Table, Allows, Good, GoodAllow, IsMade}
 use Rattle.logic.specs.TableFile.{table-file}
 use Rattle.reading.specs.TowerReading.{read-tower}
 use Rattle.reading.specs.TableReading.{rows-of, table-of}
+use Rattle.reading.specs.LogReading.{read-log}
+use Rattle.reading.specs.declared.Stroke.{Stroke}
 use Rattle.pending.specs.Pairs.{most-pairs}
 use Rattle.outcome.specs.Areas.{make-areas, check-areas}
 use Rattle.outcome.specs.Make.{make-outcome}
 use Rattle.outcome.specs.Check.{check-outcome}
 use Rattle.outcome.specs.Reached.{ReachedPair, MoreThan}
 use Rattle.outcome.specs.Calls.{FitFiles, FitTable}
+use Rattle.outcome.specs.LoggedRun.{logged-actions, LoggedRun, FirstMisfit}
+use Rattle.outcome.specs.RightAnswer.{SoundTable}
 
 -- The files are fit, and the bytes hold a good table for their tower and their book.
 pub record HoldsGood (tower-file text file : List ℕ) : Type 0 where
@@ -92,3 +98,31 @@ pub record MakesTable (tower-file text : List ℕ) (tower : Tower) (book : Book)
       → make-outcome tower-file text output areas .output ≡ file ++ drop (length file) output
   pub no-room : (output : List ℕ) (areas : List (List ℕ)) → long-enough make-areas areas ≡ true
       → (make-outcome tower-file text output areas .answer ≡ Make.Refused Output) ↔ (length output < length file)
+
+-- The files of tower and table are fit with no reason from a to d, every line of the log is of the form, and the lines are a run of the table with
+-- right ticks, which ends in row r.
+pub record FinalRow (tower-file file log : List ℕ) (r : ℕ) : Type 0 where
+  pub tower : Tower
+  pub table : Table
+  pub strokes : List Stroke
+  pub sound : SoundTable tower-file file tower table
+  pub read : read-log log ≡ give strokes
+  pub run : LoggedRun tower table strokes r
+
+-- So are the files and the lines; those before line k are such a run, and with line k they are none.
+pub record NamedLine (tower-file file log : List ℕ) (k : ℕ) : Type 0 where
+  pub tower : Tower
+  pub table : Table
+  pub strokes : List Stroke
+  pub sound : SoundTable tower-file file tower table
+  pub read : read-log log ≡ give strokes
+  pub misfit : FirstMisfit tower table strokes (position k)
+
+-- The files are fit, every line of the log is of the form, and its first n lines break no rule of the book.
+pub record LogUnbroken (tower-file text log : List ℕ) (n : ℕ) : Type 0 where
+  pub tower : Tower
+  pub book : Book
+  pub strokes : List Stroke
+  pub fit : FitFiles tower-file text tower book
+  pub read : read-log log ≡ give strokes
+  pub unbroken : Unbroken tower book (logged-actions (take n strokes))

@@ -2,6 +2,7 @@
 use Prim.Native.Nat.{ℕ, _<_}
 use lib.ListN.{length}
 use Rattle.base.specs.Answers.{Answer, refuse, give}
+use Rattle.base.specs.declared.Reason.{Reason}
 use Rattle.base.specs.declared.Reason.the-variants.{Start, Withheld, Stopped, Broken}
 use Rattle.base.specs.declared.Reason.the-variants as Why
 use Rattle.base.specs.declared.Refusal.the-variants.{Pairs}
@@ -29,15 +30,18 @@ pub record RightBelow (tower : Tower) (table : Table) (r : ℕ) : Type 0 where
   pub a : GoodStart tower table
   pub rows : (s : ℕ) → s < r → RowRight tower table s
 
+-- The first of the reasons a to d, and why it is the first.
+pub data FirstOfRows (tower : Tower) (table : Table) : Reason → Type 0 where
+  reason-a : (GoodStart tower table → ⊥) → FirstOfRows tower table Start
+  reason-b : (r : ℕ) → r < length table → RightBelow tower table r → (NoneWithheld tower table r → ⊥) → FirstOfRows tower table (Withheld r)
+  reason-c : (r : ℕ) → r < length table → RightBelow tower table r → NoneWithheld tower table r → (StepsRight tower table r → ⊥)
+      → FirstOfRows tower table (Why.WrongStep r)
+  reason-d : (r : ℕ) → r < length table → RightBelow tower table r → NoneWithheld tower table r → StepsRight tower table r
+      → (GoesOn tower table r → ⊥) → FirstOfRows tower table (Stopped r)
+
 -- The right answer and why it is the right one.
 pub data FirstReason (tower : Tower) (book : Book) (table : Table) : Answer Finding → Type 0 where
-  reason-a : (GoodStart tower table → ⊥) → FirstReason tower book table (give (not-good Start))
-  reason-b : (r : ℕ) → r < length table → RightBelow tower table r → (NoneWithheld tower table r → ⊥)
-      → FirstReason tower book table (give (not-good (Withheld r)))
-  reason-c : (r : ℕ) → r < length table → RightBelow tower table r → NoneWithheld tower table r → (StepsRight tower table r → ⊥)
-      → FirstReason tower book table (give (not-good (Why.WrongStep r)))
-  reason-d : (r : ℕ) → r < length table → RightBelow tower table r → NoneWithheld tower table r → StepsRight tower table r
-      → (GoesOn tower table r → ⊥) → FirstReason tower book table (give (not-good (Stopped r)))
+  by-rows : (q : Reason) → FirstOfRows tower table q → FirstReason tower book table (give (not-good q))
   too-many : RightBelow tower table (length table) → MoreThan most-pairs (ReachedItem tower book table)
       → FirstReason tower book table (refuse Pairs)
   reason-e : RightBelow tower table (length table) → (MoreThan most-pairs (ReachedItem tower book table) → ⊥)

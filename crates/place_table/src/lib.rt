@@ -14,6 +14,7 @@ pub use fields::steps_count;
 pub use layout::Fault;
 pub use layout::wrong_layout;
 pub use steps::allowed_somewhere;
+pub use steps::has;
 pub use steps::target_row;
 pub use steps::waiting_state;
 pub use steps::withheld;

@@ -22,7 +22,7 @@ fn step_of(bytes: &[u8], row: usize, action: usize) -> usize {
 }
 
 // Whether a row has an action.
-fn has(bytes: &[u8], row: usize, action: usize) -> bool {
+pub fn has(bytes: &[u8], row: usize, action: usize) -> bool {
     step_of(bytes, row, action) < fields::steps_count(bytes)
 }
 

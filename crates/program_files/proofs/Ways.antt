@@ -45,8 +45,8 @@ pub record FileReadSoFar (area₀ area : List ℕ) (done : ℕ) : Type 0 where
   pub within : done ≤ length area
   pub same-length : length area ≡ length area₀
 
-pub read-none : (area : List ℕ) → FileReadSoFar area area 0
-read-none area = record { within = omega arith; same-length = refl }
+pub read-held : (area : List ℕ) (held : ℕ) → held ≤ length area → FileReadSoFar area area held
+read-held area held l = record { within = l; same-length = refl }
 
 pub read-more : (area₀ area after : List ℕ) (done n : ℕ) (p : Progress) → FileReadSoFar area₀ area done → p ≡ Progress.On n → Goes p (length area)
     → length after ≡ length area → FileReadSoFar area₀ after n

@@ -7,6 +7,8 @@ mod writing;
 
 pub use reading::Contents;
 pub use reading::argument;
+pub use reading::fill;
+pub use reading::open;
 pub use reading::read_file;
 pub use writing::print;
 pub use writing::save;

@@ -37,11 +37,13 @@ fn read_more(fd: i32, path: &[u8], buf: &mut [u8], done: usize) -> Progress
     Progress::On(done + more)
 }
 
-// All calls. Nothing says that they come to an end, so their number is bounded, by one that no run reaches.
-fn read_all(fd: i32, path: &[u8], buf: &mut [u8]) -> Contents
+// Reads behind the bytes that are there, until the area is full or the file ends: how many bytes it holds
+// then. Nothing says that the calls come to an end, so their number is bounded, by one that no run reaches.
+pub fn fill(fd: i32, path: &[u8], buf: &mut [u8], held: usize) -> Contents
+    requires { ⌜ held ≤ length (now buf) ⌝ }
     ensures { λ r. ⌜ HoldsContents r (now (buf .exit)) ⌝ }
 {
-    let mut done = 0;
+    let mut done = held;
     let mut turns = u64::MAX;
     while turns > 0 && done < buf.len() {
         turns -= 1;
@@ -63,17 +65,25 @@ fn read_all(fd: i32, path: &[u8], buf: &mut [u8]) -> Contents
     Contents::Bytes(done)
 }
 
+// Opens the file of that name to read it, or says why not and answers a number below 0.
+pub fn open(path: &[u8]) -> i32 {
+    let fd = os::open_read(path);
+    if fd < 0 {
+        os::fail(path);
+    }
+    fd
+}
+
 // Reads the file of that name. Who lends one byte more than the longest file that is of use sees that
 // a file is too long.
 pub fn read_file(path: &[u8], buf: &mut [u8]) -> Contents
     ensures { λ r. ⌜ HoldsContents r (now (buf .exit)) ⌝ }
 {
-    let fd = os::open_read(path);
+    let fd = open(path);
     if fd < 0 {
-        os::fail(path);
         return Contents::Failed;
     }
-    let contents = read_all(fd, path, buf);
+    let contents = fill(fd, path, buf, 0);
     libc::close(fd);
     contents
 }

@@ -19,7 +19,7 @@ use Rattle.reading.proofs.TableHeader.{table-layout-fits}
 use Rattle.file_table.proofs.Laws.{laid-out-known}
 use Rattle.program_texts.specs.Decimal.{decimal}
 use Rattle.program_texts.proofs.Decimals.{few-digits}
-use Rattle.program_listing.specs.Lines.{line-end, head-line, step-text, steps-text, row-line, sizes-line, letter-text, refused-line}
+use Rattle.program_listing.specs.Lines.{line-end, head-line, step-text, steps-text, row-line, sizes-line, letter-text, refused-line, named-line}
 
 -- A number of the machine has at most 20 digits.
 pub number-short : (n : ℕ) → n < 2 ^ 64 → length (decimal n) ≤ 20
@@ -96,3 +96,9 @@ unfolding refused-line line-end ascii total
 refusal-short n p l a b =
     rw (length-joined (ascii "refused " ∷ decimal n ∷ ascii " " ∷ decimal p ∷ letter-text l ∷ line-end ∷ []))
     (omega (arith, number-short n a, number-short p b, letter-short l))
+
+-- ---- a word and a number
+
+pub named-short : (word : List ℕ) (n : ℕ) → length word ≤ 8 → n < 2 ^ 64 → length (named-line word n) ≤ 4096
+unfolding named-line line-end total
+named-short word n few a = rw (length-joined (word ∷ decimal n ∷ line-end ∷ [])) (omega (arith, number-short n a))

@@ -23,8 +23,10 @@ use Rattle.file_table.proofs.Laws.{laid-out-known}
 use Rattle.program_texts.specs.Decimal.{decimal}
 use Rattle.program_texts.specs.Putting.{filled, put, Puts, PrintedLine}
 use Rattle.program_texts.proofs.Fitting.{put-append, puts-then, puts-nothing, more, last, line-whole}
-use Rattle.program_listing.specs.Lines.{line-end, head-line, step-text, steps-text, row-line, sizes-line, letter-text, inside-text, refusal-line, refused-line}
-use Rattle.program_listing.proofs.Lengths.{head-short, sizes-short, row-short, refusal-short}
+use Rattle.program_listing.specs.Lines.{line-end, head-line, step-text, steps-text, row-line, sizes-line, letter-text, inside-text, refusal-line, refused-line, named-line, log-line}
+use Rattle.program_listing.proofs.Lengths.{head-short, sizes-short, row-short, refusal-short, named-short}
+use Rattle.base.specs.declared.LogAnswer.{LogAnswer}
+use Rattle.base.specs.declared.LogAnswer.the-variants as Logged
 
 -- ---- texts one behind the other
 
@@ -177,3 +179,17 @@ refused-way n p l o₀ o₁ o₂ o₃ o₄ o₅ o₆ r₁ r₂ r₃ r₄ r₅ r�
     (more r₁ r₆ 0 (ascii "refused ") (decimal n ∷ (32 ∷ []) ∷ decimal p ∷ letter-text l ∷ (10 ∷ []) ∷ []) o₀ o₁ o₆ a
     (five (decimal n) (32 ∷ []) (decimal p) (letter-text l) (10 ∷ []) o₁ o₂ o₃ o₄ o₅ o₆ r₁ r₂ r₃ r₄ r₅ r₆ b c d e f))
     (rw i (refusal-short n p l s t))
+
+-- ---- what a log comes to
+
+pub named-way : (word : List ℕ) (n : ℕ) (o₀ o₁ o₂ o₃ : List ℕ) (r₁ r₂ r₃ : ℕ) → Puts r₃ (10 ∷ []) o₂ r₂ o₃ → Puts r₂ (decimal n) o₁ r₁ o₂
+    → Puts r₁ word o₀ 0 o₁ → length o₀ ≡ 4096 → length word ≤ 8 → n < 2 ^ 64 → PrintedLine r₃ (named-line word n) o₃
+unfolding named-line line-end
+named-way word n o₀ o₁ o₂ o₃ r₁ r₂ r₃ r q p e few a =
+    line-whole r₃ (named-line word n) o₀ o₃
+    (more r₁ r₃ 0 word (decimal n ∷ line-end ∷ []) o₀ o₁ o₃ p (more r₂ r₃ r₁ (decimal n) (line-end ∷ []) o₁ o₂ o₃ q (last r₃ r₂ line-end o₂ o₃ r)))
+    (rw e (named-short word n few a))
+
+-- The line of an answer that is known.
+pub log-way : (answer known : LogAnswer) (r : ℕ) (after : List ℕ) → answer ≡ known → PrintedLine r (log-line known) after → PrintedLine r (log-line answer) after
+log-way answer known r after e h = rw e h

@@ -5,7 +5,9 @@ use lib.Dec.{eqb}
 use Rattle.base.specs.Choice.{pick}
 use Rattle.base.specs.Lists.{joined}
 use Rattle.base.specs.Text.{byte, ascii}
-use Rattle.base.specs.Answers.{Said, answered, refused}
+use Rattle.base.specs.Answers.{Said, answered, refused, refusal-said, reason-said}
+use Rattle.base.specs.declared.LogAnswer.{LogAnswer}
+use Rattle.base.specs.declared.LogAnswer.the-variants as Logged
 use Rattle.logic.specs.Tables.{Step, Row}
 use Rattle.program_texts.specs.Decimal.{decimal}
 
@@ -43,6 +45,17 @@ unfoldable pub refusal-line : Said → List ℕ
 refusal-line (answered values) = []
 refusal-line (refused number place inside) =
     joined (ascii "refused " ∷ decimal number ∷ ascii " " ∷ decimal place ∷ inside-text inside ∷ line-end ∷ [])
+
+-- a word and a number
+unfoldable pub named-line : List ℕ → ℕ → List ℕ
+named-line word n = joined (word ∷ decimal n ∷ line-end ∷ [])
+
+-- what a log comes to: the final row, the first line that does not fit, or a refusal
+unfoldable pub log-line : LogAnswer → List ℕ
+log-line (Logged.Row row) = named-line (ascii "row ") row
+log-line (Logged.Line line) = named-line (ascii "line ") line
+log-line (Logged.NotGood reason) = refusal-line (reason-said reason)
+log-line (Logged.Refused r) = refusal-line (refusal-said r)
 
 -- ---- the same by numbers
 

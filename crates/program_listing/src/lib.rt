@@ -1,14 +1,16 @@
-// What the programs print, as bytes: the listing of a table, the sizes of a book, and a refusal
-// (01, 'Small-tower table'). A line is put into an array that the caller lends, from its start on,
+// What the programs print, as bytes: the listing of a table, the sizes of a book, what a log comes to,
+// and a refusal (01, 'Small-tower table'). A line is put into an array that the caller lends, from its start on,
 // and every line fits. specs/Lines.antt says which bytes it has.
-ghost use Prim.Native.Nat.{_<_};
+ghost use Prim.Native.Nat.{_≤_, _<_};
 ghost use mathlib.Core.Path.{_≡_};
 ghost use mathlib.Core.Bool.{true};
+ghost use lib.ListN.{length};
 ghost use Rattle.base.specs.Answers.{refusal-said, reason-said};
 ghost use Rattle.logic.specs.Tables.{row-at};
 ghost use Rattle.reading.specs.TableReading.{rows-of, laid-out, table-of};
 ghost use Rattle.program_texts.specs.Putting.{Puts, PrintedLine};
-ghost use Rattle.program_listing.specs.Lines.{head-line, step-text, steps-text, row-line, sizes-line, letter-text, refusal-line, refused-line};
+ghost use Rattle.program_listing.specs.Lines.{head-line, step-text, steps-text, row-line, sizes-line, letter-text, refusal-line, refused-line, named-line, log-line};
+use base::LogAnswer;
 use base::Reason;
 use base::Refusal;
 use program_texts::put_byte;
@@ -117,4 +119,26 @@ fn put_letter(out: &mut [u8], at: usize, letter: u8) -> usize
     }
     let a = put_byte(out, at, b' ');
     put_byte(out, a, letter)
+}
+
+// A word and a number.
+fn named(word: &[u8], n: usize, out: &mut [u8; 4096]) -> usize
+    requires { ⌜ length (now word) ≤ 8 ⌝ }
+    ensures { λ r. ⌜ PrintedLine r (named-line (now (word .entry)) n) (now (out .exit)) ⌝ }
+{
+    let a = put_bytes(out, 0, word);
+    let b = put_decimal(out, a, n);
+    put_byte(out, b, b'\n')
+}
+
+// What a log comes to: the final row, the first line that does not fit, or a refusal.
+pub fn log_answer(answer: LogAnswer, out: &mut [u8; 4096]) -> usize
+    ensures { λ r. ⌜ PrintedLine r (log-line answer) (now (out .exit)) ⌝ }
+{
+    match answer {
+        LogAnswer::Row(row) => named(b"row ", row, out),
+        LogAnswer::Line(line) => named(b"line ", line, out),
+        LogAnswer::NotGood(reason) => not_good(reason, out),
+        LogAnswer::Refused(why) => refusal(why, out),
+    }
 }

@@ -14,3 +14,6 @@ pub mod Spelled
 pub mod ReadBack
 pub mod BookRight
 pub mod ReadBackInstances
+pub mod LogReading
+pub mod LogRight
+pub mod LogPieces

@@ -113,17 +113,20 @@ spaces-passage s p =
 -- ---- numbers
 
 module _ (s : List ℕ) where
-  digits-most : (n p : ℕ) → digits n s p ≤ n
+  -- no more digits than are counted
+  pub digits-most : (n p : ℕ) → digits n s p ≤ n
   unfolding digits
   digits-most zero p = omega arith
   digits-most (suc n) p = pick-by (λ k. k ≤ suc n) (is-digit (byte-at s p)) _ _ (λ _. omega (arith, digits-most n (p + 1))) (λ _. omega arith)
 
-  digits-some : (n p : ℕ) → 1 ≤ n → is-digit (byte-at s p) ≡ true → 1 ≤ digits n s p
+  -- one at least, where a digit stands
+  pub digits-some : (n p : ℕ) → 1 ≤ n → is-digit (byte-at s p) ≡ true → 1 ≤ digits n s p
   unfolding digits
   digits-some zero p one e = absurd (omega arith)
   digits-some (suc n) p one e = rw e (omega arith)
 
-  digits-at : (n p i : ℕ) → i < digits n s p → is-digit (byte-at s (p + i)) ≡ true
+  -- each of them is a digit
+  pub digits-at : (n p i : ℕ) → i < digits n s p → is-digit (byte-at s (p + i)) ≡ true
   unfolding digits
   digits-at zero p i lt = absurd (omega arith)
   digits-at (suc n) p i lt = go (is-digit (byte-at s p)) refl i lt (λ j. digits-at n (p + 1) j)
@@ -134,7 +137,8 @@ module _ (s : List ℕ) where
       go true e (suc j) lt ih = let at : p + suc j ≡ p + 1 + j = omega arith in ap (λ q. is-digit (byte-at s q)) at ∙ ih j (omega arith)
       go false e i lt ih = absurd (omega arith)
 
-  digit-passage : (p e : ℕ) → e ≡ p + 1 → is-digit (byte-at s p) ≡ true → Passage s p (digit (byte-at s p - 48) ∷ []) e × (byte-at s p - 48 < 10) × (48 ≤ byte-at s p)
+  -- a digit as its byte
+  pub digit-passage : (p e : ℕ) → e ≡ p + 1 → is-digit (byte-at s p) ≡ true → Passage s p (digit (byte-at s p - 48) ∷ []) e × (byte-at s p - 48 < 10) × (48 ≤ byte-at s p)
   unfolding is-digit digit
   digit-passage p e at d =
       let low = leb-true 48 (byte-at s p) (and-left (leb 48 (byte-at s p)) (leb (byte-at s p) 57) d) in

@@ -138,16 +138,19 @@ spaced-no-digit (suc n) more h = record { begins = λ rest. refl }
 pub span-at : {s : List ℕ} {p : ℕ} {t rest : List ℕ} {e : ℕ} → Span s p t rest e → (i q : ℕ) → q ≡ p + i → byte-at s q ≡ byte-at (t ++ rest) i
 span-at {s} {p} h i q at = ap (λ j. getD s j 0) at ∙ sym (getD-drop p s i 0) ∙ ap (λ l. getD l i 0) (h .text)
 
-digit-is : (d : ℕ) → d < 10 → is-digit (digit d) ≡ true
+-- a digit's byte is one of a digit
+pub digit-is : (d : ℕ) → d < 10 → is-digit (digit d) ≡ true
 unfolding is-digit digit
 digit-is d l = and-both (le-leb 48 (48 + d) (omega arith)) (le-leb (48 + d) 57 (omega arith))
 
-no-digits : (n : ℕ) (s : List ℕ) (p : ℕ) → is-digit (byte-at s p) ≡ false → digits n s p ≡ 0
+-- where no digit stands there are none
+pub no-digits : (n : ℕ) (s : List ℕ) (p : ℕ) → is-digit (byte-at s p) ≡ false → digits n s p ≡ 0
 unfolding digits
 no-digits zero s p h = refl
 no-digits (suc n) s p h = rw h
 
-digit-more : (n : ℕ) (s : List ℕ) (p k : ℕ) → is-digit (byte-at s p) ≡ true → digits n s (p + 1) ≡ k → digits (suc n) s p ≡ suc k
+-- a digit before others
+pub digit-more : (n : ℕ) (s : List ℕ) (p k : ℕ) → is-digit (byte-at s p) ≡ true → digits n s (p + 1) ≡ k → digits (suc n) s p ≡ suc k
 unfolding digits
 digit-more n s p k h e = rw (h, e)
 
@@ -166,7 +169,7 @@ module _ (s : List ℕ) (p : ℕ) where
   value-three a b c e f g = omega arith
 
   -- so many digits of such a value make a numeral
-  numeral-of : (most n k : ℕ) → is-digit (byte-at s p) ≡ true → digits most s p ≡ n → value n s p ≡ k
+  pub numeral-of : (most n k : ℕ) → is-digit (byte-at s p) ≡ true → digits most s p ≡ n → value n s p ≡ k
       → numeral most s p ≡ some (record { said = k; next = p + n })
   unfolding numeral
   numeral-of most n k h e f = rw (h, e, f)

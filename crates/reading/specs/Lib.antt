@@ -4,5 +4,7 @@ pub mod Grammar
 pub mod BookReading
 pub mod BookArea
 pub mod TableReading
+pub mod LogReading
 pub mod Spelling
 pub mod RightBook
+pub mod LogSpelling

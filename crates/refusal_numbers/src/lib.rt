@@ -8,7 +8,7 @@ use base::Refusal;
 // The number of a table that is not good.
 pub const NOT_GOOD: u32 = 14;
 
-// The number, from 1 to 18.
+// The number, from 1 to 19.
 pub fn number(refusal: Refusal) -> u32
     ensures { λ n. ⌜ n ≡ refusal-number refusal ⌝ }
 {
@@ -30,10 +30,11 @@ pub fn number(refusal: Refusal) -> u32
         Refusal::Output => 16,
         Refusal::Outside => 17,
         Refusal::NotAllowed => 18,
+        Refusal::Log(_) => 19,
     }
 }
 
-// The place: the line for 6 to 10, otherwise 0.
+// The place: the line for 6 to 10 and for 19, otherwise 0.
 pub fn place(refusal: Refusal) -> usize
     ensures { λ p. ⌜ p ≡ refusal-place refusal ⌝ }
 {
@@ -55,6 +56,7 @@ pub fn place(refusal: Refusal) -> usize
         Refusal::Output => 0,
         Refusal::Outside => 0,
         Refusal::NotAllowed => 0,
+        Refusal::Log(line) => line,
     }
 }
 

@@ -2,7 +2,7 @@
 use Prim.Native.Nat.{ℕ}
 use mathlib.Core.Path.{_≡_, sym, _∙_, ap}
 use mathlib.Core.List.{List, [], _∷_}
-use Rattle.base.specs.Answers.{Said, row-of, letter-of, refusal-number, refusal-place, refusal-said, reason-said, book-said, make-said, verdict-said, follow-said}
+use Rattle.base.specs.Answers.{Said, row-of, letter-of, refusal-number, refusal-place, refusal-said, reason-said, book-said, make-said, verdict-said, follow-said, log-said}
 use Rattle.base.specs.declared.BookAnswer.{BookAnswer}
 use Rattle.base.specs.declared.MakeAnswer.{MakeAnswer}
 use Rattle.base.specs.declared.Verdict.{Verdict}
@@ -41,6 +41,9 @@ shown-by said o x outcome z e f g = g ∙ ap (λ y. shown (said y)) (sym f ∙ e
 
 pub follow-by : ShownBy follow-said
 follow-by = shown-by follow-said
+
+pub log-by : ShownBy log-said
+log-by = shown-by log-said
 
 -- The promises of the others have the areas beside the answer, and the maker's the output too.
 pub book-by : (o x : BookAnswer) (marks : ℕ) (text nodes nodes-after : List ℕ) (z : Answer) → Outcome o marks text nodes nodes-after

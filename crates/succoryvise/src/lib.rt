@@ -5,19 +5,26 @@
 pub mod answer;
 
 ghost use mathlib.Core.Path.{_≡_};
-ghost use Rattle.base.specs.Answers.{follow-said};
+ghost use Rattle.base.specs.Answers.{follow-said, log-said};
 ghost use Rattle.outcome.specs.Follow.{follow-outcome};
+ghost use Rattle.outcome.specs.Log.{log-outcome};
 ghost use Rattle.succoryvise.specs.Shown.{shown};
 ghost use Rattle.succoryvise.specs.Entries.{BookShown, MakeShown, CheckShown};
 ghost use Rattle.succoryvise.specs.Version.{interface-version};
 use answer::Answer;
 use base::BookAnswer;
 use base::FollowAnswer;
+use base::LogAnswer;
 use base::MakeAnswer;
 use base::Verdict;
 
 // The version of this interface.
 const VERSION: u32 = 1;
+
+// The first value of a log's answer: every line fits, or one does not.
+const FITS: usize = 0;
+
+const FAILS: usize = 1;
 
 // The version of this interface, for those who look functions up by name and do not link them.
 #[no_mangle]
@@ -94,5 +101,19 @@ pub extern "C" fn succoryvise_follow_v1(table: &[u8], row: usize, action: usize)
     match follower::follow(table, row, action) {
         FollowAnswer::Row(next) => answer::value(next),
         FollowAnswer::Refused(refusal) => answer::refused(refusal),
+    }
+}
+
+// What a log comes to along the table: 0 and the final row, or 1 and the number of the first line that
+// does not fit; or why it was not read.
+#[no_mangle]
+pub extern "C" fn succoryvise_read_log_v1(tower: &[u8], table: &[u8], log: &[u8]) -> Answer
+    ensures { λ a. ⌜ a ≡ shown (log-said (log-outcome (now (tower .entry)) (now (table .entry)) (now (log .entry)))) ⌝ }
+{
+    match log_reader::read_log(tower, table, log) {
+        LogAnswer::Row(row) => answer::two_values(FITS, row),
+        LogAnswer::Line(line) => answer::two_values(FAILS, line),
+        LogAnswer::NotGood(reason) => answer::not_good(reason),
+        LogAnswer::Refused(refusal) => answer::refused(refusal),
     }
 }

@@ -76,6 +76,9 @@ fn explain(
         Refusal::NotAllowed => {
             in_file(table, b"the action is not allowed in that row");
         }
+        Refusal::Log(_) => {
+            say(b"a line of the log is not of its form\n");
+        }
     }
 }
 

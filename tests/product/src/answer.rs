@@ -1,5 +1,6 @@
 //! What an entry answers, whoever answers.
 
+use reference::judge::Reason;
 use reference::Refusal;
 use std::fmt;
 
@@ -17,6 +18,26 @@ impl Answer {
         Answer {
             values: values.into(),
             ..Answer::default()
+        }
+    }
+
+    /// Refusal 14.
+    pub fn not_good(reason: Reason, place: usize) -> Self {
+        Answer {
+            letter: reason.letter() as u8,
+            ..Refusal::at(14, place).into()
+        }
+    }
+
+    /// The kind of a 14, by its reason.
+    pub fn reason(&self) -> Option<&'static str> {
+        match self.letter {
+            b'a' => Some("14 a"),
+            b'b' => Some("14 b"),
+            b'c' => Some("14 c"),
+            b'd' => Some("14 d"),
+            b'e' => Some("14 e"),
+            _ => None,
         }
     }
 }

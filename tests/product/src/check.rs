@@ -27,21 +27,8 @@ pub fn check(tower: &[u8], text: &[u8], table: &[u8]) -> Answer {
 pub fn expected(tower: &[u8], text: &[u8], table: &[u8]) -> Answer {
     match check::check(tower, text, table) {
         check::Answer::Good => Answer::default(),
-        check::Answer::NotGood(reason, place) => Answer {
-            letter: letter(reason),
-            ..Refusal::at(14, place).into()
-        },
+        check::Answer::NotGood(reason, place) => Answer::not_good(reason, place),
         check::Answer::Refused(refusal) => refusal.into(),
-    }
-}
-
-fn letter(reason: check::Reason) -> u8 {
-    match reason {
-        check::Reason::Start => b'a',
-        check::Reason::Withheld => b'b',
-        check::Reason::Misled => b'c',
-        check::Reason::Stopped => b'd',
-        check::Reason::Broken => b'e',
     }
 }
 
@@ -112,23 +99,16 @@ impl Entry for Check {
     }
 
     fn kinds(call: &Call, answer: &Answer) -> Vec<&'static str> {
-        match (answer.number, answer.letter) {
-            (0, _) => named(GOES_ON_BY_SURE, goes_on_by_sure(call)),
-            (14, b'a') => vec!["14 a"],
-            (14, b'b') => [
-                vec!["14 b"],
-                named(SURE_WITHHELD, withholds_sure(call, answer.place)),
-            ]
-            .concat(),
-            (14, b'c') => vec!["14 c"],
-            (14, b'd') => [
-                vec!["14 d"],
-                named(PLAYER_ALONE, !rows(call)[answer.place].steps.is_empty()),
-            ]
-            .concat(),
-            (14, b'e') => vec!["14 e"],
-            _ => vec![],
-        }
+        let further = match (answer.number, answer.letter) {
+            (0, _) => goes_on_by_sure(call).then_some(GOES_ON_BY_SURE),
+            (14, b'b') => withholds_sure(call, answer.place).then_some(SURE_WITHHELD),
+            (14, b'd') => {
+                let player_alone = !rows(call)[answer.place].steps.is_empty();
+                player_alone.then_some(PLAYER_ALONE)
+            }
+            _ => None,
+        };
+        answer.reason().into_iter().chain(further).collect()
     }
 
     fn of_line(_: &str, inputs: &[&str]) -> Option<Call> {
@@ -151,11 +131,6 @@ impl Entry for Check {
 const SURE_WITHHELD: &str = "14 b, an action that is sure to come";
 const PLAYER_ALONE: &str = "14 d, a row with the player's actions alone";
 const GOES_ON_BY_SURE: &str = "good, with a row that goes on by what is sure to come alone";
-
-/// The name where something holds, and else none.
-fn named(name: &'static str, holds: bool) -> Vec<&'static str> {
-    holds.then_some(name).into_iter().collect()
-}
 
 /// The tower and the rows of a call whose files are fit.
 fn tower_of(call: &Call) -> Tower {

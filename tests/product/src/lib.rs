@@ -12,6 +12,8 @@ pub mod common;
 pub mod edits;
 pub mod entry;
 pub mod follow;
+pub mod log;
+pub mod logs;
 pub mod make;
 pub mod rewrite;
 pub mod ruled;
@@ -31,6 +33,7 @@ pub fn for_each_entry(test: impl Test) -> bool {
         test.on::<book::Book>(),
         test.on::<follow::Follow>(),
         test.on::<check::Check>(),
+        test.on::<log::Log>(),
         test.on::<make::Make>(),
         test.on::<runs::Runs>(),
     ];

@@ -2,7 +2,7 @@
 
 use crate::common::{self, Random};
 use crate::edits;
-use reference::tower::{HEADER, NOT_ENABLED};
+use reference::tower::{ACTION, HEADER, NOT_ENABLED};
 
 /// A tower file: fit in about half of the cases, else nearly fit or noise.
 pub fn any(random: &mut Random) -> Vec<u8> {
@@ -21,6 +21,13 @@ pub fn any(random: &mut Random) -> Vec<u8> {
 /// Changes a few bytes.
 pub fn edit(random: &mut Random, file: &mut Vec<u8>) {
     edits::edit(random, file, HEADER);
+}
+
+/// Gives each action of a fit tower another length, up to the longest.
+pub fn lengthen(random: &mut Random, file: &mut [u8]) {
+    for action in 0..usize::from(file[1]) {
+        file[HEADER + ACTION * action] = 1 + random.below(255) as u8;
+    }
 }
 
 /// A fit tower, mostly a small one.

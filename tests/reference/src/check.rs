@@ -1,27 +1,13 @@
 //! Judges a table, whoever made it.
 
 use crate::book::{self, Book};
+use crate::judge::{self, Reason};
 use crate::pending::{self, Pending};
 use crate::table::{self, Table};
 use crate::tower::{self, Tower};
 use crate::{Refusal, MOST_PAIRS};
 use std::collections::HashSet;
 use std::fmt;
-
-/// Why a table is not good.
-#[derive(Clone, Copy, Debug, PartialEq, Eq)]
-pub enum Reason {
-    /// a: row 0 has another state than the start.
-    Start,
-    /// b: an enabled action that may not be withheld is not allowed.
-    Withheld,
-    /// c: an allowed action is not enabled, or its target row has another state than the one reached.
-    Misled,
-    /// d: no action is allowed that goes on.
-    Stopped,
-    /// e: an allowed run is broken.
-    Broken,
-}
 
 #[derive(Clone, Copy, Debug, PartialEq, Eq)]
 pub enum Answer {
@@ -35,16 +21,7 @@ impl fmt::Display for Answer {
     fn fmt(&self, f: &mut fmt::Formatter) -> fmt::Result {
         match self {
             Answer::Good => write!(f, "good"),
-            Answer::NotGood(reason, place) => {
-                let letter = match reason {
-                    Reason::Start => 'a',
-                    Reason::Withheld => 'b',
-                    Reason::Misled => 'c',
-                    Reason::Stopped => 'd',
-                    Reason::Broken => 'e',
-                };
-                write!(f, "{} {letter}", Refusal::at(14, *place))
-            }
+            Answer::NotGood(reason, place) => write!(f, "{}", reason.said_at(*place)),
             Answer::Refused(refusal) => write!(f, "{refusal}"),
         }
     }
@@ -55,10 +32,7 @@ pub fn check(tower: &[u8], book: &[u8], table: &[u8]) -> Answer {
     let read = || {
         let tower = tower::parse(tower)?;
         let book = book::read(tower.marks, book)?;
-        let table = table::decode(table)?;
-        if table.states != tower.states.len() || table.actions != tower.actions.len() {
-            return Err(Refusal::new(13));
-        }
+        let table = table::decode_for(&tower, table)?;
         Ok((tower, book, table))
     };
     match read() {
@@ -69,39 +43,14 @@ pub fn check(tower: &[u8], book: &[u8], table: &[u8]) -> Answer {
 
 /// Judges a table whose S and A are the tower's.
 pub fn check_table(tower: &Tower, book: &Book, table: &Table) -> Answer {
-    if table.rows[0].state != tower.start {
-        return Answer::NotGood(Reason::Start, 0);
-    }
-    for row in 0..table.rows.len() {
-        if let Some(reason) = fault_of_row(tower, table, row) {
-            return Answer::NotGood(reason, row);
-        }
+    if let Some((reason, place)) = judge::first_fault(tower, table) {
+        return Answer::NotGood(reason, place);
     }
     match allows_a_broken_run(tower, book, table) {
         None => Answer::Refused(Refusal::new(11)),
         Some(true) => Answer::NotGood(Reason::Broken, 0),
         Some(false) => Answer::Good,
     }
-}
-
-/// The first of the reasons b, c and d that holds of a row.
-fn fault_of_row(tower: &Tower, table: &Table, row: usize) -> Option<Reason> {
-    let row = &table.rows[row];
-    let targets = &tower.states[row.state].targets;
-    let withheld = |action: usize| {
-        !tower.kind(action).controllable()
-            && targets[action].is_some()
-            && row.target(action).is_none()
-    };
-    if (0..tower.actions.len()).any(withheld) {
-        return Some(Reason::Withheld);
-    }
-    let led_well = |step: &table::Step| targets[step.action] == Some(table.rows[step.target].state);
-    if !row.steps.iter().all(led_well) {
-        return Some(Reason::Misled);
-    }
-    let goes_on = |step: &table::Step| tower.kind(step.action).goes_on();
-    (!row.steps.iter().any(goes_on)).then_some(Reason::Stopped)
 }
 
 /// Whether some allowed run is broken; nothing where rows with what is pending are over 1,000. The

@@ -1,6 +1,6 @@
 //! The table file of section 'Good tables'.
 
-use crate::tower::{self, STATE_WIDTH};
+use crate::tower::{self, Tower, STATE_WIDTH};
 use crate::{number_at, put_number, two_bytes, Refusal, MOST_PAIRS};
 
 /// Bytes of the header.
@@ -132,6 +132,15 @@ impl Table {
 /// Reads a table file by its own header; 13 where it is not laid out as it should be.
 pub fn decode(file: &[u8]) -> Result<Table, Refusal> {
     decode_laid_out(file).ok_or(Refusal::new(13))
+}
+
+/// Reads a table file for a tower; 13 also where its S and A are not the tower's.
+pub fn decode_for(tower: &Tower, file: &[u8]) -> Result<Table, Refusal> {
+    let table = decode(file)?;
+    if table.states != tower.states.len() || table.actions != tower.actions.len() {
+        return Err(Refusal::new(13));
+    }
+    Ok(table)
 }
 
 fn decode_laid_out(file: &[u8]) -> Option<Table> {

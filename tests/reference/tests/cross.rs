@@ -4,7 +4,8 @@ mod common;
 
 use common::{lines, promise, random_book, random_table, random_tower, tower_file, Random};
 use reference::book::{self, Book};
-use reference::check::{check, check_table, Answer, Reason};
+use reference::check::{check, check_table, Answer};
+use reference::judge::Reason;
 use reference::make::{make, make_table, pair_count};
 use reference::pending;
 use reference::runs::Run;

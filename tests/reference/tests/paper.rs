@@ -4,8 +4,9 @@ mod common;
 
 use common::{lines, ring, small_table, stopped_table, tower_file, SMALL_TOWER};
 use reference::book::{self, Comparison, Line, Node};
-use reference::check::{check, Answer, Reason};
+use reference::check::{check, Answer};
 use reference::follow::follow;
+use reference::judge::Reason;
 use reference::listing::listing;
 use reference::make::{make, pair_count};
 use reference::table::Table;

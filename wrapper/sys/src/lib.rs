@@ -102,6 +102,16 @@ extern "C" {
         row: usize,
         action: usize,
     ) -> Answer;
+
+    #[link_name = "succoryvise_read_log_v1"]
+    fn succoryvise_read_log(
+        tower: *const u8,
+        tower_length: usize,
+        table: *const u8,
+        table_length: usize,
+        log: *const u8,
+        log_length: usize,
+    ) -> Answer;
 }
 
 /// The version of the archive.
@@ -183,4 +193,20 @@ pub fn check(tower: &[u8], text: &[u8], table: &[u8], areas: [&mut [u8]; CHECKER
 pub fn follow(table: &[u8], row: usize, action: usize) -> Answer {
     // SAFETY: pointer and length are of one slice, which is only read.
     unsafe { succoryvise_follow(table.as_ptr(), table.len(), row, action) }
+}
+
+/// The log reader. Its first value is 0 and the second the final row, or the first is 1 and the second
+/// the first line that does not fit.
+pub fn read_log(tower: &[u8], table: &[u8], log: &[u8]) -> Answer {
+    // SAFETY: each pointer and its length are of one slice, which is only read.
+    unsafe {
+        succoryvise_read_log(
+            tower.as_ptr(),
+            tower.len(),
+            table.as_ptr(),
+            table.len(),
+            log.as_ptr(),
+            log.len(),
+        )
+    }
 }

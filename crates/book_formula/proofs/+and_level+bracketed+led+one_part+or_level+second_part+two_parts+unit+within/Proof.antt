@@ -39,7 +39,7 @@ use Rattle.book_nodes.proofs.until_node.Reads as until-node-reads
 use Rattle.book_nodes.proofs.usual.Reads as usual-reads
 use Rattle.book_tokens.proofs.behind.Reads as behind-reads
 use Rattle.book_tokens.proofs.bound.Reads as bound-reads
-use Rattle.book_tokens.proofs.byte_at.Reads as byte-at-reads
+use Rattle.text_numerals.proofs.byte_at.Reads as byte-at-reads
 use Rattle.book_tokens.proofs.connective.Reads as connective-reads
 use Rattle.book_tokens.proofs.skip.Reads as skip-reads
 use Rattle.book_formula.proofs.+and_level+bracketed+led+one_part+or_level+second_part+two_parts+unit+within.Lts-and_level as and-level-lts

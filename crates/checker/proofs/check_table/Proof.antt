@@ -1,13 +1,13 @@
 -- `checker::check_table` meets its contract.
 use borrow.Author.Needs.{needs}
-use borrow.Author.Tests.{not-true, not-false}
-use Rattle.checker.proofs.Ways.{judgeable, not-for-tower, rows-wrong, rows-right}
+use Rattle.checker.proofs.Ways.{rows-there, table-refuses, rows-wrong, rows-right}
 use Rattle.checker.proofs.check_table.Statement.{statement}
 use Rattle.checker.proofs.check_table.Tie as tie
-
-ruleset all = (needs, not-true, not-false, judgeable, not-for-tower, rows-wrong, rows-right)
 
 pub check-table-spec : {M : Type 1} → statement M
 check-table-spec =
     tie.close
-    (tie.spec (λ c κs. search all) (λ c. search all) (λ c κs. search all) (λ c. search all) (λ c. search all) (λ c. search all) (λ c κs. (search all, (search all, (search all, (search all, search all))))) (λ c. search all) (λ c. search all) (λ c. search all) (λ c. search all))
+    (tie.spec
+    (λ c κs. search needs) (λ c. search needs) (λ c κs. (search needs, (search rows-there, (search needs, (search needs, search needs)))))
+    (λ c. search needs) (λ c. search needs) (λ c. search needs) (λ c. search needs) (λ c. search needs)
+    (λ c. search rows-right) (λ c. search rows-wrong) (λ c. search table-refuses))

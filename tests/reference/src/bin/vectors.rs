@@ -8,21 +8,23 @@
 //! | make.txt | tower, book, output length | `made TABLE` |
 //! | check.txt | tower, book, table | `good`, or `refused 14 PLACE REASON` |
 //! | follow.txt | table, row, action | `row ROW` |
+//! | log.txt | tower, table, log | `row ROW`, `line LINE`, or `refused 14 PLACE REASON` |
 //!
 //! Any other refusal is `refused NUMBER PLACE`.
 
-use reference::{book, check, follow, make, vectors};
+use reference::{book, check, follow, log, make, vectors};
 use std::fs;
 use std::path::{Path, PathBuf};
 use std::process::ExitCode;
 
 type Answer = fn(&[&str]) -> Option<String>;
 
-const FILES: [(&str, Answer); 4] = [
+const FILES: [(&str, Answer); 5] = [
     ("book", answer_book),
     ("make", answer_make),
     ("check", answer_check),
     ("follow", answer_follow),
+    ("log", answer_log),
 ];
 
 fn main() -> ExitCode {
@@ -30,7 +32,12 @@ fn main() -> ExitCode {
     let folder = std::env::args().nth(1).map_or_else(beside, PathBuf::from);
     let mut all_right = true;
     for (name, answer) in FILES {
-        for path in vectors::files(&folder, &format!("{name}.txt")) {
+        let paths = vectors::files(&folder, &format!("{name}.txt"));
+        if paths.is_empty() {
+            println!("{name}: no vectors");
+            all_right = false;
+        }
+        for path in paths {
             let name = path.strip_prefix(&folder).unwrap_or(&path);
             all_right &= run_file(&name.display().to_string(), &path, answer);
         }
@@ -124,4 +131,12 @@ fn answer_follow(inputs: &[&str]) -> Option<String> {
         Ok(row) => format!("row {row}"),
         Err(refusal) => refusal.to_string(),
     })
+}
+
+fn answer_log(inputs: &[&str]) -> Option<String> {
+    let [tower, table, log] = inputs else {
+        return None;
+    };
+    let answer = log::read_log(&bytes(tower)?, &bytes(table)?, &bytes(log)?);
+    Some(answer.to_string())
 }

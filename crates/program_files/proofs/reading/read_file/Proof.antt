@@ -8,5 +8,4 @@ ruleset all = (needs, holds-nothing)
 
 pub read-file-spec : {M : Type 1} → statement M
 read-file-spec = tie.close (tie.spec
-    (λ c κs. search all) (λ c κs. search all) (λ c. search all) (λ c κs. search all) (λ c κs. search all) (λ c. search all)
-    (λ c. search all))
+    (λ c κs. search all) (λ c. search all) (λ c κs. search all) (λ c κs. search all) (λ c. search all) (λ c. search all))

@@ -1,0 +1,24 @@
+-- What the reader of numbers answers: the definition of reading/specs/Tokens.antt, as a value of the code's type.
+use Prim.Native.Nat.{ℕ, zero, suc, _+_, _-_, _≤_}
+use mathlib.Core.Path.{_≡_}
+use mathlib.Core.Option.{Option, none, some}
+use mathlib.Core.List.{List}
+use Rattle.reading.specs.Tokens.{Token, digits, value}
+use Rattle.text_numerals.specs.declared.Number.{Number}
+use Rattle.text_numerals.specs.declared.Number.the-variants.{Missing, Read}
+
+unfoldable pub numeral-told : Option (Token ℕ) → Number
+numeral-told none = Missing
+numeral-told (some t) = Read (t .said) (t .next)
+
+-- what n digits spell: nothing where there are none
+unfoldable pub spelled : ℕ → ℕ → ℕ → Number
+spelled zero said next = Missing
+spelled (suc n) said next = Read said next
+
+-- The digits of a number as far as they were read: n of at most so many, from p on.
+pub record Spelling (s : List ℕ) (p most n said next : ℕ) : Type 0 where
+  pub few : n ≤ most
+  pub here : next ≡ p + n
+  pub told : said ≡ value n s p
+  pub rest : digits most s p ≡ n + digits (most - n) s next
