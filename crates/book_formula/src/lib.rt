@@ -44,7 +44,7 @@ fn or_level(s: &[u8], at: usize, room: usize, area: &mut [u8]) -> usize
     requires { ⌜ 512 ≤ length (now area) ⌝ }
     ensures { λ r. ⌜ Parse.Reads r (Parse.parse (State.usual-in (now (area .entry))) (now (s .entry)) Grammar.Level.or-level at) room (now (area .entry)) (now (area .exit)) ⌝ }
 {
-    let mut next = and_level(s, at, room, area);
+    let mut next = and_level(&*s, at, room, area);
     if next == 0 {
         return 0;
     }
@@ -54,7 +54,7 @@ fn or_level(s: &[u8], at: usize, room: usize, area: &mut [u8]) -> usize
         };
         let first = book_nodes::last_node(area);
         let timed = book_nodes::is_timed(area);
-        let after = and_level(s, book_tokens::skip(s, behind), room, area);
+        let after = and_level(&*s, book_tokens::skip(s, behind), room, area);
         if after == 0 {
             return 0;
         }
@@ -68,7 +68,7 @@ fn and_level(s: &[u8], at: usize, room: usize, area: &mut [u8]) -> usize
     requires { ⌜ 512 ≤ length (now area) ⌝ }
     ensures { λ r. ⌜ Parse.Reads r (Parse.parse (State.usual-in (now (area .entry))) (now (s .entry)) Grammar.Level.and-level at) room (now (area .entry)) (now (area .exit)) ⌝ }
 {
-    let mut next = unit(s, at, room, area);
+    let mut next = unit(&*s, at, room, area);
     if next == 0 {
         return 0;
     }
@@ -78,7 +78,7 @@ fn and_level(s: &[u8], at: usize, room: usize, area: &mut [u8]) -> usize
         };
         let first = book_nodes::last_node(area);
         let timed = book_nodes::is_timed(area);
-        let after = unit(s, book_tokens::skip(s, behind), room, area);
+        let after = unit(&*s, book_tokens::skip(s, behind), room, area);
         if after == 0 {
             return 0;
         }

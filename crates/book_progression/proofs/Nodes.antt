@@ -205,6 +205,10 @@ module _ (bytes : List ℕ) (k p code : ℕ) where
   pub second-below : p ≡ second-of bytes k → code ≡ code-of bytes k → 3 < code → IsNode bytes k → (t : ℕ) → k ≡ t → (p < t) × IsNode bytes p
   second-below e same low node t is = (omega (arith, second-part-of e same low node .1), second-node e same low node)
 
+-- A leaf's code is one of the first four.
+pub leaf-low : (bytes : List ℕ) (k code : ℕ) → code ≡ code-of bytes k → code-of bytes k ≤ 3 → code ≤ 3
+leaf-low bytes k code same low = omega arith
+
 -- A mark is one that a tower may have.
 pub mark-low : (bytes : List ℕ) (k code m : ℕ) → IsNode bytes k → code ≡ code-of bytes k → code ≤ 3 → m ≡ number-of bytes k → m < 16
 mark-low bytes k code m node same low e =

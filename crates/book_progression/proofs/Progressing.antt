@@ -15,7 +15,7 @@ use Rattle.pending.specs.Pending.{holds, fresh, provided, progress}
 use Rattle.reading.specs.BookArea.{node-code, node-first, node-second}
 use Rattle.book_progression.specs.PendingBytes.{pending-of, outcome}
 use Rattle.book_progression.specs.NodeBytes.{code-of, first-of, second-of, fresh-of, Stored, IsNode, MarkedState}
-use Rattle.book_progression.specs.Contracts.{HoldsAt, NodeReady, NextReady, Nexts, Stays, Progresses}
+use Rattle.book_progression.specs.Contracts.{HoldsAt, NodeReady, NextReady, Nexts, Stays, Progresses, Passes}
 use Rattle.book_progression.proofs.Nodes.{by-kind, by-always, by-until, by-and, by-or, and-first, and-second, or-first, or-second, until-first, until-second, always-part, first-below, until-below, second-below, fresh-low, fresh-is}
 
 -- a test that alone decides
@@ -197,6 +197,17 @@ module _ (bytes : List ℕ) (k : ℕ) (r : Tick) (mask : ℕ) (d : Tick) (cells 
               (λ f g s. rw (first-untimed (timed f) (λ c. not-five (e ∙ s .0 .code ∙ c)), ← held .says f (or-first bytes k p f g s first) at, fails)
               (child bytes mask d n (second-part k) q b cells after g (second ∙ s .0 .second) (or-second bytes k n f g s second) new call at));
         }
+
+-- Nothing comes of an or whose untimed first side holds.
+module _ (bytes : List ℕ) (k mask : ℕ) where
+  pub not-passing : Passes false bytes k mask
+  not-passing = record { says = λ is-so. let z : _≡_ {A = ℕ} 0 1 = cc in absurd (omega arith) }
+
+  pub passing : (code p : ℕ) (h : Bool) → code ≡ code-of bytes k → code ≡ 6 → p ≡ first-of bytes k → HoldsAt h bytes p mask → Passes h bytes k mask
+  passing code p h e six first held =
+      record {
+        says = λ is-so r d cells. progress-or-first-holds bytes k r mask d cells code e (omega arith) (omega arith) (λ four. omega arith) (λ five. omega arith) p h first held is-so;
+      }
 
 -- What is asked of a part before it progresses, t being the number that falls.
 module _ (bytes : List ℕ) (k p code : ℕ) (q : Tick) (cells : List ℕ) where

@@ -1,7 +1,7 @@
 -- What the functions of this crate promise. Each promise is for every formula that the bytes hold, and for every state with the given marks.
 use Prim.Native.Nat.{ℕ, _+_, _*_, _≤_, _<_}
 use mathlib.Core.Path.{_≡_}
-use mathlib.Core.Bool.{Bool, false}
+use mathlib.Core.Bool.{Bool, true, false}
 use mathlib.Core.Logic.{_⊎_}
 use mathlib.Core.Option.{Option, none, some}
 use mathlib.Core.List.{List}
@@ -61,6 +61,10 @@ pub record Nexts (answer : Bool) (bytes : List ℕ) (k : ℕ) (d : Tick) (cells 
 pub record Progresses (answer : Bool) (bytes : List ℕ) (k : ℕ) (r : Tick) (mask : ℕ) (d : Tick) (cells after : List ℕ) : Type 0 where
   pub says : (f : Formula) → Stored bytes f k → (at : MarkedState mask)
       → progress (at .tower) (at .state) d f k r (pending-of cells) ≡ outcome answer after
+
+-- Where the answer is yes, nothing comes of node k, whatever its ticks and the step.
+pub record Passes (answer : Bool) (bytes : List ℕ) (k mask : ℕ) : Type 0 where
+  pub says : answer ≡ true → (r d : Tick) (cells : List ℕ) → Progresses true bytes k r mask d cells cells
 
 -- ---- all nodes
 

@@ -8,8 +8,8 @@ ghost use mathlib.Core.Path.{_≡_};
 ghost use lib.ListN.{length};
 ghost use Rattle.logic.specs.Tower.{bit};
 ghost use Rattle.reading.specs.BookArea.{nodes-in, lines-in};
-ghost use Rattle.book_progression.specs.NodeBytes.{IsNode, IsHeld};
-ghost use Rattle.book_progression.specs.Contracts.{HoldsAt, Merged, NodeReady, PutsNode, Compares, NextReady, Nexts, Stays, Progresses, CellSteps, HasNodes, Parts, EmptyTo, NodesProgress, IsLine, LineSteps, LinesProgress, LineBegins, LinesBegin, Emptied, Progressed, PendingBegun};
+ghost use Rattle.book_progression.specs.NodeBytes.{code-of, IsNode, IsHeld};
+ghost use Rattle.book_progression.specs.Contracts.{HoldsAt, Merged, NodeReady, PutsNode, Compares, NextReady, Nexts, Stays, Progresses, Passes, CellSteps, HasNodes, Parts, EmptyTo, NodesProgress, IsLine, LineSteps, LinesProgress, LineBegins, LinesBegin, Emptied, Progressed, PendingBegun};
 
 // Where the number of the book's nodes stands.
 const NODE_COUNT: usize = 480;
@@ -30,6 +30,21 @@ fn marked(mark: u8, mask: usize) -> bool
     (mask >> mark) % 2 == 1
 }
 
+// Whether node k, a constant or a mark, holds at a state with these marks.
+fn leaf_holds(book: &[u8], k: usize, mask: usize) -> bool
+    requires { ⌜ IsNode (now book) k ⌝ }
+    requires { ⌜ code-of (now book) k ≤ 3 ⌝ }
+    ensures { λ r. ⌜ HoldsAt r (now (book .entry)) k mask ⌝ }
+{
+    let code = node::code(book, k);
+    if code <= node::TRUE {
+        return code == node::TRUE;
+    }
+    let there = marked(node::number(book, k), mask);
+    let wanted = code == node::WANTED;
+    there == wanted
+}
+
 // Whether node k, an untimed formula, holds at a state with these marks. Of a timed one it is never
 // asked.
 pub fn holds(book: &[u8], k: usize, mask: usize) -> bool
@@ -37,13 +52,8 @@ pub fn holds(book: &[u8], k: usize, mask: usize) -> bool
     ensures { λ r. ⌜ HoldsAt r (now (book .entry)) k mask ⌝ }
 {
     let code = node::code(book, k);
-    if code <= node::TRUE {
-        return code == node::TRUE;
-    }
     if code <= node::WANTED {
-        let there = marked(node::number(book, k), mask);
-        let wanted = code == node::WANTED;
-        return there == wanted;
+        return leaf_holds(book, k, mask);
     }
     if node::NO_MORE <= code {
         return false;
@@ -59,6 +69,17 @@ pub fn holds(book: &[u8], k: usize, mask: usize) -> bool
         return true;
     }
     holds(book, node::second(book, k), mask)
+}
+
+// The same of a part. Most parts are leaves, and then `holds` is not called.
+fn part_holds(book: &[u8], k: usize, mask: usize) -> bool
+    requires { ⌜ IsNode (now book) k ⌝ }
+    ensures { λ r. ⌜ HoldsAt r (now (book .entry)) k mask ⌝ }
+{
+    if node::code(book, k) <= node::WANTED {
+        return leaf_holds(book, k, mask);
+    }
+    holds(book, k, mask)
 }
 
 // The ticks that node k has where it comes up with r and its cell is this: where it is pending
@@ -147,7 +168,7 @@ pub fn progress(book: &[u8], k: usize, r: Tick, mask: usize, d: Tick, cells: &mu
 {
     let code = node::code(book, k);
     if code <= node::WANTED {
-        return holds(book, k, mask);
+        return leaf_holds(book, k, mask);
     }
     let second = node::second(book, k);
     if code == node::ALWAYS {
@@ -159,7 +180,7 @@ pub fn progress(book: &[u8], k: usize, r: Tick, mask: usize, d: Tick, cells: &mu
     }
     let first = node::first(book, k);
     if code == node::UNTIL {
-        if holds(book, second, mask) {
+        if part_holds(book, second, mask) {
             return true;
         }
         if r.0 < d.0 {
@@ -181,12 +202,12 @@ pub fn progress(book: &[u8], k: usize, r: Tick, mask: usize, d: Tick, cells: &mu
         return progress(book, second, node::fresh(book, second), mask, d, cells);
     }
     if code == node::OR_FIRST_TIMED {
-        if holds(book, second, mask) {
+        if part_holds(book, second, mask) {
             return true;
         }
         return progress(book, first, node::fresh(book, first), mask, d, cells);
     }
-    if holds(book, first, mask) {
+    if part_holds(book, first, mask) {
         return true;
     }
     progress(book, second, node::fresh(book, second), mask, d, cells)
@@ -263,7 +284,19 @@ fn progress_nodes(
     true
 }
 
-// The formula of line i progresses if it is an `always` line.
+// Node k is an or whose first side is untimed and holds, so that nothing comes of it.
+fn passes(book: &[u8], k: usize, mask: usize) -> bool
+    requires { ⌜ IsNode (now book) k ⌝ }
+    ensures { λ b. ⌜ Passes b (now (book .entry)) k mask ⌝ }
+{
+    if node::code(book, k) != node::OR {
+        return false;
+    }
+    part_holds(book, node::first(book, k), mask)
+}
+
+// The formula of line i progresses if it is an `always` line. Most lines pass at most states, and then
+// `progress` is not called.
 fn progress_line(book: &[u8], i: usize, mask: usize, d: Tick, cells: &mut [u8]) -> bool
     requires { ⌜ IsLine (now book) i ⌝ }
     requires { ⌜ length (now cells) ≡ nodes-in (now book) ⌝ }
@@ -274,6 +307,9 @@ fn progress_line(book: &[u8], i: usize, mask: usize, d: Tick, cells: &mut [u8]) 
         return true;
     }
     let k = book[at + line::FORMULA] as usize;
+    if passes(book, k, mask) {
+        return true;
+    }
     progress(book, k, node::fresh(book, k), mask, d, cells)
 }
 

@@ -108,7 +108,7 @@ pub +and-level+bracketed+led+one-part+or-level+second-part+two-parts+unit+within
     close μ-and-level μ-bracketed μ-led μ-one-part μ-or-level μ-second-part μ-two-parts μ-unit μ-within
     (λ t. and-level-lts.spec (below unit-kinds.ps μ-unit unit.Pre t, unit.Post, behind-reads.Asked, behind-reads.Learnt, last-node-reads.Asked, last-node-reads.Learnt, is-timed-reads.Asked, is-timed-reads.Learnt, skip-reads.Asked, skip-reads.Learnt, and-node-reads.Asked, and-node-reads.Learnt) (here and-level-kinds.ps μ-and-level and-level.Pre t) and-level.Post
     (λ s at room area₀ next₀ area next. Joins by-and s at room next₀ area₀ next area) (λ s at room area₀ next₀ area next. length s - next)
-    (λ c κs. search needs) (λ c. search needs) (λ c. search (needs, first-bad by-and)) (λ c. search (needs, joins-start by-and)) (λ c κs. search needs) (λ c. search needs) (λ c. search needs) (λ c. search needs) (λ c. search (needs, joins-end by-and)) (λ c κs. search needs) (λ c κs. search needs) (λ c κs. search needs)
+    (λ c κs. search needs) (λ c. search needs) (λ c. search (needs, first-bad by-and)) (λ c. search (needs, joins-start by-and)) (λ c κs. search needs) (λ c. search needs) (λ c. search needs) (λ c. search needs) (λ c. joins-end by-and _ _ _ _ _ _ _ _ _ (c .before .before .before .before .before .before .before .unit .ensures) (c .before .before .before .before .if1 .left) (c .before .before .before .loop .inv) (c .before .before .behind .ensures) (c .enum-told .given .1)) (λ c κs. search needs) (λ c κs. search needs) (λ c κs. search needs)
     (λ c κs. (
       let found = c .before .before .before .before .before .before .before in
           less-joined by-and _ _ _ _ _ _ _ _ _ _ _ (c .before .skip .ensures) (found .behind2 .given .1) (found .before .before .behind .ensures) (found .before .before .before .loop .inv) (found .before .before .before .before .before .before .before .before .before .before .before .pre .0),
@@ -126,7 +126,7 @@ pub +and-level+bracketed+led+one-part+or-level+second-part+two-parts+unit+within
     (λ c κs. search one-part-ways) (λ c κs. search one-part-ways) (λ c. search one-part-ways) (λ c. search one-part-ways) (λ c κs. search one-part-ways) (λ c. search one-part-ways) (λ c. search one-part-ways))
     (λ t. or-level-lts.spec (below and-level-kinds.ps μ-and-level and-level.Pre t, and-level.Post, behind-reads.Asked, behind-reads.Learnt, last-node-reads.Asked, last-node-reads.Learnt, is-timed-reads.Asked, is-timed-reads.Learnt, skip-reads.Asked, skip-reads.Learnt, or-node-reads.Asked, or-node-reads.Learnt) (here or-level-kinds.ps μ-or-level or-level.Pre t) or-level.Post
     (λ s at room area₀ next₀ area next. Joins by-or s at room next₀ area₀ next area) (λ s at room area₀ next₀ area next. length s - next)
-    (λ c κs. search needs) (λ c. search needs) (λ c. search (needs, first-bad by-or)) (λ c. search (needs, joins-start by-or)) (λ c κs. search needs) (λ c. search needs) (λ c. search needs) (λ c. search needs) (λ c. search (needs, joins-end by-or)) (λ c κs. search needs) (λ c κs. search needs) (λ c κs. search needs)
+    (λ c κs. search needs) (λ c. search needs) (λ c. search (needs, first-bad by-or)) (λ c. search (needs, joins-start by-or)) (λ c κs. search needs) (λ c. search needs) (λ c. search needs) (λ c. search needs) (λ c. joins-end by-or _ _ _ _ _ _ _ _ _ (c .before .before .before .before .before .before .before .and-level .ensures) (c .before .before .before .before .if1 .left) (c .before .before .before .loop .inv) (c .before .before .behind .ensures) (c .enum-told .given .1)) (λ c κs. search needs) (λ c κs. search needs) (λ c κs. search needs)
     (λ c κs. (
       let found = c .before .before .before .before .before .before .before in
           less-joined by-or _ _ _ _ _ _ _ _ _ _ _ (c .before .skip .ensures) (found .behind2 .given .1) (found .before .before .behind .ensures) (found .before .before .before .loop .inv) (found .before .before .before .before .before .before .before .before .before .before .before .pre .0),

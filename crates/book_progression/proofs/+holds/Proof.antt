@@ -1,6 +1,6 @@
 -- `book_progression::holds` meets its contract, by the laws of Nodes and Holding.
-use Rattle.book_progression.proofs.Nodes.{first-below, second-below, mark-low}
-use Rattle.book_progression.proofs.Holding.{holds-constant, holds-mark, holds-timed, holds-and-not, holds-and, holds-or-first, holds-or}
+use Rattle.book_progression.proofs.Nodes.{first-below, second-below}
+use Rattle.book_progression.proofs.Holding.{holds-timed, holds-and-not, holds-and, holds-or-first, holds-or}
 use borrow.Author.Needs.{needs}
 use Prim.Native.Nat.{ℕ, _<_}
 use borrow.Fn.Kinds.{In}
@@ -8,10 +8,9 @@ use borrow.Fn.PlainCycle.{Measures, is, falls, and}
 use Rattle.book_progression.proofs.holds.Reads as holds
 use Rattle.book_progression.proofs.holds.Kinds as holds-kinds
 use Rattle.book_progression.proofs.+holds.Lts-holds as holds-lts
-use Rattle.book_progression.proofs.marked.Reads as marked-reads
+use Rattle.book_progression.proofs.leaf_holds.Reads as leaf-holds-reads
 use Rattle.book_progression.proofs.node.code.Reads as code-reads
 use Rattle.book_progression.proofs.node.first.Reads as first-reads
-use Rattle.book_progression.proofs.node.number.Reads as number-reads
 use Rattle.book_progression.proofs.node.second.Reads as second-reads
 use Rattle.book_progression.proofs.+holds.{statement}
 use Rattle.book_progression.proofs.+holds.Tie.{close}
@@ -26,20 +25,18 @@ abbrev holds-below : ℕ → In 1 holds-kinds.ps
 holds-below t = and 1 holds-kinds.ps (falls 1 holds-kinds.ps _<_ μ-holds t) holds.Pre
 
 pub +holds-spec : {M : Type 1} → statement M
-+holds-spec = close μ-holds λ t. holds-lts.spec (code-reads.Asked, code-reads.Learnt, number-reads.Asked, number-reads.Learnt, marked-reads.Asked, marked-reads.Learnt, first-reads.Asked, first-reads.Learnt, holds-below t, holds.Post, second-reads.Asked, second-reads.Learnt) (holds-at t) holds.Post
++holds-spec = close μ-holds λ t. holds-lts.spec (code-reads.Asked, code-reads.Learnt, leaf-holds-reads.Asked, leaf-holds-reads.Learnt, first-reads.Asked, first-reads.Learnt, holds-below t, holds.Post, second-reads.Asked, second-reads.Learnt) (holds-at t) holds.Post
     (λ c κs. search needs)
-    (λ c. search (needs, holds-constant))
     (λ c κs. search needs)
-    (λ c κs. search (needs, mark-low))
-    (λ c. search (needs, holds-mark))
+    (λ c. search needs)
     (λ c. search (needs, holds-timed))
     (λ c κs. search needs)
-    (λ c κs. first-below _ _ _ _ (c .first .ensures) (c .before .before .before .before .code .ensures) (search needs) (search needs) (search needs) t (search needs))
+    (λ c κs. first-below _ _ _ _ (c .first .ensures) (c .before .before .before .code .ensures) (search needs) (search needs) (search needs) t (search needs))
     (λ c. search (needs, holds-and-not))
     (λ c κs. search needs)
-    (λ c κs. second-below _ _ _ _ (c .second .ensures) (c .before .before .before .before .before .before .before .before .code .ensures) (search needs) (search needs) t (search needs))
+    (λ c κs. second-below _ _ _ _ (c .second .ensures) (c .before .before .before .before .before .before .before .code .ensures) (search needs) (search needs) t (search needs))
     (λ c. search (needs, holds-and))
     (λ c. search (needs, holds-or-first))
     (λ c κs. search needs)
-    (λ c κs. second-below _ _ _ _ (c .second2 .ensures) (c .before .before .before .before .before .before .before .before .code .ensures) (search needs) (search needs) t (search needs))
+    (λ c κs. second-below _ _ _ _ (c .second2 .ensures) (c .before .before .before .before .before .before .before .code .ensures) (search needs) (search needs) t (search needs))
     (λ c. search (needs, holds-or))

@@ -8,7 +8,8 @@ use borrow.Fn.PlainCycle.{Measures, is, falls, and}
 use Rattle.book_progression.proofs.progress.Reads as progress
 use Rattle.book_progression.proofs.progress.Kinds as progress-kinds
 use Rattle.book_progression.proofs.+progress.Lts-progress as progress-lts
-use Rattle.book_progression.proofs.holds.Reads as holds-reads
+use Rattle.book_progression.proofs.leaf_holds.Reads as leaf-holds-reads
+use Rattle.book_progression.proofs.part_holds.Reads as part-holds-reads
 use Rattle.book_progression.proofs.node.code.Reads as code-reads
 use Rattle.book_progression.proofs.node.first.Reads as first-reads
 use Rattle.book_progression.proofs.node.fresh.Reads as fresh-reads
@@ -29,7 +30,7 @@ progress-below t =
     and 2 progress-kinds.ps (falls 2 progress-kinds.ps _<_ μ-progress t) progress.Pre
 
 pub +progress-spec : {M : Type 1} → statement M
-+progress-spec = close μ-progress λ t. progress-lts.spec (code-reads.Asked, code-reads.Learnt, holds-reads.Asked, holds-reads.Learnt, second-reads.Asked, second-reads.Learnt, fresh-reads.Asked, fresh-reads.Learnt, progress-below t, progress.Post, stay-reads.Asked, stay-reads.Learnt, first-reads.Asked, first-reads.Learnt, progress-next-reads.Asked, progress-next-reads.Learnt) (progress-at t) progress.Post
++progress-spec = close μ-progress λ t. progress-lts.spec (code-reads.Asked, code-reads.Learnt, leaf-holds-reads.Asked, leaf-holds-reads.Learnt, second-reads.Asked, second-reads.Learnt, fresh-reads.Asked, fresh-reads.Learnt, progress-below t, progress.Post, stay-reads.Asked, stay-reads.Learnt, first-reads.Asked, first-reads.Learnt, part-holds-reads.Asked, part-holds-reads.Learnt, progress-next-reads.Asked, progress-next-reads.Learnt) (progress-at t) progress.Post
     (λ c κs. search needs) (λ c κs. search needs)
     (λ c. search (needs, progress-leaf))
     (λ c κs. search needs)
