@@ -50,9 +50,11 @@ fn entries(header: &str) -> impl Iterator<Item = &'static str> {
 }
 
 /// Copies the archive, with `before_NAME` for each entry, whatever its version, and no other name that
-/// can be seen.
+/// can be seen. Its functions begin at multiples of 64 bytes, as those of the other library then do
+/// (`benchmarks/run`): the same code takes the same time.
 fn rename(header: &str, archive: &Path, renamed: &Path) {
     let mut objcopy = Command::new("objcopy");
+    objcopy.arg("--set-section-alignment=.text.*=64");
     for entry in entries(header) {
         let define = format!("#define succoryvise_{entry} ");
         let line = header.lines().find_map(|line| line.strip_prefix(&define));

@@ -8,11 +8,14 @@ use mathlib.Core.Option.{Option, none, some, bind}
 use mathlib.Core.List.{List, [], _∷_}
 use mir.Syntax.{w8, w16, w64}
 use mir.Val.{Fits}
-use lib.ListN.{length, getD, set, length-set}
+use lib.ListN.{length, getD, set, length-set, List·getD-eq-default}
 use lib.Seq.{getD-set-same, getD-set-other}
 use native.Mathlib.Decide.{ℕ-discrete}
-use lib.Dec.{eqb}
+use lib.Dec.{eqb, leb}
+use borrow.Author.Tests.{leb-true, leb-false}
 use Rattle.base.specs.Lists.{only-if}
+use Rattle.base.specs.Bytes.{byte-at}
+use Rattle.base.proofs.Lists.{whether}
 use Rattle.logic.specs.Time.{ticks, plus, same-ticks, position, after}
 use Rattle.logic.specs.Tower.{Tower, FitTower, tower-of, layout-of, length-of}
 use Rattle.logic.specs.Tables.{row-at, move}
@@ -37,10 +40,11 @@ use Rattle.file_table.specs.declared.Target.{Target}
 use Rattle.file_table.specs.declared.Target.the-variants.{Row, Nothing}
 use Rattle.file_table.proofs.Laws.{header-of, laid-out-known, target-row, target-nothing}
 use Rattle.checker_rows.specs.RowVerdict.{RowsJudgeable}
-use Rattle.log_lines.specs.Lines.{line-told}
+use Rattle.log_lines.specs.Lines.{line-told, LineEnds}
 use Rattle.log_lines.specs.declared.LogLine.{LogLine}
 use Rattle.log_lines.specs.declared.LogLine.the-variants as Line
-use Rattle.log_course.specs.Following.{Noted, OnRow, PlaceFollowed, LineFollowed, LinesFollowed}
+use Rattle.log_lines.proofs.Laws.{no-line}
+use Rattle.log_course.specs.Following.{Noted, OnRow, PlaceFollowed, LineFollowed, NoEnd, LastEnd, LinesFollowed}
 
 -- ---- a move that is noted
 
@@ -208,13 +212,40 @@ module _ (tower table : List ℕ) (line : Position) (course : Course) (s : Strok
   unfolding next-course
   stays-wrong first here said e = record { answer = rw e; on-row = fails-on-row table first here said }
 
+-- ---- the end of the last line that is ended
+
+module _ (log : List ℕ) where
+  -- Past the log every byte is 0.
+  pub no-end-past : NoEnd (length log) log
+  no-end-past = record { none-behind = λ j over e. absurd (omega (arith, List·getD-eq-default log 0 {n = j} over)) }
+
+  module _ (end : ℕ) (none : NoEnd end log) where
+    pub no-end-before : (byte-at log (end - 1) ≡ 10 → ⊥) → NoEnd (end - 1) log
+    no-end-before other =
+        record {
+          none-behind = λ j over e. elim (ℕ-discrete (end - 1) j) [
+            | yes same ↦ other (ap (byte-at log) same ∙ e)
+            | no apart ↦ none .none-behind j (omega (arith, apart)) e
+          ];
+        }
+
+    pub end-found : end ≤ length log → byte-at log (end - 1) ≡ 10 → LastEnd end log
+    end-found inside e = record { inside = inside; behind = λ _. e; no-more = none }
+
+    pub end-none : end ≤ 0 → LastEnd end log
+    end-none least = record { inside = omega arith; behind = λ some-left. absurd (omega arith); no-more = none }
+
+  -- Before it byte 10 is ahead.
+  pub end-ahead : (end at : ℕ) → LastEnd end log → at < end → LineEnds log at
+  end-ahead end at last before =
+      record { last = end - 1; ahead = omega arith; inside = omega (arith, last .inside); ends = last .behind (omega arith) }
+
 -- ---- the lines of some bytes
 
 -- What is left from here on comes to the same as all.
 pub record LinesLeft (tower table log noted-first : List ℕ) (first : ℕ) (course : Course) (known : List ℕ) (at line : ℕ) (so-far : Course) : Type 0 where
   pub same-room : length known ≡ length noted-first
   pub noted : Noted table known
-  pub inside : at ≤ length log
   pub few : line ≤ first + at
   pub on-row : OnRow table so-far
   pub next : log-from log at .next ≡ log-from log 0 .next
@@ -236,7 +267,7 @@ told-none (some t) r e f = let z : _≡_ {A = ℕ} 0 1 = cc in absurd (omega ari
 module _ (tower table log noted-first : List ℕ) (first : ℕ) (course : Course) where
   pub lines-start : OnRow table course → Noted table noted-first → LinesLeft tower table log noted-first first course noted-first 0 first course
   lines-start on noted =
-      record { same-room = refl; noted = noted; inside = omega arith; few = omega arith; on-row = on; next = refl; count = refl; same = refl }
+      record { same-room = refl; noted = noted; few = omega arith; on-row = on; next = refl; count = refl; same = refl }
 
   module _ (known : List ℕ) (at line : ℕ) (so-far : Course) (left : LinesLeft tower table log noted-first first course known at line so-far) where
     pub row-there : OnRow table so-far
@@ -248,7 +279,7 @@ module _ (tower table log noted-first : List ℕ) (first : ℕ) (course : Course
     pub room-there : length known ≡ length noted-first
     room-there = left .same-room
 
-    module _ (inside : at < length log) (r : LogLine) (is-r : r ≡ line-told (stroke-at log at)) (s : Stroke) (q : ℕ) (read : r ≡ Line.Read s q) where
+    module _ (r : LogLine) (is-r : r ≡ line-told (stroke-at log at)) (s : Stroke) (q : ℕ) (read : r ≡ Line.Read s q) where
       abbrev line-there : stroke-at log at ≡ some (record { said = s; next = q })
       line-there = told-line (stroke-at log at) r s q is-r read
 
@@ -257,7 +288,7 @@ module _ (tower table log noted-first : List ℕ) (first : ℕ) (course : Course
           let (n, tick, small, (a, action, same)) = stroke-parts log at line-there in subst (λ (t : Token Stroke). t .said .tick .0 ≤ most-tick) same small
 
       pub line-fits-word : first + length log < 18446744073709551616 → Fits w64 (line + 1)
-      line-fits-word few = omega (arith, left .few)
+      line-fits-word few = let (far, in-log) = stroke-ahead log at _ line-there in omega (arith, left .few)
 
       pub at-falls : (n : ℕ) → n ≡ length log - at → length log - q < n
       at-falls n e = let (far, in-log) = stroke-ahead log at _ line-there in omega arith
@@ -267,11 +298,10 @@ module _ (tower table log noted-first : List ℕ) (first : ℕ) (course : Course
       unfolding course-along with-line after
       lines-more after-it known-now followed noted room =
           let (far, in-log) = stroke-ahead log at _ line-there in
-          let more : log-from log at ≡ with-line s (log-from log q) = log-line log at _ inside line-there in
+          let more : log-from log at ≡ with-line s (log-from log q) = log-line log at _ (omega arith) line-there in
           record {
             same-room = room ∙ left .same-room;
             noted = noted;
-            inside = in-log;
             few = omega (arith, left .few);
             on-row = followed .on-row;
             next = sym (ap (λ r. r .next) more) ∙ left .next;
@@ -279,14 +309,19 @@ module _ (tower table log noted-first : List ℕ) (first : ℕ) (course : Course
             same = rw (followed .answer, add-one line) (sym (ap (λ r. course-along (tower-of tower) (table-of table) (position line) so-far (r .strokes)) more) ∙ left .same);
           }
 
+-- Where no line is read nothing more is, in the log or past it.
+none-read : (log : List ℕ) (at : ℕ) → stroke-at log at ≡ none → log-from log at ≡ record { strokes = []; next = at }
+none-read log at e =
+    whether (leb (length log) at) (λ f. log-end log at (leb-true (length log) at f)) (λ f. log-bad log at (leb-false (length log) at f) e)
+
 -- The end: the first line's number is the one that was handed in.
 module _ (tower table log noted-first : List ℕ) (first : Position) (course : Course) (known : List ℕ) (at line : ℕ) (so-far : Course)
     (left : LinesLeft tower table log noted-first (first .0) course known at line so-far) where
-  -- where nothing more is read, this is what was to come
-  stopped : log-from log at ≡ record { strokes = []; next = at }
-      → LinesFollowed (record { next = at; line = position line; course = so-far }) tower table log first course
+  -- where no line is read, this is what was to come
+  stopped : stroke-at log at ≡ none → LinesFollowed (record { next = at; line = position line; course = so-far }) tower table log first course
   unfolding course-along
-  stopped e =
+  stopped bad =
+      let e = none-read log at bad in
       record {
         next = sym (ap (λ r. r .next) e) ∙ left .next;
         line = ap position (sym (omega (arith, ap (λ r. length (r .strokes)) e)) ∙ left .count);
@@ -294,9 +329,11 @@ module _ (tower table log noted-first : List ℕ) (first : Position) (course : C
         on-row = left .on-row;
       }
 
-  pub lines-end : length log ≤ at → LinesFollowed (record { next = at; line = position line; course = so-far }) tower table log first course
-  lines-end over = stopped (log-end log at over)
-
-  pub lines-stop : at < length log → (r : LogLine) → r ≡ line-told (stroke-at log at) → r ≡ Line.Malformed
+  -- Behind the last byte 10 there is no line.
+  pub lines-end : (end : ℕ) → LastEnd end log → end ≤ at
       → LinesFollowed (record { next = at; line = position line; course = so-far }) tower table log first course
-  lines-stop inside r is-r e = stopped (log-bad log at inside (told-none (stroke-at log at) r is-r e))
+  lines-end end last over = stopped (no-line log at (λ j le. last .no-more .none-behind j (omega arith)))
+
+  pub lines-stop : (r : LogLine) → r ≡ line-told (stroke-at log at) → r ≡ Line.Malformed
+      → LinesFollowed (record { next = at; line = position line; course = so-far }) tower table log first course
+  lines-stop r is-r e = stopped (told-none (stroke-at log at) r is-r e)

@@ -1,9 +1,10 @@
--- What the functions that follow a log promise: one line, and the lines of some bytes.
-use Prim.Native.Nat.{ℕ, suc, _+_, _*_, _<_}
+-- What the functions that follow a log promise: one line, where the last line ends, and the lines of some bytes.
+use Prim.Native.Nat.{ℕ, suc, _+_, _-_, _*_, _≤_, _<_}
 use mathlib.Core.Path.{_≡_}
 use mathlib.Core.Option.{some}
 use mathlib.Core.List.{List}
 use lib.ListN.{length, getD}
+use Rattle.base.specs.Bytes.{byte-at}
 use Rattle.logic.specs.Time.{position}
 use Rattle.logic.specs.Tower.{tower-of}
 use Rattle.logic.specs.Tables.{move}
@@ -36,6 +37,16 @@ pub record PlaceFollowed (r : Course) (tower table : List ℕ) (line : Position)
 pub record LineFollowed (r : Course) (tower table : List ℕ) (line : Position) (course : Course) (s : Stroke) : Type 0 where
   pub answer : r ≡ next-course (tower-of tower) (table-of table) line course s
   pub on-row : OnRow table r
+
+-- No byte 10 stands at p or behind it.
+pub record NoEnd (p : ℕ) (log : List ℕ) : Type 0 where
+  pub none-behind : (j : ℕ) → p ≤ j → byte-at log j ≡ 10 → ⊥
+
+-- The end of the last line that is ended: the position behind the last byte 10, or 0 where there is none.
+pub record LastEnd (end : ℕ) (log : List ℕ) : Type 0 where
+  pub inside : end ≤ length log
+  pub behind : 1 ≤ end → byte-at log (end - 1) ≡ 10
+  pub no-more : NoEnd end log
 
 -- The lines of these bytes, the first with this number.
 pub record LinesFollowed (r : Followed) (tower table log : List ℕ) (first : Position) (course : Course) : Type 0 where

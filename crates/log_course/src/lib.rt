@@ -9,7 +9,7 @@ ghost use Rattle.checker_rows.specs.RowVerdict.{RowsJudgeable};
 ghost use Rattle.reading.specs.TableReading.{rows-of, laid-out, table-of};
 ghost use Rattle.logic.specs.Tables.{move};
 ghost use Rattle.file_table.specs.Moves.{target-read};
-ghost use Rattle.log_course.specs.Following.{Noted, OnRow, PlaceFollowed, LineFollowed, LinesFollowed};
+ghost use Rattle.log_course.specs.Following.{Noted, OnRow, PlaceFollowed, LineFollowed, LastEnd, LinesFollowed};
 use file_table::Target;
 use log_lines::LogLine;
 use logic::Position;
@@ -149,6 +149,21 @@ fn follow_line(
     }
 }
 
+// The end of the last line that is ended: the position behind the last byte 10, or 0. Before it byte 10 is
+// ahead, so that reading a line stops inside the log; behind it there is no line.
+fn last_end(log: &[u8]) -> usize
+    ensures { λ r. ⌜ LastEnd r (now (log .entry)) ⌝ }
+{
+    let mut end = log.len();
+    while 0 < end {
+        if log[end - 1] == b'\n' {
+            return end;
+        }
+        end -= 1;
+    }
+    end
+}
+
 // The lines of a log, of which these bytes may be a part, from the line with this number on: to the end
 // of the bytes, or to the first line that is not of the form.
 pub fn follow_lines(
@@ -166,10 +181,11 @@ pub fn follow_lines(
     ensures { λ r. ⌜ LinesFollowed r (now (tower .entry)) (now (table .entry)) (now (log .entry)) first course ⌝ }
     ensures { λ _. ⌜ Noted (now (table .entry)) (now (known .exit)) ⌝ }
 {
+    let end = last_end(log);
     let mut at = 0;
     let mut line = first.0;
     let mut so_far = course;
-    while at < log.len() {
+    while at < end {
         let LogLine::Read { stroke, next } = log_lines::next_line(log, at) else {
             return Followed {
                 next: at,

@@ -1,6 +1,7 @@
 -- A law for each way through the reader of lines: from what is known there, the answer is what the definitions say.
 use Prim.Native.Nat.{ℕ, _+_, _≤_, _<_, _^_}
 use native.Mathlib.Omega.{arith}
+use native.Mathlib.Decide.{decLt}
 use mathlib.Core.Path.{_≡_, refl, sym, _∙_, ap}
 use mathlib.Core.Bool.{true, false}
 use mathlib.Core.Option.{Option, none, some, bind}
@@ -13,14 +14,26 @@ use borrow.Author.Tests.{eq-eqb, ne-eqb, le-leb, lt-leb}
 use Rattle.base.specs.Lists.{only-if}
 use Rattle.base.specs.Bytes.{byte-at}
 use Rattle.logic.specs.Time.{ticks}
-use Rattle.reading.specs.Tokens.{stands, Token, numeral}
+use Rattle.reading.specs.Tokens.{stands, is-digit, Token, numeral}
 use Rattle.reading.specs.LogReading.{field-at, stroke-at}
-use Rattle.text_numerals.specs.Numerals.{numeral-told}
+use Rattle.reading.proofs.LogReading.{field-parts}
+use Rattle.text_numerals.specs.Numerals.{numeral-told, Stops}
 use Rattle.text_numerals.specs.declared.Number.{Number}
 use Rattle.text_numerals.specs.declared.Number.the-variants as N
-use Rattle.text_numerals.proofs.Laws.{byte-inside, numeral-missing, numeral-read}
-use Rattle.log_lines.specs.Lines.{line-told}
+use Rattle.text_numerals.proofs.Laws.{numeral-before, numeral-missing, numeral-read}
+use Rattle.log_lines.specs.Lines.{line-told, LineEnds}
 use Rattle.log_lines.specs.declared.LogLine.the-variants.{Malformed, Read}
+use Rattle.log_lines.proofs.Laws.{stands-there}
+
+-- ---- where byte 10 is ahead
+
+-- It is no digit.
+no-digit : (s : List ℕ) (p : ℕ) → byte-at s p ≡ 10 → is-digit (byte-at s p) ≡ false
+unfolding is-digit
+no-digit s p e = rw e
+
+pub ends-stops : (s : List ℕ) (at : ℕ) → LineEnds s at → Stops s at
+ends-stops s at h = record { last = h .last; ahead = h .ahead; inside = h .inside; no-digit = no-digit s (h .last) (h .ends) }
 
 -- ---- a field
 
@@ -29,20 +42,46 @@ module _ (most b : ℕ) (s : List ℕ) (at : ℕ) (n : Number) (is-n : n ≡ num
   unfolding field-at bind numeral-told
   field-missing e = rw (numeral-missing (numeral most s at) n is-n e)
 
-  module _ (v q c : ℕ) (read : n ≡ N.Read v q) (at-c : c ≡ byte-at s q) where
-    pub field-other : (c ≡ b → ⊥) → N.Missing ≡ numeral-told (field-at most b s at)
+  module _ (v q : ℕ) (read : n ≡ N.Read v q) where
+    pub field-other : (byte-at s q ≡ b → ⊥) → N.Missing ≡ numeral-told (field-at most b s at)
     unfolding field-at bind numeral-told stands
-    field-other ne = rw (numeral-read (numeral most s at) n v q is-n read, ← at-c, ne-eqb c b ne)
+    field-other ne = rw (numeral-read (numeral most s at) n v q is-n read, ne-eqb (byte-at s q) b ne)
 
-    pub field-read : c ≡ b → N.Read v (q + 1) ≡ numeral-told (field-at most b s at)
+    pub field-read : byte-at s q ≡ b → N.Read v (q + 1) ≡ numeral-told (field-at most b s at)
     unfolding field-at bind numeral-told stands
-    field-read e = rw (numeral-read (numeral most s at) n v q is-n read, ← at-c, eq-eqb c b e)
+    field-read e = rw (numeral-read (numeral most s at) n v q is-n read, eq-eqb (byte-at s q) b e)
 
--- The byte behind a number stands in the text, so that the position after it fits.
-pub behind-fits : (s : List ℕ) (q b c : ℕ) → c ≡ byte-at s q → c ≡ b → 1 ≤ b → length s < 2 ^ 64 → Fits w64 (q + 1)
-behind-fits s q b c e f one small = omega (arith, byte-inside s q (omega arith))
+-- Behind a number byte 10 is still ahead, so that a byte stands there and the position after it fits.
+module _ (s : List ℕ) (at : ℕ) (h : LineEnds s at) (most : ℕ) (n : Number) (is-n : n ≡ numeral-told (numeral most s at)) (v q : ℕ)
+    (read : n ≡ N.Read v q) where
+  ends-at : q ≤ h .last
+  ends-at = numeral-before most s at (h .last) (h .ahead) (no-digit s (h .last) (h .ends)) (numeral-read (numeral most s at) n v q is-n read)
+
+  pub byte-there : q < length s
+  byte-there = omega (arith, ends-at)
+
+  pub behind-fits : length s < 2 ^ 64 → Fits w64 (q + 1)
+  behind-fits small = omega (arith, ends-at)
 
 -- ---- a line
+
+-- Behind a tick and its space byte 10 is still ahead.
+pub ends-behind : (s : List ℕ) (at : ℕ) → LineEnds s at → (f : Number) (t q : ℕ) → f ≡ numeral-told (field-at 10 32 s at) → f ≡ N.Read t q → LineEnds s q
+ends-behind s at h f t q is-f read =
+    let (n, number, there, same) = field-parts 10 32 s at (numeral-read (field-at 10 32 s at) f t q is-f read) in
+    record {
+      last = h .last;
+      ahead = past (n .next) (numeral-before 10 s at (h .last) (h .ahead) (no-digit s (h .last) (h .ends)) number) (stands-there s (n .next) 32 there)
+          (ap (λ t. t .next) same);
+      inside = h .inside;
+      ends = h .ends;
+    }
+  where
+    past : (e : ℕ) → e ≤ h .last → byte-at s e ≡ 32 → e + 1 ≡ q → q ≤ h .last
+    past e le space f = elim (decLt e (h .last)) [
+      | yes l ↦ omega arith
+      | no l ↦ let here : e ≡ h .last = omega arith in absurd (omega (arith, ap (byte-at s) here, h .ends))
+    ]
 
 module _ (s : List ℕ) (at : ℕ) (f : Number) (is-f : f ≡ numeral-told (field-at 10 32 s at)) where
   pub tick-missing : f ≡ N.Missing → Malformed ≡ line-told (stroke-at s at)

@@ -1,18 +1,15 @@
 // The lines of a log (02, item 2): one line, read at a position, and the reader that holds the log it
 // was lent and how far it has come.
 ghost use mathlib.Core.Path.{_≡_};
-ghost use Prim.Native.Nat.{_≤_};
 ghost use Rattle.reading.specs.LogReading.{field-at, stroke-at};
 ghost use Rattle.text_numerals.specs.Numerals.{numeral-told};
-ghost use Rattle.log_lines.specs.Lines.{line-told};
+ghost use Rattle.log_lines.specs.Lines.{line-told, LineEnds};
 use logic::Tick;
 use reading::Stroke;
 use text_numerals::Number;
 
-// The most digits of a tick and of an action, and the largest tick.
+// The most digits of a tick, and the largest tick.
 const TICK_DIGITS: usize = 10;
-
-const ACTION_DIGITS: usize = 2;
 
 const MOST_TICK: usize = 4294967295;
 
@@ -22,16 +19,32 @@ pub enum LogLine {
     Read { stroke: Stroke, next: usize },
 }
 
-// A number of up to so many digits, and this byte behind it.
-fn field(log: &[u8], at: usize, most: usize, behind: u8) -> Number
-    requires { ⌜ (1 ≤ most) × (most ≤ 10) ⌝ }
-    requires { ⌜ 1 ≤ behind ⌝ }
-    ensures { λ r. ⌜ r ≡ numeral-told (field-at most behind (now (log .entry)) at) ⌝ }
+// The tick at a position, and the space behind it.
+fn tick_at(log: &[u8], at: usize) -> Number
+    requires { ⌜ LineEnds (now log) at ⌝ }
+    ensures { λ r. ⌜ r ≡ numeral-told (field-at 10 32 (now (log .entry)) at) ⌝ }
 {
-    let Number::Read { said, next } = text_numerals::numeral(log, at, most) else {
+    let Number::Read { said, next } = text_numerals::numeral_inside(log, at, TICK_DIGITS) else {
         return Number::Missing;
     };
-    if text_numerals::byte_at(log, next) != behind {
+    if log[next] != b' ' {
+        return Number::Missing;
+    }
+    Number::Read {
+        said,
+        next: next + 1,
+    }
+}
+
+// The action at a position, and byte 10 behind it.
+fn action_at(log: &[u8], at: usize) -> Number
+    requires { ⌜ LineEnds (now log) at ⌝ }
+    ensures { λ r. ⌜ r ≡ numeral-told (field-at 2 10 (now (log .entry)) at) ⌝ }
+{
+    let Number::Read { said, next } = text_numerals::short_numeral(log, at) else {
+        return Number::Missing;
+    };
+    if log[next] != b'\n' {
         return Number::Missing;
     }
     Number::Read {
@@ -42,9 +55,10 @@ fn field(log: &[u8], at: usize, most: usize, behind: u8) -> Number
 
 // The line at a position: a tick, a space, an action, and byte 10.
 pub fn line_at(log: &[u8], at: usize) -> LogLine
+    requires { ⌜ LineEnds (now log) at ⌝ }
     ensures { λ r. ⌜ r ≡ line-told (stroke-at (now (log .entry)) at) ⌝ }
 {
-    let Number::Read { said: tick, next } = field(log, at, TICK_DIGITS, b' ') else {
+    let Number::Read { said: tick, next } = tick_at(log, at) else {
         return LogLine::Malformed;
     };
     if MOST_TICK < tick {
@@ -53,7 +67,7 @@ pub fn line_at(log: &[u8], at: usize) -> LogLine
     let Number::Read {
         said: action,
         next: end,
-    } = field(log, next, ACTION_DIGITS, b'\n')
+    } = action_at(log, next)
     else {
         return LogLine::Malformed;
     };
@@ -81,6 +95,7 @@ pub fn resumed<'a>(log: &'a [u8], at: usize) -> LogReader<'a>
 
 // The line that the reader has come to.
 pub fn line<'a>(reader: LogReader<'a>) -> LogLine
+    requires { ⌜ LineEnds (now (reader .log)) (reader .at) ⌝ }
     ensures { λ r. ⌜ r ≡ line-told (stroke-at (now (reader .entry .log)) (reader .entry .at)) ⌝ }
 {
     line_at(reader.log, reader.at)
@@ -98,6 +113,7 @@ pub fn behind<'a>(reader: LogReader<'a>, next: usize) -> LogReader<'a>
 
 // The line at a position, by a reader that has come so far. A caller with a plain slice has no reader to hold.
 pub fn next_line(log: &[u8], at: usize) -> LogLine
+    requires { ⌜ LineEnds (now log) at ⌝ }
     ensures { λ l. ⌜ l ≡ line-told (stroke-at (now (log .entry)) at) ⌝ }
 {
     line(resumed(log, at))

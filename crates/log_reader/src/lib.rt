@@ -1,7 +1,6 @@
 // The log reader (02, item 2): a log held against a table, in the order tower, 13, 14 a to d, 19; then
 // the first line that does not fit, or the final row. It borrows no area and writes nothing.
 ghost use mathlib.Core.Path.{_≡_};
-ghost use Rattle.base.specs.Answers.{give};
 ghost use Rattle.logic.specs.Tower.{tower-of};
 ghost use Rattle.reading.specs.TableReading.{table-of};
 ghost use Rattle.outcome.specs.Check.{good-table};

@@ -1,21 +1,23 @@
 -- The laws of the reader of numbers: one for each way through the code, and what its answers say.
 use Prim.Native.Nat.{ℕ, zero, suc, _+_, _-_, _*_, _^_, _≤_, _<_}
 use native.Mathlib.Omega.{arith}
-use native.Mathlib.Nat.{pow-suc, pow-le-pow-right}
+use native.Mathlib.Nat.{add-zero, pow-suc, pow-le-pow-right}
 use native.Mathlib.Numerals.{add-one}
+use native.Mathlib.Decide.{decLt}
 use mathlib.Core.Path.{_≡_, refl, sym, _∙_, ap}
 use mathlib.Core.Bool.{Bool, true, false, not}
 use mathlib.Core.Option.{Option, none, some}
-use mathlib.Core.List.{List}
+use mathlib.Core.List.{List, [], _∷_}
 use mir.Syntax.{w8, w64}
 use mir.Val.{Fits}
 use lib.ListN.{length, getD, List·getD-eq-default}
 use lib.Dec.{leb, ltb}
 use borrow.Author.Tests.{ltb-true, ltb-false, leb-true, le-leb, lt-leb, not-true, not-false}
 use Rattle.base.specs.Bytes.{byte-at}
-use Rattle.base.proofs.Lists.{and-left}
+use Rattle.base.proofs.Lists.{and-left, whether}
 use Rattle.reading.specs.Tokens.{is-digit, digits, value, Token, numeral}
-use Rattle.text_numerals.specs.Numerals.{numeral-told, spelled, Spelling}
+use Rattle.reading.proofs.LogReading.{picked}
+use Rattle.text_numerals.specs.Numerals.{numeral-told, spelled, Stops, Spelling}
 use Rattle.text_numerals.specs.declared.Number.{Number}
 use Rattle.text_numerals.specs.declared.Number.the-variants.{Missing, Read}
 
@@ -46,6 +48,10 @@ digit-above b le = rw (le-leb 48 b le)
 pub digit-low : (b : ℕ) → is-digit b ≡ true → 48 ≤ b
 unfolding is-digit
 digit-low b e = leb-true 48 b (and-left (leb 48 b) (leb b 57) e)
+
+-- The byte that was read is a digit.
+is-one : (s : List ℕ) (p b : ℕ) (d : Bool) → b ≡ byte-at s p → d ≡ is-digit b → not d ≡ false → is-digit (byte-at s p) ≡ true
+is-one s p b d e f g = sym (ap is-digit e) ∙ sym f ∙ not-false d g
 
 pub spelled-none : (n said next : ℕ) → n ≡ 0 → Missing ≡ spelled n said next
 unfolding spelled
@@ -94,12 +100,11 @@ value-more s at n said next b f g e = rw (f, e, g)
 pub spelling-more : (s : List ℕ) (at most n said next b : ℕ) (d : Bool) → Spelling s at most n said next → n < most → b ≡ byte-at s next
     → d ≡ is-digit b → not d ≡ false → Spelling s at most (n + 1) (10 * said + (b - 48)) (next + 1)
 spelling-more s at most n said next b d h lt e f g =
-    let digit : is-digit (byte-at s next) ≡ true = sym (ap is-digit e) ∙ sym f ∙ not-false d g in
     record {
       few = omega arith;
       here = omega arith;
       told = rw (add-one n) (value-more s at n said next b (h .told) (h .here) e);
-      rest = h .rest ∙ rest-more digit;
+      rest = h .rest ∙ rest-more (is-one s next b d e f g);
     }
   where
     rest-more : is-digit (byte-at s next) ≡ true → n + digits (most - n) s next ≡ n + 1 + digits (most - (n + 1)) s (next + 1)
@@ -159,6 +164,108 @@ digit-inside s next b d e f g l =
 
 pub digit-from : (b : ℕ) (d : Bool) → d ≡ is-digit b → not d ≡ false → 48 ≤ b
 digit-from b d f g = digit-low b (sym f ∙ not-false d g)
+
+pub digit-cast : (s : List ℕ) (next : ℕ) → ((j : ℕ) → Fits w8 (getD s j 0)) → Fits w64 (byte-at s next - 48)
+digit-cast s next h = omega (arith, h next)
+
+-- ---- where a byte that is no digit is ahead
+
+-- A digit stands before it,
+digit-before : (s : List ℕ) (p last : ℕ) → p ≤ last → is-digit (byte-at s last) ≡ false → is-digit (byte-at s p) ≡ true → p < last
+digit-before s p last le e f = elim (decLt p last) [
+  | yes l ↦ l
+  | no l ↦
+      let same : p ≡ last = omega arith in
+      let here : is-digit (byte-at s last) ≡ true = rw (← same) f in
+      let z : _≡_ {A = ℕ} 0 1 = cc in
+      absurd (omega arith)
+]
+
+-- so that behind a digit it is still ahead.
+pub stops-behind : (s : List ℕ) (p b : ℕ) (d : Bool) → Stops s p → b ≡ byte-at s p → d ≡ is-digit b → not d ≡ false → Stops s (p + 1)
+stops-behind s p b d h e f g =
+    record {
+      last = h .last;
+      ahead = omega (arith, digit-before s p (h .last) (h .ahead) (h .no-digit) (is-one s p b d e f g));
+      inside = h .inside;
+      no-digit = h .no-digit;
+    }
+
+pub stops-there : (s : List ℕ) (p : ℕ) → Stops s p → p < length s
+stops-there s p h = omega arith
+
+-- Digits end there or before,
+digits-before : (n : ℕ) (s : List ℕ) (p last : ℕ) → p ≤ last → is-digit (byte-at s last) ≡ false → p + digits n s p ≤ last
+unfolding digits
+digits-before zero s p last le e = omega arith
+digits-before (suc n) s p last le e =
+    whether (is-digit (byte-at s p))
+    (λ f. let far = digit-before s p last le e f in let rest = digits-before n s (p + 1) last (omega arith) e in rw f (omega arith))
+    (λ f. rw f (omega arith))
+
+-- and so does a number.
+pub numeral-before : (most : ℕ) (s : List ℕ) (p last : ℕ) {n : Token ℕ} → p ≤ last → is-digit (byte-at s last) ≡ false → numeral most s p ≡ some n
+    → n .next ≤ last
+unfolding numeral
+numeral-before most s p last le e f =
+    let (there, same) = picked (is-digit (byte-at s p)) _ f in omega (arith, ap (λ t. t .next) same, digits-before most s p last le e)
+
+-- ---- one digit or two
+
+pub count-one : (b : ℕ) (d : Bool) → d ≡ is-digit b → d ≡ true → 1 ≡ digits 1 (b ∷ []) 0
+unfolding digits
+count-one b d e f = rw (← e, f)
+
+pub count-none : (b : ℕ) (d : Bool) → d ≡ is-digit b → d ≡ false → 0 ≡ digits 1 (b ∷ []) 0
+unfolding digits
+count-none b d e f = rw (← e, f)
+
+digits-few : (n : ℕ) (s : List ℕ) (p : ℕ) → digits n s p ≤ n
+unfolding digits
+digits-few zero s p = omega arith
+digits-few (suc n) s p = whether (is-digit (byte-at s p)) (λ e. rw e (omega (arith, digits-few n s (p + 1)))) (λ e. rw e (omega arith))
+
+module _ (b more : ℕ) (count : more ≡ digits 1 (b ∷ []) 0) where
+  one-at-most : more ≤ 1
+  one-at-most = omega (arith, digits-few 1 (b ∷ []) 0)
+
+  pub second-digit : more ≡ 1 → 48 ≤ b
+  second-digit e = digit-low b (digits-some (b ∷ []) 0 1 0 (sym count ∙ e))
+
+  pub two-spelled : (a : ℕ) → more ≡ 1 → 10 * (a - 48) + (b - 48) ≡ value (suc more) (a ∷ b ∷ []) 0
+  unfolding value
+  two-spelled a e = rw e (omega arith)
+
+  pub one-spelled : (a : ℕ) → (more ≡ 1 → ⊥) → a - 48 ≡ value (suc more) (a ∷ b ∷ []) 0
+  unfolding value
+  one-spelled a ne = let z : more ≡ 0 = omega (arith, one-at-most) in rw z (omega arith)
+
+  pub short-fits : (s : List ℕ) (at : ℕ) → at + 1 < length s → length s < 18446744073709551616 → Fits w64 (at + 1 + more)
+  short-fits s at there small = omega (arith, one-at-most)
+
+module _ (s : List ℕ) (at a : ℕ) (d : Bool) (first : a ≡ byte-at s at) (is-d : d ≡ is-digit a) where
+  pub short-missing : not d ≡ true → Missing ≡ numeral-told (numeral 2 s at)
+  unfolding numeral numeral-told
+  short-missing e = rw (← first, ← is-d, not-true d e)
+
+  module _ (digit : not d ≡ false) (b more : ℕ) (second : b ≡ byte-at s (at + 1)) (count : more ≡ digits 1 (b ∷ []) 0) where
+    -- so many digits stand there,
+    how-many : digits 2 s at ≡ suc more
+    unfolding digits
+    how-many = rw (is-one s at a d first is-d digit, ← second, count)
+
+    -- and they spell what the two bytes do
+    same-value : (n : ℕ) → n ≤ 1 → value (suc n) (a ∷ b ∷ []) 0 ≡ value (suc n) s at
+    unfolding value
+    same-value zero le = rw (first, add-zero at)
+    same-value (suc zero) le = rw (first, second, add-zero at)
+    same-value (suc (suc n)) le = absurd (omega arith)
+
+    pub short-read : (said : ℕ) → said ≡ value (suc more) (a ∷ b ∷ []) 0 → Read said (at + 1 + more) ≡ numeral-told (numeral 2 s at)
+    unfolding numeral numeral-told
+    short-read said e =
+        let far : at + 1 + more ≡ at + suc more = omega arith in
+        rw (is-one s at a d first is-d digit, how-many, e, same-value more (one-at-most b more count), far)
 
 -- ---- answers
 

@@ -1,9 +1,12 @@
--- What the reader of numbers answers: the definition of reading/specs/Tokens.antt, as a value of the code's type.
-use Prim.Native.Nat.{ℕ, zero, suc, _+_, _-_, _≤_}
+-- What the reader of numbers answers: the definition of reading/specs/Tokens.antt, as a value of the code's type; and what it asks for.
+use Prim.Native.Nat.{ℕ, zero, suc, _+_, _-_, _≤_, _<_}
 use mathlib.Core.Path.{_≡_}
+use mathlib.Core.Bool.{false}
 use mathlib.Core.Option.{Option, none, some}
 use mathlib.Core.List.{List}
-use Rattle.reading.specs.Tokens.{Token, digits, value}
+use lib.ListN.{length}
+use Rattle.base.specs.Bytes.{byte-at}
+use Rattle.reading.specs.Tokens.{Token, is-digit, digits, value}
 use Rattle.text_numerals.specs.declared.Number.{Number}
 use Rattle.text_numerals.specs.declared.Number.the-variants.{Missing, Read}
 
@@ -15,6 +18,13 @@ numeral-told (some t) = Read (t .said) (t .next)
 unfoldable pub spelled : ℕ → ℕ → ℕ → Number
 spelled zero said next = Missing
 spelled (suc n) said next = Read said next
+
+-- A byte that is no digit stands at p or behind it, so that a number at p ends before the text does.
+pub record Stops (s : List ℕ) (p : ℕ) : Type 0 where
+  pub last : ℕ
+  pub ahead : p ≤ last
+  pub inside : last < length s
+  pub no-digit : is-digit (byte-at s last) ≡ false
 
 -- The digits of a number as far as they were read: n of at most so many, from p on.
 pub record Spelling (s : List ℕ) (p most n said next : ℕ) : Type 0 where

@@ -1,10 +1,10 @@
 -- `log_lines::line_at` meets its contract.
 use borrow.Author.Needs.{needs}
-use Rattle.log_lines.proofs.Ways.{tick-missing, tick-over, action-missing, line-read}
+use Rattle.log_lines.proofs.Ways.{ends-behind, tick-missing, tick-over, action-missing, line-read}
 use Rattle.log_lines.proofs.line_at.Statement.{statement}
 use Rattle.log_lines.proofs.line_at.Tie as tie
 
-ruleset all = (needs, tick-missing, tick-over, action-missing, line-read)
+ruleset all = (needs, ends-behind, tick-missing, tick-over, action-missing, line-read)
 
 pub line-at-spec : {M : Type 1} → statement M
 line-at-spec =
