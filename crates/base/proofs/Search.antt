@@ -12,7 +12,7 @@ use borrow.Author.Tests.{ltb-true}
 use Rattle.base.specs.Choice.{pick}
 use Rattle.base.specs.Lists.{some-of, place-of, total, Distinct}
 use Rattle.base.specs.Search.{Apart, new-ones, search-on, search-from, once}
-use Rattle.base.proofs.Lists.{never-both, false-by, or-fails-left, or-fails-right, or-neither, some-none, some-append, none-of, mem-getD, mem-index, mem-along, place-of-append-left, place-of-append-right, place-of-some, place-of-at, place-of-found, place-of-first, IsSame, decides-same}
+use Rattle.base.proofs.Lists.{never-both, false-by, or-fails-left, or-fails-right, or-neither, some-none, some-append, none-of, mem-getD, mem-index, mem-along, place-of-append-left, place-of-append-right, place-of-some, place-of-at, IsSame, decides-same}
 
 -- ---- What is said of a search
 

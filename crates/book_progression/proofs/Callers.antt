@@ -7,12 +7,12 @@ use mathlib.Core.List.{List, List·Memᴰ}
 use borrow.Author.Tests.{leb-false, lt-leb}
 use Rattle.base.specs.Answers.{give}
 use Rattle.base.proofs.Lists.{or-fails-left, or-fails-right, or-neither}
-use Rattle.logic.specs.Tower.{tower-of, mask-of, most-marks}
+use Rattle.logic.specs.Tower.{most-marks}
 use Rattle.logic.specs.Book.{Formula, constant, proposition, and, or, next, always-for, until, Rule, Book}
 use Rattle.reading.specs.BookArea.{HoldsBook}
 use Rattle.reading.specs.BookReading.{over-mark, read-book}
 use Rattle.reading.proofs.BookLines.{each-rule, book-fit}
-use Rattle.book_progression.specs.NodeBytes.{HeldBook, MarkedState}
+use Rattle.book_progression.specs.NodeBytes.{HeldBook}
 use Rattle.book_progression.proofs.BookHeld.{Low}
 
 -- ---- a book that was read
@@ -51,10 +51,3 @@ held-read marks text area book few e holds =
       numbers = λ rule m. book-low marks few text book e rule m .numbers;
       marks = λ rule m. book-low marks few text book e rule m .marks;
     }
-
--- ---- a state of a tower file
-
--- A state's marks are the bits of its mask.
-unfoldable pub mask-marks : (tower : List ℕ) (x : ℕ) → MarkedState (mask-of tower x)
-unfolding tower-of
-mask-marks tower x = record { tower = tower-of tower; state = x; marks = λ k. refl }

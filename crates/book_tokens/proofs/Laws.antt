@@ -1,22 +1,20 @@
 -- The laws of the token readers: one for each way through the code, and where tokens end.
-use Prim.Native.Nat.{ℕ, zero, suc, _+_, _-_, _*_, _≤_, _<_}
+use Prim.Native.Nat.{ℕ, zero, suc, _+_, _-_, _≤_, _<_}
 use native.Mathlib.Omega.{arith}
 use native.Mathlib.Numerals.{add-one}
 use native.Mathlib.Nat.{add-zero}
 use mathlib.Core.Path.{_≡_, refl, sym, _∙_, ap}
-use mathlib.Core.Bool.{Bool, true, false, not}
+use mathlib.Core.Bool.{Bool, true, false}
 use mathlib.Core.Option.{Option, none, some}
 use mathlib.Core.List.{List, [], _∷_, map}
-use mir.Syntax.{w8, w64}
-use mir.Val.{Fits}
-use lib.ListN.{length, getD, drop, length-drop, List·getD-eq-default}
+use lib.ListN.{length, getD, drop, length-drop}
 use lib.Seq.{drop-cons}
-use lib.Dec.{eqb, leb, ltb}
-use borrow.Author.Tests.{ltb-true, ltb-false, leb-true, le-leb, lt-leb, eq-eqb, ne-eqb, not-true, not-false}
+use lib.Dec.{eqb}
+use borrow.Author.Tests.{eq-eqb, ne-eqb}
 use Rattle.base.specs.Choice.{pick}
 use Rattle.base.specs.Lists.{leading}
 use Rattle.base.specs.Bytes.{byte-at}
-use Rattle.base.proofs.Lists.{and-left, leading-le}
+use Rattle.base.proofs.Lists.{leading-le}
 use Rattle.logic.specs.Book.{no-more, less, no-less, more}
 use Rattle.logic.specs.Book as Logic
 use Rattle.reading.specs.Tokens.{stands, skip, Token, numeral, number-token, with-equals, comparison-token}

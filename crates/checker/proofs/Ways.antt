@@ -16,7 +16,6 @@ use Rattle.base.proofs.Lists.{and-left, and-right}
 use Rattle.logic.specs.Tower.{Tower, FitTower, tower-of}
 use Rattle.reading.specs.TableReading.{read-table}
 use Rattle.outcome.specs.Check.{rows-judged, judge, verdict}
-use Rattle.book_progression.specs.NodeBytes.{IsHeld}
 use Rattle.checker_rows.specs.RowVerdict.{RowsJudgeable}
 use Rattle.checker_files.specs.Testing.{TableTested}
 use Rattle.checker_files.specs.declared.Tested.{Tested}

@@ -1,18 +1,18 @@
 -- A law for each way through the tests: from what is known there, the answer is what the definitions say.
 use Prim.Native.Nat.{ℕ}
 use native.Mathlib.Omega.{arith}
-use mathlib.Core.Path.{_≡_, refl, sym, _∙_, ap}
+use mathlib.Core.Path.{_≡_, sym, _∙_}
 use mathlib.Core.Bool.{Bool, true, false}
 use mathlib.Core.List.{List}
-use Rattle.base.specs.Answers.{Answer, refuse, give, _then_}
+use Rattle.base.specs.Answers.{give, _then_}
 use Rattle.base.specs.declared.Reason.{Reason}
 use Rattle.base.specs.declared.Refusal.{Refusal}
 use Rattle.base.specs.declared.Refusal.the-variants.{Layout}
 use Rattle.logic.specs.Tower.{FitTower, tower-of}
 use Rattle.reading.specs.TowerReading.{read-tower}
-use Rattle.reading.specs.TableReading.{read-table, table-of}
+use Rattle.reading.specs.TableReading.{table-of}
 use Rattle.reading.proofs.FitInput.{laid-out-read}
-use Rattle.outcome.specs.Check.{Finding, good-table, not-good, rows-judged}
+use Rattle.outcome.specs.Check.{good-table}
 use Rattle.file_tower.specs.TowerRead.{tower-read}
 use Rattle.file_tower.specs.declared.TowerRead.{TowerRead}
 use Rattle.file_tower.specs.declared.TowerRead.the-variants as Fits

@@ -7,14 +7,12 @@ use mathlib.Core.Option.{Option, none, some}
 use native.Mathlib.Omega.{arith}
 use native.Mathlib.Decide.{decLt, ℕ-discrete}
 use native.Mathlib.Nat.{mul-le-mul}
-use native.Mathlib.Numerals.{add-one}
 use lib.ListN.{length, getD}
 use lib.Dec.{leb, ltb, eqb}
 use borrow.Author.Tests.{lt-ltb, le-ltb, lt-leb, le-leb, eq-eqb, ne-eqb, ltb-true}
 use mir.Syntax.{w8, w64}
 use mir.Val.{Fits}
 use Rattle.base.specs.Bytes.{number-at}
-use Rattle.base.specs.Lists.{count-from}
 use Rattle.base.proofs.Lists.{and-left, and-right, and-fails-left, and-fails-right, false-by}
 use Rattle.logic.specs.declared.FileLayout.{FileLayout}
 use Rattle.logic.specs.Tower.{most-actions, in-range}

@@ -4,9 +4,7 @@ use native.Mathlib.Omega.{arith}
 use mathlib.Core.Path.{_≡_}
 use mathlib.Core.List.{List}
 use lib.ListN.{replicate, length-replicate}
-use Rattle.reading.specs.TableReading.{rows-of}
 use Rattle.outcome.specs.Log.{first-course}
-use Rattle.outcome.specs.declared.LogPlace.{LogPlace}
 use Rattle.outcome.specs.declared.Course.{Course}
 use Rattle.area_bytes.proofs.Clearing.{cleared-byte}
 use Rattle.file_table.proofs.Laws.{laid-out-known}

@@ -5,10 +5,10 @@ use native.Mathlib.Numerals.{add-one}
 use mathlib.Core.Path.{_≡_, refl, sym, _∙_, ap, subst}
 use mathlib.Core.Bool.{Bool, true, false}
 use mathlib.Core.Option.{Option, none, some, bind}
-use mathlib.Core.List.{List, [], _∷_}
+use mathlib.Core.List.{List, []}
 use mir.Syntax.{w8, w16, w64}
 use mir.Val.{Fits}
-use lib.ListN.{length, getD, set, length-set, List·getD-eq-default}
+use lib.ListN.{length, getD, set, length-set}
 use lib.Seq.{getD-set-same, getD-set-other}
 use native.Mathlib.Decide.{ℕ-discrete}
 use lib.Dec.{eqb, leb}
@@ -17,8 +17,8 @@ use Rattle.base.specs.Lists.{only-if}
 use Rattle.base.specs.Bytes.{byte-at}
 use Rattle.base.proofs.Lists.{whether}
 use Rattle.logic.specs.Time.{ticks, plus, same-ticks, position, after}
-use Rattle.logic.specs.Tower.{Tower, FitTower, tower-of, layout-of, length-of}
-use Rattle.logic.specs.Tables.{row-at, move}
+use Rattle.logic.specs.Tower.{FitTower, tower-of, layout-of, length-of}
+use Rattle.logic.specs.Tables.{move}
 use Rattle.logic.specs.TableFile.{most-rows}
 use Rattle.logic.specs.declared.Tick.{Tick}
 use Rattle.logic.specs.declared.Position.{Position}
@@ -40,6 +40,7 @@ use Rattle.file_table.specs.declared.Target.{Target}
 use Rattle.file_table.specs.declared.Target.the-variants.{Row, Nothing}
 use Rattle.file_table.proofs.Laws.{header-of, laid-out-known, target-row, target-nothing}
 use Rattle.checker_rows.specs.RowVerdict.{RowsJudgeable}
+use Rattle.text_numerals.proofs.Laws.{ahead-before, ahead-behind}
 use Rattle.log_lines.specs.Lines.{line-told, LineEnds}
 use Rattle.log_lines.specs.declared.LogLine.{LogLine}
 use Rattle.log_lines.specs.declared.LogLine.the-variants as Line
@@ -215,19 +216,13 @@ module _ (tower table : List ℕ) (line : Position) (course : Course) (s : Strok
 -- ---- the end of the last line that is ended
 
 module _ (log : List ℕ) where
-  -- Past the log every byte is 0.
+  -- Past the log there is none.
   pub no-end-past : NoEnd (length log) log
-  no-end-past = record { none-behind = λ j over e. absurd (omega (arith, List·getD-eq-default log 0 {n = j} over)) }
+  no-end-past = record { none-ahead = λ h. omega (arith, h .ahead, h .inside) }
 
   module _ (end : ℕ) (none : NoEnd end log) where
     pub no-end-before : (byte-at log (end - 1) ≡ 10 → ⊥) → NoEnd (end - 1) log
-    no-end-before other =
-        record {
-          none-behind = λ j over e. elim (ℕ-discrete (end - 1) j) [
-            | yes same ↦ other (ap (byte-at log) same ∙ e)
-            | no apart ↦ none .none-behind j (omega (arith, apart)) e
-          ];
-        }
+    no-end-before other = record { none-ahead = λ h. none .none-ahead (ahead-before _ log end (end - 1 + 1) (omega arith) (ahead-behind _ log (end - 1) h other)) }
 
     pub end-found : end ≤ length log → byte-at log (end - 1) ≡ 10 → LastEnd end log
     end-found inside e = record { inside = inside; behind = λ _. e; no-more = none }
@@ -238,7 +233,7 @@ module _ (log : List ℕ) where
   -- Before it byte 10 is ahead.
   pub end-ahead : (end at : ℕ) → LastEnd end log → at < end → LineEnds log at
   end-ahead end at last before =
-      record { last = end - 1; ahead = omega arith; inside = omega (arith, last .inside); ends = last .behind (omega arith) }
+      record { last = end - 1; ahead = omega arith; inside = omega (arith, last .inside); such = last .behind (omega arith) }
 
 -- ---- the lines of some bytes
 
@@ -332,7 +327,7 @@ module _ (tower table log noted-first : List ℕ) (first : Position) (course : C
   -- Behind the last byte 10 there is no line.
   pub lines-end : (end : ℕ) → LastEnd end log → end ≤ at
       → LinesFollowed (record { next = at; line = position line; course = so-far }) tower table log first course
-  lines-end end last over = stopped (no-line log at (λ j le. last .no-more .none-behind j (omega arith)))
+  lines-end end last over = stopped (no-line log at (λ h. last .no-more .none-ahead (ahead-before _ log end at over h)))
 
   pub lines-stop : (r : LogLine) → r ≡ line-told (stroke-at log at) → r ≡ Line.Malformed
       → LinesFollowed (record { next = at; line = position line; course = so-far }) tower table log first course

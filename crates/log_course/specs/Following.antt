@@ -16,6 +16,7 @@ use Rattle.outcome.specs.Log.{next-place, fits-or-fails, next-course, course-al
 use Rattle.outcome.specs.declared.LogPlace.{LogPlace}
 use Rattle.outcome.specs.declared.Course.{Course}
 use Rattle.outcome.specs.declared.Course.the-variants.{Fits}
+use Rattle.log_lines.specs.Lines.{LineEnds}
 use Rattle.log_course.specs.declared.Followed.{Followed}
 
 -- There is room for the moves of all rows, and those that are noted are moves of the table: for row r and action a, at 16 r + a, the target row
@@ -40,7 +41,7 @@ pub record LineFollowed (r : Course) (tower table : List ℕ) (line : Position) 
 
 -- No byte 10 stands at p or behind it.
 pub record NoEnd (p : ℕ) (log : List ℕ) : Type 0 where
-  pub none-behind : (j : ℕ) → p ≤ j → byte-at log j ≡ 10 → ⊥
+  pub none-ahead : LineEnds log p → ⊥
 
 -- The end of the last line that is ended: the position behind the last byte 10, or 0 where there is none.
 pub record LastEnd (end : ℕ) (log : List ℕ) : Type 0 where

@@ -1,26 +1,24 @@
 -- A law for each way through the reader of lines: from what is known there, the answer is what the definitions say.
 use Prim.Native.Nat.{ℕ, _+_, _≤_, _<_, _^_}
 use native.Mathlib.Omega.{arith}
-use native.Mathlib.Decide.{decLt}
-use mathlib.Core.Path.{_≡_, refl, sym, _∙_, ap}
-use mathlib.Core.Bool.{true, false}
-use mathlib.Core.Option.{Option, none, some, bind}
+use mathlib.Core.Path.{_≡_, ap, subst}
+use mathlib.Core.Bool.{false}
+use mathlib.Core.Option.{bind}
 use mathlib.Core.List.{List}
 use mir.Syntax.{w64}
 use mir.Val.{Fits}
 use lib.ListN.{length}
-use lib.Dec.{leb}
 use borrow.Author.Tests.{eq-eqb, ne-eqb, le-leb, lt-leb}
 use Rattle.base.specs.Lists.{only-if}
 use Rattle.base.specs.Bytes.{byte-at}
 use Rattle.logic.specs.Time.{ticks}
-use Rattle.reading.specs.Tokens.{stands, is-digit, Token, numeral}
+use Rattle.reading.specs.Tokens.{stands, is-digit, numeral}
 use Rattle.reading.specs.LogReading.{field-at, stroke-at}
 use Rattle.reading.proofs.LogReading.{field-parts}
 use Rattle.text_numerals.specs.Numerals.{numeral-told, Stops}
 use Rattle.text_numerals.specs.declared.Number.{Number}
 use Rattle.text_numerals.specs.declared.Number.the-variants as N
-use Rattle.text_numerals.proofs.Laws.{numeral-before, numeral-missing, numeral-read}
+use Rattle.text_numerals.proofs.Laws.{ahead-there, ahead-behind, behind-numeral, numeral-missing, numeral-read}
 use Rattle.log_lines.specs.Lines.{line-told, LineEnds}
 use Rattle.log_lines.specs.declared.LogLine.the-variants.{Malformed, Read}
 use Rattle.log_lines.proofs.Laws.{stands-there}
@@ -28,12 +26,12 @@ use Rattle.log_lines.proofs.Laws.{stands-there}
 -- ---- where byte 10 is ahead
 
 -- It is no digit.
-no-digit : (s : List ℕ) (p : ℕ) → byte-at s p ≡ 10 → is-digit (byte-at s p) ≡ false
+no-digit : (b : ℕ) → b ≡ 10 → is-digit b ≡ false
 unfolding is-digit
-no-digit s p e = rw e
+no-digit b e = rw e
 
 pub ends-stops : (s : List ℕ) (at : ℕ) → LineEnds s at → Stops s at
-ends-stops s at h = record { last = h .last; ahead = h .ahead; inside = h .inside; no-digit = no-digit s (h .last) (h .ends) }
+ends-stops s at h = record { last = h .last; ahead = h .ahead; inside = h .inside; such = no-digit (byte-at s (h .last)) (h .such) }
 
 -- ---- a field
 
@@ -54,14 +52,11 @@ module _ (most b : ℕ) (s : List ℕ) (at : ℕ) (n : Number) (is-n : n ≡ num
 -- Behind a number byte 10 is still ahead, so that a byte stands there and the position after it fits.
 module _ (s : List ℕ) (at : ℕ) (h : LineEnds s at) (most : ℕ) (n : Number) (is-n : n ≡ numeral-told (numeral most s at)) (v q : ℕ)
     (read : n ≡ N.Read v q) where
-  ends-at : q ≤ h .last
-  ends-at = numeral-before most s at (h .last) (h .ahead) (no-digit s (h .last) (h .ends)) (numeral-read (numeral most s at) n v q is-n read)
-
   pub byte-there : q < length s
-  byte-there = omega (arith, ends-at)
+  byte-there = ahead-there _ s q (behind-numeral _ s no-digit most at h (numeral-read (numeral most s at) n v q is-n read))
 
   pub behind-fits : length s < 2 ^ 64 → Fits w64 (q + 1)
-  behind-fits small = omega (arith, ends-at)
+  behind-fits small = omega (arith, byte-there)
 
 -- ---- a line
 
@@ -69,19 +64,8 @@ module _ (s : List ℕ) (at : ℕ) (h : LineEnds s at) (most : ℕ) (n : Number)
 pub ends-behind : (s : List ℕ) (at : ℕ) → LineEnds s at → (f : Number) (t q : ℕ) → f ≡ numeral-told (field-at 10 32 s at) → f ≡ N.Read t q → LineEnds s q
 ends-behind s at h f t q is-f read =
     let (n, number, there, same) = field-parts 10 32 s at (numeral-read (field-at 10 32 s at) f t q is-f read) in
-    record {
-      last = h .last;
-      ahead = past (n .next) (numeral-before 10 s at (h .last) (h .ahead) (no-digit s (h .last) (h .ends)) number) (stands-there s (n .next) 32 there)
-          (ap (λ t. t .next) same);
-      inside = h .inside;
-      ends = h .ends;
-    }
-  where
-    past : (e : ℕ) → e ≤ h .last → byte-at s e ≡ 32 → e + 1 ≡ q → q ≤ h .last
-    past e le space f = elim (decLt e (h .last)) [
-      | yes l ↦ omega arith
-      | no l ↦ let here : e ≡ h .last = omega arith in absurd (omega (arith, ap (byte-at s) here, h .ends))
-    ]
+    subst (LineEnds s) (ap (λ t. t .next) same)
+    (ahead-behind _ s (n .next) (behind-numeral _ s no-digit 10 at h number) (λ ten. omega (arith, stands-there s (n .next) 32 there)))
 
 module _ (s : List ℕ) (at : ℕ) (f : Number) (is-f : f ≡ numeral-told (field-at 10 32 s at)) where
   pub tick-missing : f ≡ N.Missing → Malformed ≡ line-told (stroke-at s at)

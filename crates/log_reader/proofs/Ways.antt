@@ -1,6 +1,5 @@
 -- A law for each way through the log reader: from what is known there, the answer is the outcome's.
-use Prim.Native.Nat.{ℕ, _+_, _≤_, _<_}
-use native.Mathlib.Omega.{arith}
+use Prim.Native.Nat.{ℕ, _≤_, _<_}
 use native.Mathlib.Nat.{zero-add}
 use mathlib.Core.Path.{_≡_, refl, sym, _∙_, ap}
 use mathlib.Core.Bool.{Bool, true, false}
@@ -9,7 +8,7 @@ use lib.ListN.{length}
 use lib.Dec.{ltb}
 use borrow.Author.Tests.{lt-ltb, le-ltb}
 use Rattle.base.specs.Choice.{pick}
-use Rattle.base.specs.Answers.{Answer, refuse, give, _if_else_, _then_, log-said}
+use Rattle.base.specs.Answers.{refuse, give, _if_else_, _then_, log-said}
 use Rattle.base.specs.declared.Reason.{Reason}
 use Rattle.base.specs.declared.Refusal.{Refusal}
 use Rattle.base.specs.declared.Refusal.the-variants.{Log}
@@ -21,7 +20,7 @@ use Rattle.logic.specs.declared.Position.{Position}
 use Rattle.reading.specs.TableReading.{table-of}
 use Rattle.reading.specs.LogReading.{log-from, read-log}
 use Rattle.reading.specs.declared.Stroke.{Stroke}
-use Rattle.outcome.specs.Check.{Finding, good-table}
+use Rattle.outcome.specs.Check.{good-table}
 use Rattle.outcome.specs.Log.{course-along, first-course, followed, comes-to, log-after, logged-file, log-answer, log-outcome}
 use Rattle.outcome.specs.declared.LogPlace.{LogPlace}
 use Rattle.outcome.specs.declared.Course.{Course}

@@ -6,7 +6,6 @@ use mathlib.Core.Bool.{Bool, true, false, _&&_, _||_, not}
 use mathlib.Core.Option.{Option, none, some}
 use mathlib.Core.List.{List, [], _∷_, _++_, List·Memᴰ}
 use lib.ListN.{length}
-use borrow.Author.Tests.{ltb-false}
 use Rattle.base.specs.Lists.{every, some-of, below, is-there, there-with}
 use Rattle.base.proofs.Lists.{whether, and-both, and-left, and-right, or-left, or-right, not-in, below-every, below-some, there-not, there-with-in, whether-there, some-one, present-map-in, below-mem}
 use Rattle.base.proofs.Search.{search-reached, search-finds}

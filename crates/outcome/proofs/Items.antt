@@ -18,7 +18,7 @@ use Rattle.logic.proofs.Leads.{leads-nil, leads-in, leads-out, snoc-in, snoc-ou
 use Rattle.logic.proofs.Canonical.{FollowsRuns}
 use Rattle.pending.specs.Pending.{Pending, progressed, first-pending}
 use Rattle.pending.proofs.Weights.{pairs-few}
-use Rattle.pending.specs.Pairs.{Pair, same-pair, first-pair, pair-step, pair-followers, pairs, over-pairs, pair-weight, most-pairs}
+use Rattle.pending.specs.Pairs.{Pair, same-pair, first-pair, pair-step, pair-followers, pairs, pair-weight, most-pairs}
 use Rattle.pending.proofs.Marks.{progressed-same}
 use Rattle.pending.proofs.Same.{same-pair-eq, same-pair-refl}
 use Rattle.pending.proofs.Steps.{pair-step-in, pair-step-out, pair-leads-state}

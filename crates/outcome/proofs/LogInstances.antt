@@ -2,7 +2,7 @@
 use mathlib.Core.Path.{refl}
 use Rattle.base.specs.Answers.{log-said}
 use Rattle.logic.specs.Time.{plus, after}
-use Rattle.reading.specs.LogReading.{most-tick, field-at, stroke-at, with-line, line-and, log-step, log-from, read-log}
+use Rattle.reading.specs.LogReading.{field-at, stroke-at, with-line, line-and, log-step, log-from, read-log}
 use Rattle.outcome.specs.Log.{on-time, next-place, fits-or-fails, next-course, course-along, first-course, followed, log-after, logged-file, log-answer, log-outcome}
 use Rattle.outcome.specs.SmallTower.{table-1}
 use Rattle.outcome.specs.RefusalTable.{no-step, with-target}

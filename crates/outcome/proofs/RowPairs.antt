@@ -7,7 +7,6 @@ use mathlib.Core.Option.{none, some}
 use mathlib.Core.List.{List, [], _∷_, _++_, List·Memᴰ, List·Memᴰ·head}
 use lib.ListN.{length, getD}
 use native.Mathlib.Omega.{arith}
-use borrow.Author.Tests.{ltb-false}
 use Rattle.base.specs.Lists.{some-of, below, place-of}
 use Rattle.base.proofs.Lists.{same-truth, same-option-out, none-some, some-one, some-of-mem, mem-getD, mem-along, present-map-out, present-map-in, below-mem, place-of-some, place-of-at}
 use Rattle.base.specs.Search.{Apart, once}
@@ -18,7 +17,7 @@ use Rattle.logic.specs.Runs.{leads}
 use Rattle.logic.specs.TableFile.{most-rows}
 use Rattle.logic.proofs.Leads.{leads-nil, leads-out, snoc-in}
 use Rattle.pending.proofs.Weights.{pairs-most}
-use Rattle.pending.specs.Pairs.{Pair, pairs, pair-weight, most-pairs, first-pair, over-pairs, pair-followers, same-pair}
+use Rattle.pending.specs.Pairs.{Pair, pairs, pair-weight, most-pairs, first-pair, pair-followers, same-pair}
 use Rattle.outcome.specs.Game.{safe, safe-step}
 use Rattle.outcome.specs.Rows.{one-row, safe-followers, row-pairs}
 use Rattle.outcome.proofs.Alike.{Known, one-row-same, safe-step-out, safe-met, safe-listed, one-row-step}

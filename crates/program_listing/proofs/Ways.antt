@@ -26,7 +26,6 @@ use Rattle.program_texts.proofs.Fitting.{put-append, puts-then, puts-nothing, m
 use Rattle.program_listing.specs.Lines.{line-end, head-line, step-text, steps-text, row-line, sizes-line, letter-text, inside-text, refusal-line, refused-line, named-line, log-line}
 use Rattle.program_listing.proofs.Lengths.{head-short, sizes-short, row-short, refusal-short, named-short}
 use Rattle.base.specs.declared.LogAnswer.{LogAnswer}
-use Rattle.base.specs.declared.LogAnswer.the-variants as Logged
 
 -- ---- texts one behind the other
 

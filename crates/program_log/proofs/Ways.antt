@@ -1,17 +1,14 @@
 -- A law for each way through the code that reads a log in parts.
 use Prim.Native.Nat.{ℕ, _+_, _-_, _≤_, _<_}
 use native.Mathlib.Omega.{arith}
-use native.Mathlib.Decide.{decLt, ℕ-discrete}
-use mathlib.Core.Path.{_≡_, refl, sym, _∙_, ap}
+use native.Mathlib.Decide.{ℕ-discrete}
+use mathlib.Core.Path.{_≡_, refl, _∙_}
 use mathlib.Core.Logic.{_⊎_, inl, inr}
 use mathlib.Core.List.{List}
 use lib.ListN.{length, set, length-set, take}
 use lib.Seq.{getD-set-same, getD-set-other, length-take-le}
-use mir.Syntax.{w64}
-use mir.Val.{Fits}
 use Rattle.base.specs.Bytes.{byte-at}
 use Rattle.logic.specs.declared.Position.{Position}
-use Rattle.reading.specs.LogReading.{log-from}
 use Rattle.reading.proofs.LogReading.{log-inside}
 use Rattle.outcome.specs.declared.Course.{Course}
 use Rattle.log_course.specs.Following.{Noted, OnRow, LinesFollowed}

@@ -50,8 +50,8 @@ line-stays a b p t e =
     line-elsewhere a p (a ++ b) p b (drop-append-le p a b (omega arith)) t e ∙ ap (λ q. some (record { said = t .said; next = q })) at
 
 -- What is no line within 14 bytes stays none, whatever follows.
-pub stays-bad-at : (a b : List ℕ) (p : ℕ) → p + 14 ≤ length a → stroke-at a p ≡ none → stroke-at (a ++ b) p ≡ none
-stays-bad-at a b p long bad =
+pub stays-bad : (a b : List ℕ) (p : ℕ) → p + 14 ≤ length a → stroke-at a p ≡ none → stroke-at (a ++ b) p ≡ none
+stays-bad a b p long bad =
     whether-there (stroke-at (a ++ b) p) (λ e. e) (λ t e.
     let there = line-spelled (a ++ b) p t e in
     let near = line-length (a ++ b) p t e in
@@ -59,10 +59,6 @@ stays-bad-at a b p long bad =
     let all = sym (drop-append-le p a b (omega arith)) ∙ there .passage .text ∙ behind in
     none-some bad
     (line-back (there .spells) (record { text = append-cancel-right (drop p a) (there .line ++ drop (t .next) a) b all; ends = there .passage .ends })))
-
--- The same at the beginning.
-pub stays-bad : (a b : List ℕ) → 14 ≤ length a → stroke-at a 0 ≡ none → stroke-at (a ++ b) 0 ≡ none
-stays-bad a b long bad = stays-bad-at a b 0 long bad
 
 -- A line of the rest behind n bytes stands n bytes further on,
 line-moved : (s : List ℕ) (n p : ℕ) (t : Token Stroke) → stroke-at (drop n s) p ≡ some t → stroke-at s (n + p) ≡ some (record { said = t .said; next = n + t .next })
@@ -124,20 +120,11 @@ in-pieces-strokes a b = ap (λ r. r .strokes) (in-pieces a b)
 pub in-pieces-next : (a b : List ℕ) → log-from (a ++ b) 0 .next ≡ log-from a 0 .next + log-from (drop (log-from a 0 .next) a ++ b) 0 .next
 in-pieces-next a b = ap (λ r. r .next) (in-pieces a b)
 
--- One line alone, and then those of what it left with all that follows.
-pub line-then : (a b : List ℕ) (t : Token Stroke) → stroke-at a 0 ≡ some t
-    → log-from (a ++ b) 0
-    ≡ record { strokes = t .said ∷ log-from (drop (t .next) a ++ b) 0 .strokes; next = t .next + log-from (drop (t .next) a ++ b) 0 .next }
-unfolding with-line
-line-then a b t e =
-    let (far, inside) = stroke-ahead a 0 t e in
-    log-line (a ++ b) 0 t (omega (arith, length-append a b)) (line-stays a b 0 t e) ∙ ap (with-line (t .said)) (log-left a b (t .next) inside)
-
 -- A beginning of which 14 bytes or more were left is read to where the whole log is.
 pub ends-early : (a b : List ℕ) → log-from a 0 .next + 14 ≤ length a → log-from (a ++ b) 0 ≡ log-from a 0
 unfolding lines-before
 ends-early a b long =
     let n = log-from a 0 .next in
-    let bad = stays-bad-at a b n long (log-stops a 0 (omega arith)) in
+    let bad = stays-bad a b n long (log-stops a 0 (omega arith)) in
     lines-stay a b 0 ∙ ap (lines-before (log-from a 0 .strokes)) (log-bad (a ++ b) n (omega (arith, length-append a b)) bad)
     ∙ ap (λ z. record { strokes = z; next = n }) (append-nil (log-from a 0 .strokes))

@@ -185,10 +185,6 @@ line-spelled s p t e =
       passage = passages-joined (tick .before (action .before (passages-end (a .next))));
     })
 
--- A line is read exactly where it is spelled.
-pub line-exactly : (s : List ℕ) (p : ℕ) (t : Token Stroke) → (stroke-at s p ≡ some t) ↔ LineThere s p t
-line-exactly s p t = (line-spelled s p t, λ there. line-back (there .spells) (there .passage))
-
 -- ---- logs
 
 -- lines before those that are read behind them

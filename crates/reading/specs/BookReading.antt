@@ -11,7 +11,7 @@ use Rattle.base.specs.Text.{byte, ascii}
 use Rattle.base.specs.Recursion.{run}
 use Rattle.base.specs.Answers.{Answer, refuse, give, _if_else_, _then_}
 use Rattle.base.specs.declared.Refusal.the-variants.{Grammar, Number, Mark, Limit, Timed}
-use Rattle.logic.specs.Book.{Formula, constant, proposition, and, or, next, always-for, until, timed-right, size, nodes, Form, at-start, everywhere, Rule, Book}
+use Rattle.logic.specs.Book.{Formula, constant, proposition, and, or, next, always-for, until, timed-right, size, nodes, Form, at-start, everywhere, Book}
 use Rattle.reading.specs.Tokens.{stands, skip}
 use Rattle.reading.specs.Grammar.{Parsed, bad, got, formula-at}
 

@@ -4,7 +4,7 @@ use native.Mathlib.Omega.{arith}
 use native.Mathlib.Nat.{add-zero, pow-suc, pow-le-pow-right}
 use native.Mathlib.Numerals.{add-one}
 use native.Mathlib.Decide.{decLt}
-use mathlib.Core.Path.{_≡_, refl, sym, _∙_, ap}
+use mathlib.Core.Path.{_≡_, refl, sym, _∙_, ap, subst}
 use mathlib.Core.Bool.{Bool, true, false, not}
 use mathlib.Core.Option.{Option, none, some}
 use mathlib.Core.List.{List, [], _∷_}
@@ -17,7 +17,7 @@ use Rattle.base.specs.Bytes.{byte-at}
 use Rattle.base.proofs.Lists.{and-left, whether}
 use Rattle.reading.specs.Tokens.{is-digit, digits, value, Token, numeral}
 use Rattle.reading.proofs.LogReading.{picked}
-use Rattle.text_numerals.specs.Numerals.{numeral-told, spelled, Stops, Spelling}
+use Rattle.text_numerals.specs.Numerals.{numeral-told, spelled, Ahead, Stops, Spelling}
 use Rattle.text_numerals.specs.declared.Number.{Number}
 use Rattle.text_numerals.specs.declared.Number.the-variants.{Missing, Read}
 
@@ -48,6 +48,9 @@ digit-above b le = rw (le-leb 48 b le)
 pub digit-low : (b : ℕ) → is-digit b ≡ true → 48 ≤ b
 unfolding is-digit
 digit-low b e = leb-true 48 b (and-left (leb 48 b) (leb b 57) e)
+
+not-both : (b : Bool) → b ≡ true → b ≡ false → ⊥
+not-both b e f = let z : _≡_ {A = ℕ} 0 1 = cc in omega arith
 
 -- The byte that was read is a digit.
 is-one : (s : List ℕ) (p b : ℕ) (d : Bool) → b ≡ byte-at s p → d ≡ is-digit b → not d ≡ false → is-digit (byte-at s p) ≡ true
@@ -168,47 +171,48 @@ digit-from b d f g = digit-low b (sym f ∙ not-false d g)
 pub digit-cast : (s : List ℕ) (next : ℕ) → ((j : ℕ) → Fits w8 (getD s j 0)) → Fits w64 (byte-at s next - 48)
 digit-cast s next h = omega (arith, h next)
 
--- ---- where a byte that is no digit is ahead
+-- ---- where such a byte is ahead
 
--- A digit stands before it,
-digit-before : (s : List ℕ) (p last : ℕ) → p ≤ last → is-digit (byte-at s last) ≡ false → is-digit (byte-at s p) ≡ true → p < last
-digit-before s p last le e f = elim (decLt p last) [
-  | yes l ↦ l
-  | no l ↦
-      let same : p ≡ last = omega arith in
-      let here : is-digit (byte-at s last) ≡ true = rw (← same) f in
-      let z : _≡_ {A = ℕ} 0 1 = cc in
-      absurd (omega arith)
-]
+module _ (Such : ℕ → Type 0) (s : List ℕ) where
+  -- A byte stands here,
+  pub ahead-there : (p : ℕ) → Ahead Such s p → p < length s
+  ahead-there p h = omega (arith, h .ahead, h .inside)
 
--- so that behind a digit it is still ahead.
-pub stops-behind : (s : List ℕ) (p b : ℕ) (d : Bool) → Stops s p → b ≡ byte-at s p → d ≡ is-digit b → not d ≡ false → Stops s (p + 1)
-stops-behind s p b d h e f g =
-    record {
-      last = h .last;
-      ahead = omega (arith, digit-before s p (h .last) (h .ahead) (h .no-digit) (is-one s p b d e f g));
-      inside = h .inside;
-      no-digit = h .no-digit;
-    }
+  -- what is ahead of q is ahead of what stands before q,
+  pub ahead-before : (p q : ℕ) → p ≤ q → Ahead Such s q → Ahead Such s p
+  ahead-before p q le h = record { last = h .last; ahead = omega (arith, h .ahead); inside = h .inside; such = h .such }
+
+  -- and behind another byte it is still ahead.
+  pub ahead-behind : (p : ℕ) → Ahead Such s p → (Such (byte-at s p) → ⊥) → Ahead Such s (p + 1)
+  ahead-behind p h other = elim (decLt p (h .last)) [
+    | yes l ↦ record { last = h .last; ahead = omega (arith, l); inside = h .inside; such = h .such }
+    | no l ↦ let here : h .last ≡ p = omega (arith, l, h .ahead) in absurd (other (subst (λ q. Such (byte-at s q)) here (h .such)))
+  ]
+
+  -- Where it is no digit, it is ahead behind digits
+  module _ (no-digit : (b : ℕ) → Such b → is-digit b ≡ false) where
+    behind-digits : (n p : ℕ) → Ahead Such s p → Ahead Such s (p + digits n s p)
+    unfolding digits
+    behind-digits zero p h = rw (add-zero p) h
+    behind-digits (suc n) p h =
+        whether (is-digit (byte-at s p))
+        (λ e. rw e (subst (Ahead Such s) (further (digits n s (p + 1))) (behind-digits n (p + 1) (ahead-behind p h (λ x. not-both (is-digit (byte-at s p)) e (no-digit (byte-at s p) x))))))
+        (λ e. rw (e, add-zero p) h)
+      where
+        further : (k : ℕ) → p + 1 + k ≡ p + suc k
+        further k = omega arith
+
+    -- and behind a number.
+    pub behind-numeral : (most p : ℕ) {n : Token ℕ} → Ahead Such s p → numeral most s p ≡ some n → Ahead Such s (n .next)
+    unfolding numeral
+    behind-numeral most p h e =
+        let (there, same) = picked (is-digit (byte-at s p)) _ e in subst (Ahead Such s) (ap (λ t. t .next) same) (behind-digits most p h)
 
 pub stops-there : (s : List ℕ) (p : ℕ) → Stops s p → p < length s
-stops-there s p h = omega arith
+stops-there s p h = ahead-there _ s p h
 
--- Digits end there or before,
-digits-before : (n : ℕ) (s : List ℕ) (p last : ℕ) → p ≤ last → is-digit (byte-at s last) ≡ false → p + digits n s p ≤ last
-unfolding digits
-digits-before zero s p last le e = omega arith
-digits-before (suc n) s p last le e =
-    whether (is-digit (byte-at s p))
-    (λ f. let far = digit-before s p last le e f in let rest = digits-before n s (p + 1) last (omega arith) e in rw f (omega arith))
-    (λ f. rw f (omega arith))
-
--- and so does a number.
-pub numeral-before : (most : ℕ) (s : List ℕ) (p last : ℕ) {n : Token ℕ} → p ≤ last → is-digit (byte-at s last) ≡ false → numeral most s p ≡ some n
-    → n .next ≤ last
-unfolding numeral
-numeral-before most s p last le e f =
-    let (there, same) = picked (is-digit (byte-at s p)) _ f in omega (arith, ap (λ t. t .next) same, digits-before most s p last le e)
+pub stops-behind : (s : List ℕ) (p b : ℕ) (d : Bool) → Stops s p → b ≡ byte-at s p → d ≡ is-digit b → not d ≡ false → Stops s (p + 1)
+stops-behind s p b d h e f g = ahead-behind _ s p h (not-both (is-digit (byte-at s p)) (is-one s p b d e f g))
 
 -- ---- one digit or two
 

@@ -19,12 +19,16 @@ unfoldable pub spelled : ℕ → ℕ → ℕ → Number
 spelled zero said next = Missing
 spelled (suc n) said next = Read said next
 
--- A byte that is no digit stands at p or behind it, so that a number at p ends before the text does.
-pub record Stops (s : List ℕ) (p : ℕ) : Type 0 where
+-- Such a byte stands at p or behind it, so that what stops there at the latest stops before the text ends.
+pub record Ahead (Such : ℕ → Type 0) (s : List ℕ) (p : ℕ) : Type 0 where
   pub last : ℕ
   pub ahead : p ≤ last
   pub inside : last < length s
-  pub no-digit : is-digit (byte-at s last) ≡ false
+  pub such : Such (byte-at s last)
+
+-- A number at p stops before the text ends: a byte that is no digit is ahead.
+abbrev pub Stops : List ℕ → ℕ → Type 0
+Stops s p = Ahead (λ b. is-digit b ≡ false) s p
 
 -- The digits of a number as far as they were read: n of at most so many, from p on.
 pub record Spelling (s : List ℕ) (p most n said next : ℕ) : Type 0 where

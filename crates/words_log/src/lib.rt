@@ -19,6 +19,7 @@ const ACTION_DIGITS: usize = 2;
 
 const MOST_TICK: usize = 4294967295;
 
+// The largest tick, as ticks are counted.
 const LAST_TICK: u64 = 4294967295;
 
 // Begins a sentence about a line; the number is counted from 0.

@@ -2,7 +2,7 @@
 use borrow.Author.Needs.{needs}
 use Prim.Native.Nat.{_-_}
 use Rattle.book_progression.specs.Contracts.{EmptyTo}
-use Rattle.book_progression.proofs.Stepping.{empty-none, empty-four, empty-one}
+use Rattle.book_progression.proofs.Stepping.{empty-none, empty-one}
 use Rattle.book_progression.proofs.past_empty.Statement.{statement}
 use Rattle.book_progression.proofs.past_empty.Tie as tie
 

@@ -2,7 +2,6 @@
 use borrow.Author.Needs.{needs}
 use Prim.Native.Nat.{_-_, _≤_}
 use mathlib.Core.Path.{_≡_}
-use native.Mathlib.Omega.{arith}
 use lib.ListN.{length}
 use Rattle.place_tower.proofs.sure.sure_copy.Statement.{statement}
 use Rattle.place_tower.proofs.sure.sure_copy.Tie as tie
