@@ -59,7 +59,8 @@ enum succoryvise_number {
     SUCCORYVISE_OUTPUT = 16,      /* the output is too short */
     SUCCORYVISE_OUTSIDE = 17,     /* the row or the action is outside the table */
     SUCCORYVISE_NOT_ALLOWED = 18, /* the action is not allowed in this row */
-    SUCCORYVISE_LOG = 19          /* log: a line is not of its form */
+    SUCCORYVISE_LOG = 19,         /* log: a line is not of its form */
+    SUCCORYVISE_ALTERNATIVES = 20 /* over 16 alternatives after a step */
 };
 
 /* The letters of a 14. */

@@ -114,7 +114,8 @@ pub fn read_book(marks: usize, text: &[u8]) -> Result<BookCounts, Refusal> {
 ///
 /// It borrows about 200 KiB from the heap. To make many tables with the same memory, or to give the
 /// place of the table, use a [`Maker`]. The refusals are those of the tower (numbers 1 to 5) and the
-/// book (6 to 10), [`Pairs`](Refusal::Pairs) and [`NoTable`](Refusal::NoTable).
+/// book (6 to 10), [`Pairs`](Refusal::Pairs), [`Alternatives`](Refusal::Alternatives) and
+/// [`NoTable`](Refusal::NoTable).
 ///
 /// ```
 /// # let tower = include_bytes!("../../examples/small-tower/tower.bin");
@@ -132,8 +133,8 @@ pub fn make(tower: &[u8], text: &[u8]) -> Result<Vec<u8>, Refusal> {
 /// It borrows about 100 KiB from the heap; to check many tables with the same memory, use a
 /// [`Checker`]. The refusals are those of the tower (numbers 1 to 5) and the book (6 to 10),
 /// [`Layout`](Refusal::Layout), [`NotGood`](Refusal::NotGood) with the first reason, and
-/// [`Pairs`](Refusal::Pairs), which says that the table is too large to be judged, and not that it is
-/// bad.
+/// [`Pairs`](Refusal::Pairs) and [`Alternatives`](Refusal::Alternatives), which say that the table is too
+/// large to be judged, and not that it is bad.
 ///
 /// ```
 /// # let tower = include_bytes!("../../examples/small-tower/tower.bin");

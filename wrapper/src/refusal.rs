@@ -94,6 +94,8 @@ pub enum Refusal {
         /// The line.
         line: usize,
     },
+    /// 20: a step leaves more than 16 alternatives.
+    Alternatives,
     /// Any other number: the archive knows more refusals than this crate.
     #[non_exhaustive]
     Other {
@@ -141,7 +143,7 @@ pub enum Reason {
 }
 
 impl Refusal {
-    /// The number of the paper, 1 to 19 so far.
+    /// The number of the paper, 1 to 20 so far.
     pub fn number(&self) -> u32 {
         match self {
             Refusal::TowerSize => 1,
@@ -163,6 +165,7 @@ impl Refusal {
             Refusal::Outside => 17,
             Refusal::NotAllowed => 18,
             Refusal::Log { .. } => 19,
+            Refusal::Alternatives => 20,
             Refusal::Other { number, .. } => *number,
         }
     }
@@ -213,6 +216,7 @@ impl Refusal {
             17 => Refusal::Outside,
             18 => Refusal::NotAllowed,
             19 => Refusal::Log { line },
+            20 => Refusal::Alternatives,
             number => Refusal::Other { number, place },
         }
     }
@@ -284,6 +288,7 @@ impl fmt::Display for Refusal {
             Refusal::Outside => f.write_str("the row or the action is outside the table"),
             Refusal::NotAllowed => f.write_str("the action is not allowed now"),
             Refusal::Log { .. } => write!(f, "line {counted} of the log is not of its form"),
+            Refusal::Alternatives => f.write_str("a step leaves more than 16 alternatives"),
             Refusal::Other { number, place } => {
                 write!(f, "refused with number {number}, place {place}")
             }
@@ -327,7 +332,7 @@ mod tests {
     /// Number, place and letter of each refusal are those that it was made of.
     #[test]
     fn numbers_there_and_back() {
-        for number in (1..=19).filter(|number| *number != 14) {
+        for number in (1..=20).filter(|number| *number != 14) {
             let refusal = refusal(number, 7, 0);
             let place = if matches!(number, 6..=10 | 19) { 7 } else { 0 };
             assert_eq!((refusal.number(), refusal.place()), (number, place));
@@ -356,7 +361,7 @@ mod tests {
             for place in [0, 7, usize::MAX] {
                 let refusal = refusal(number, place, 0);
                 assert_eq!(refusal.number(), number);
-                let known = number <= 19;
+                let known = number <= 20;
                 assert_eq!(matches!(refusal, Refusal::Other { .. }), !known);
                 assert!(known || refusal.place() == place);
                 assert!(!refusal.to_string().is_empty());

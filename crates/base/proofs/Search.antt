@@ -54,20 +54,21 @@ unfolding total
 total-once [] = refl
 total-once (x ∷ xs) = omega (arith, total-once xs)
 
--- Where each weighs 1 or more, a list weighs its length or more.
-pub length-weight : {X : Type 0} (weight : X → ℕ) → ((x : X) → 0 < weight x) → (xs : List X) → length xs ≤ total (map weight xs)
+-- Where each of a list weighs 1 or more, it weighs its length or more.
+pub length-weight : {X : Type 0} (weight : X → ℕ) (xs : List X) → ((x : X) → List·Memᴰ x xs → 0 < weight x) → length xs ≤ total (map weight xs)
 unfolding total
-length-weight weight heavy [] = omega arith
-length-weight weight heavy (x ∷ xs) = omega (arith, heavy x, length-weight weight heavy xs)
+length-weight weight [] heavy = omega arith
+length-weight weight (x ∷ xs) heavy =
+    omega (arith, heavy x (List·Memᴰ·head refl), length-weight weight xs (λ y m. heavy y (List·Memᴰ·tail m)))
 
--- Each weighs 1 or more, and a list no more than `most`.
+-- Each of a list weighs 1 or more, and the list no more than `most`.
 pub record Few {X : Type 0} (weight : X → ℕ) (most : ℕ) (l : List X) : Type 0 where
-  pub heavy : (x : X) → 0 < weight x
+  pub heavy : (x : X) → List·Memᴰ x l → 0 < weight x
   pub light : total (map weight l) ≤ most
 
 -- A list of so many, where each counts once.
 pub few-once : {X : Type 0} (most : ℕ) (l : List X) → length l ≤ most → Few once most l
-few-once most l le = record { heavy = λ x. omega arith; light = omega (arith, total-once l) }
+few-once most l le = record { heavy = λ x m. omega arith; light = omega (arith, total-once l) }
 
 -- One taken out of a list, with its weight.
 taken : {X : Type 0} (weight : X → ℕ) {z : X} {l : List X} → List·Memᴰ z l
@@ -325,7 +326,7 @@ module _ {X : Type 0} (same : X → X → Bool) (followers : X → List X) where
     search-looks : IsSame same → (n : ℕ) (done todo seen l : List X) → seen ≡ done ++ todo → suc most ≤ n + length done
         → l ≡ searched n seen todo → Few weight most l → Looked done todo seen l
     unfolding search-on MetInOrder
-    search-looks is zero done todo seen l e fuel is-l few = absurd (omega (arith, length-weight weight (few .heavy) l, few .light, ap length is-l, ap length e, length-append done todo))
+    search-looks is zero done todo seen l e fuel is-l few = absurd (omega (arith, length-weight weight l (few .heavy), few .light, ap length is-l, ap length e, length-append done todo))
     search-looks is (suc n) done [] seen l e fuel is-l few =
         record { more = []; grown = is-l ∙ sym (append-nil seen); order = ap length e ∙ ap length (append-nil done) }
     search-looks is (suc n) done (y ∷ todo) seen l e fuel is-l few =

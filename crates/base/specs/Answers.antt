@@ -7,7 +7,7 @@ use Rattle.base.specs.Text.{byte}
 use Rattle.base.specs.declared.Reason.{Reason}
 use Rattle.base.specs.declared.Reason.the-variants.{Start, Withheld, WrongStep, Stopped, Broken}
 use Rattle.base.specs.declared.Refusal.{Refusal}
-use Rattle.base.specs.declared.Refusal.the-variants.{TowerSize, Range, Action, Target, Mask, Grammar, Number, Mark, Limit, Timed, Pairs, NoTable, Layout, Area, Output, Outside, NotAllowed, Log}
+use Rattle.base.specs.declared.Refusal.the-variants.{TowerSize, Range, Action, Target, Mask, Grammar, Number, Mark, Limit, Timed, Pairs, NoTable, Layout, Area, Output, Outside, NotAllowed, Log, Alternatives}
 use Rattle.base.specs.declared.BookAnswer.{BookAnswer}
 use Rattle.base.specs.declared.BookAnswer.the-variants as Book
 use Rattle.base.specs.declared.MakeAnswer.{MakeAnswer}
@@ -60,6 +60,7 @@ refusal-number Output = 16
 refusal-number Outside = 17
 refusal-number NotAllowed = 18
 refusal-number (Log line) = 19
+refusal-number Alternatives = 20
 
 -- its place: the line for 6 to 10 and for 19, otherwise 0
 abbrev pub refusal-place : Refusal → ℕ
@@ -81,6 +82,7 @@ refusal-place Output = 0
 refusal-place Outside = 0
 refusal-place NotAllowed = 0
 refusal-place (Log line) = line
+refusal-place Alternatives = 0
 
 -- what is said of a refusal
 unfoldable pub refusal-said : Refusal → Said

@@ -54,6 +54,8 @@ pub enum Refusal {
     NotAllowed,
     // 19: this line of the log is not of its form.
     Log(usize),
+    // 20: a step gives more alternatives than there may be.
+    Alternatives,
 }
 
 // What the book reader answers.

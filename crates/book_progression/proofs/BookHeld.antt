@@ -13,7 +13,7 @@ use Rattle.base.specs.Lists.{joined}
 use Rattle.base.proofs.Lists.{or-fails-left, or-fails-right, mem-getD}
 use Rattle.logic.specs.Tower.{most-marks}
 use Rattle.logic.specs.Book.{Formula, constant, proposition, and, or, next, always-for, until, parts, size, nodes, root, first-part, second-part, at-start, Rule, Book}
-use Rattle.pending.proofs.Nodes.{Stand, stand-left, stand-right, Sits, sits-within, sits-node, sits-first, sits-second, sits-only, sits-root, AllSit, book-sits}
+use Rattle.pending.proofs.Nodes.{Stand, stand-left, stand-right, Sits, sits-within, sits-node, sits-first, sits-second, sits-only, sits-root, AllSit, TimedRight, fit-sits}
 use Rattle.reading.specs.BookArea.{node-code, node-number, node-first, node-second, node-bytes, nodes-bytes, line-bytes, lines-bytes, nodes-in, lines-in}
 use Rattle.reading.specs.BookReading.{over-number, over-mark, most-ticks}
 use Rattle.book_progression.specs.NodeBytes.{NodeIs, Stored, HeldBook, IsHeld}
@@ -213,7 +213,7 @@ module _ (bytes : List ℕ) (all : List Formula) (part : take (4 * length all) b
       )
 
 -- a node that is one of many that sit
-sits-at : (all fs : List Formula) (k i n : ℕ) → AllSit all fs k → i < length fs → n ≡ k + i → Sits all (getD fs i (constant false)) n
+sits-at : (all fs : List Formula) (k i n : ℕ) → AllSit TimedRight all fs k → i < length fs → n ≡ k + i → Sits all (getD fs i (constant false)) n
 sits-at all [] k i n sit low e = absurd (omega arith)
 sits-at all (f ∷ fs) k zero n sit low e = let same : n ≡ k = omega arith in rw same (sit .0 .0)
 sits-at all (f ∷ fs) k (suc i) n sit low e = sits-at all fs (suc k) i n (sit .1) (omega arith) (omega arith)
@@ -229,7 +229,7 @@ module _ (bytes : List ℕ) (book : Book) (held : HeldBook bytes book) where
         all = sym (all ∙ held .holds .node-count);
         stored = λ k low. let within : k < length (nodes book) = omega (arith, all ∙ held .holds .node-count) in
             stored-at bytes (nodes book) (held .holds .node-part) (getD (nodes book) k (constant false)) k
-            (sits-at (nodes book) (nodes book) 0 k k (book-sits book (held .fit)) within (omega arith))
+            (sits-at (nodes book) (nodes book) 0 k k (fit-sits book (held .fit)) within (omega arith))
             (nodes-low (getD (nodes book) k (constant false)) book rules-low (mem-getD (nodes book) k (constant false) within));
       }
 

@@ -1,6 +1,6 @@
 // One step of progression (01, 'What is pending') over a book that lies as bytes in a lent area.
-mod line;
-mod node;
+pub mod line;
+pub mod node;
 
 use logic::Tick;
 ghost use Prim.Native.Nat.{_+_, _<_, _≤_};
@@ -31,7 +31,7 @@ fn marked(mark: u8, mask: usize) -> bool
 }
 
 // Whether node k, a constant or a mark, holds at a state with these marks.
-fn leaf_holds(book: &[u8], k: usize, mask: usize) -> bool
+pub fn leaf_holds(book: &[u8], k: usize, mask: usize) -> bool
     requires { ⌜ IsNode (now book) k ⌝ }
     requires { ⌜ code-of (now book) k ≤ 3 ⌝ }
     ensures { λ r. ⌜ HoldsAt r (now (book .entry)) k mask ⌝ }
@@ -72,7 +72,7 @@ pub fn holds(book: &[u8], k: usize, mask: usize) -> bool
 }
 
 // The same of a part. Most parts are leaves, and then `holds` is not called.
-fn part_holds(book: &[u8], k: usize, mask: usize) -> bool
+pub fn part_holds(book: &[u8], k: usize, mask: usize) -> bool
     requires { ⌜ IsNode (now book) k ⌝ }
     ensures { λ r. ⌜ HoldsAt r (now (book .entry)) k mask ⌝ }
 {
@@ -84,7 +84,7 @@ fn part_holds(book: &[u8], k: usize, mask: usize) -> bool
 
 // The ticks that node k has where it comes up with r and its cell is this: where it is pending
 // already, A keeps the larger number, U the smaller.
-fn merged(book: &[u8], k: usize, r: Tick, cell: u8) -> Tick
+pub fn merged(book: &[u8], k: usize, r: Tick, cell: u8) -> Tick
     requires { ⌜ IsNode (now book) k ⌝ }
     requires { ⌜ r .0 ≤ 254 ⌝ }
     ensures { λ m. ⌜ Merged m (now (book .entry)) k r cell ⌝ }
@@ -119,7 +119,7 @@ fn put(book: &[u8], k: usize, r: Tick, cells: &mut [u8])
 }
 
 // d is ~ t, for the comparison of this code.
-fn compares(code: u8, d: Tick, t: Tick) -> bool
+pub fn compares(code: u8, d: Tick, t: Tick) -> bool
     ensures { λ b. ⌜ Compares b code d t ⌝ }
 {
     if code == node::NO_MORE {

@@ -19,8 +19,8 @@ use Rattle.logic.specs.Tower.{Tower, tower-of}
 use Rattle.logic.specs.Tables.{rows-tower}
 use Rattle.logic.specs.Book.{Book}
 use Rattle.reading.specs.TableReading.{table-of}
-use Rattle.pending.specs.Pairs.{first-pair, pairs, over-pairs}
-use Rattle.pending.proofs.Steps.{pair-step-out}
+use Rattle.alternatives.specs.Pairs.{first-pair, pairs, over-pairs, over-alternatives}
+use Rattle.alternatives.proofs.Steps.{pair-step-out}
 use Rattle.outcome.specs.Check.{over-items, broken-step, breaks, some-broken, _found-if_else_, verdict}
 use Rattle.book_progression.specs.NodeBytes.{IsHeld}
 use Rattle.pair_entries.specs.PendingEntries.{TowerWithBook}
@@ -33,6 +33,7 @@ use Rattle.pair_search.specs.Explored.{found, Explored}
 use Rattle.pair_search.specs.declared.Found.{Found}
 use Rattle.pair_search.specs.declared.Found.the-variants.{TooMany, Met}
 use Rattle.pair_search.proofs.Walking.{rows-walkable, walked-actions}
+use Rattle.pair_search.proofs.Bridge.{held-narrow}
 use Rattle.checker.specs.Checking.{runs-answer, RunsChecked, is-broken, broken-at, breaks-at, some-break}
 
 -- ---- broken_at, breaks, some_break
@@ -140,6 +141,9 @@ module _ (tower table nodes graph : List ℕ) (r : Found)
     few : (h : IsHeld nodes) → over-pairs (rows-tower (tower-of tower) (table-of table)) (h .book) ≡ false
     few h = found-few (rows-tower (tower-of tower) (table-of table)) (h .book) n (sym is ∙ unfold walked in (explored .says h))
 
+    narrow : (h : IsHeld nodes) → over-alternatives (rows-tower (tower-of tower) (table-of table)) (h .book) ≡ false
+    narrow h = held-narrow (rows-tower (tower-of tower) (table-of table)) nodes h
+
     module _ (at-actions : actions ≡ tower-of tower .actions) (b : Bool) (is-b : b ≡ some-break graph n actions) where
       breaks-so : (h : IsHeld nodes) → some-broken (rows-tower (tower-of tower) (table-of table)) (h .book) ≡ b
       unfolding walked rows-tower
@@ -150,9 +154,9 @@ module _ (tower table nodes graph : List ℕ) (r : Found)
       -- 14 e.
       pub runs-broken : b ≡ true → RunsChecked (Check.NotGood Why.Broken) tower table nodes
       unfolding runs-answer over-items verdict _if_else_ _found-if_else_
-      runs-broken e = record { says = λ h. let broke = breaks-so h ∙ e in let not-many = few h in sym (rw (not-many, broke)) }
+      runs-broken e = record { says = λ h. let broke = breaks-so h ∙ e in let not-many = few h in let not-wide = narrow h in sym (rw (not-many, not-wide, broke)) }
 
       -- Good.
       pub runs-good : b ≡ false → RunsChecked Check.Good tower table nodes
       unfolding runs-answer over-items verdict _if_else_ _found-if_else_
-      runs-good e = record { says = λ h. let whole = breaks-so h ∙ e in let not-many = few h in sym (rw (not-many, whole)) }
+      runs-good e = record { says = λ h. let whole = breaks-so h ∙ e in let not-many = few h in let not-wide = narrow h in sym (rw (not-many, not-wide, whole)) }

@@ -7,13 +7,14 @@ use lib.ListN.{length, replicate}
 use Rattle.base.specs.Lists.{some-of, below}
 use Rattle.base.specs.Answers.{verdict-said, Answer, give, _if_else_, _then_}
 use Rattle.base.specs.declared.Reason.the-variants.{Broken}
-use Rattle.base.specs.declared.Refusal.the-variants.{Pairs}
+use Rattle.base.specs.declared.Refusal.the-variants.{Pairs, Alternatives}
 use Rattle.base.specs.declared.Verdict.{Verdict}
 use Rattle.logic.specs.Tower.{Tower, tower-of}
 use Rattle.logic.specs.Book.{Book}
 use Rattle.logic.specs.Tables.{Table, rows-tower}
 use Rattle.reading.specs.BookReading.{read-book}
 use Rattle.reading.specs.TableReading.{read-table, table-of}
+use Rattle.alternatives.specs.Pairs.{over-alternatives}
 use Rattle.outcome.specs.Areas.{book-area, pairs-area, index-area, graph-area}
 use Rattle.outcome.specs.Check.{Finding, good-table, _found-if_else_, over-items, some-broken, judge, verdict, check-outcome}
 use Rattle.book_progression.specs.NodeBytes.{IsHeld}
@@ -32,11 +33,15 @@ checked-book tower text table = read-book (tower .marks) text then λ book. chec
 pub record TableChecked (r : Verdict) (tower table nodes : List ℕ) : Type 0 where
   pub says : (h : IsHeld nodes) → r ≡ verdict (checked-table (tower-of tower) (h .book) table)
 
--- ---- 11 and reason e
+-- ---- 11, 20 and reason e
 
--- what is asked behind the rows: 11, then e
+-- what is asked behind the rows: 11, 20, then e
 unfoldable pub runs-answer : Tower → Book → Table → Answer Finding
-runs-answer tower book table = Pairs if over-items tower book table else Broken found-if some-broken (rows-tower tower table) book else give good-table
+runs-answer tower book table =
+    Pairs if over-items tower book table else
+    Alternatives if over-alternatives (rows-tower tower table) book else
+    Broken found-if some-broken (rows-tower tower table) book else
+    give good-table
 
 -- The answer for the runs that a table allows, for the book that the area holds.
 pub record RunsChecked (r : Verdict) (tower table nodes : List ℕ) : Type 0 where

@@ -12,7 +12,7 @@ use Rattle.logic.specs.Tower.{Tower, tower-of, layout-of}
 use Rattle.logic.specs.Book.{Book}
 use Rattle.logic.specs.Tables.{Table}
 use Rattle.logic.specs.TableFile.{table-file}
-use Rattle.pending.specs.Pairs.{same-pair, first-pair, pair-followers, pairs, over-pairs, pair-weight, most-pairs}
+use Rattle.alternatives.specs.Pairs.{same-pair, first-pair, pair-followers, pairs, over-pairs, over-alternatives, pair-weight, most-pairs}
 use Rattle.outcome.specs.Game.{safe}
 use Rattle.outcome.specs.Make.{table-for}
 use Rattle.outcome.proofs.Game.{met-step, safe-fine}
@@ -35,7 +35,8 @@ first-number tower book =
     ap (λ l. getD l 0 (first-pair tower book)) e
 
 module _ (tower graph flags : List ℕ) (n : ℕ) (least : 1 ≤ n) (removed : Removed (tower-of tower) n graph flags)
-    (book : Book) (few : over-pairs (tower-of tower) book ≡ false) (of : GraphOf (tower-of tower) book (graph-in tower graph n)) where
+    (book : Book) (few : over-pairs (tower-of tower) book ≡ false) (narrow : over-alternatives (tower-of tower) book ≡ false)
+    (of : GraphOf (tower-of tower) book (graph-in tower graph n)) where
   -- the pairs that are left are the safe ones
   safes : (i : ℕ) → i < n → safe-in flags i ≡ safe (tower-of tower) book (numbered (tower-of tower) book i)
   safes i l =
@@ -50,7 +51,7 @@ module _ (tower graph flags : List ℕ) (n : ℕ) (least : 1 ≤ n) (removed : R
   unfolding made-table-file table-for _if_else_ _then_
   none-made e =
       let unsafe : safe (tower-of tower) book (first-pair (tower-of tower) book) ≡ false = sym first-safe ∙ e in
-      rw (few, unsafe)
+      rw (few, narrow, unsafe)
 
   module _ (first : safe-in flags 0 ≡ true) (class : ℕ → ℕ) (classes : Classes (graph-in tower graph n) (safe-in flags) class) where
     is-safe : safe (tower-of tower) book (first-pair (tower-of tower) book) ≡ true
@@ -76,6 +77,6 @@ module _ (tower graph flags : List ℕ) (n : ℕ) (least : 1 ≤ n) (removed : R
         ≡ give (table-file (layout-of tower) (tower-of tower .states) (tower-of tower .actions) (graph-table (graph-in tower graph n) (safe-in flags) class))
     unfolding made-table-file table-for _if_else_ _then_
     table-made =
-        rw (few, is-safe)
+        rw (few, narrow, is-safe)
         (ap (λ (table : Table). give (table-file (layout-of tower) (tower-of tower .states) (tower-of tower .actions) table))
         (sym (same-table (tower-of tower) book (graph-in tower graph n) (safe-in flags) safe-graph class classes)))

@@ -25,7 +25,7 @@ use Rattle.logic.specs.TableFile.{table-file}
 use Rattle.logic.proofs.Layouts.{file-layout-fits}
 use Rattle.reading.specs.TowerReading.{read-tower}
 use Rattle.reading.specs.BookReading.{read-book}
-use Rattle.pending.specs.Pairs.{pairs, over-pairs}
+use Rattle.alternatives.specs.Pairs.{pairs, over-pairs}
 use Rattle.outcome.specs.Areas.{make-areas, book-area, pairs-area, index-area, graph-area, flags-area, classes-area}
 use Rattle.outcome.specs.ReadBook.{book-answer}
 use Rattle.outcome.specs.Make.{table-for, made-file, fitting, written, make-outcome}
@@ -44,6 +44,7 @@ use Rattle.pair_search.specs.Explored.{found, HoldsPairs, Explored}
 use Rattle.pair_search.specs.Walked.{walked}
 use Rattle.pair_search.specs.declared.Found.{Found}
 use Rattle.pair_search.specs.declared.Found.the-variants.{TooMany, Met}
+use Rattle.pair_search.proofs.Bridge.{held-narrow}
 use Rattle.maker_removal.specs.Removal.{removal-size, Removed}
 use Rattle.maker_classes.specs.Passes.{ReadyForPass, Classified}
 use Rattle.maker_file.specs.Writing.{ShortNumbers, table-in, Writable, WritesTable}
@@ -187,9 +188,9 @@ module _ (tower graph before flags classes : List ℕ) (n : ℕ) (b : Bool) (met
   no-table out e =
       record {
         says =
-            λ book few of.
+            λ book few narrow of.
             refused-ends (made-table-file tower book) NoTable out
-            (none-made tower graph flags n (met .least) removed book few of (sym is-b ∙ e));
+            (none-made tower graph flags n (met .least) removed book few narrow of (sym is-b ∙ e));
       }
 
   -- The safe pairs make the table.
@@ -198,9 +199,9 @@ module _ (tower graph before flags classes : List ℕ) (n : ℕ) (b : Bool) (met
   rows-made out after r e safe =
       record {
         says =
-            λ book few of.
+            λ book few narrow of.
             ends-along _ (made-table-file tower book) out r after
-            (table-made tower graph flags n (met .least) removed book few of (sym is-b ∙ e) (safe .class) (safe .classes)) (safe .ends);
+            (table-made tower graph flags n (met .least) removed book few narrow of (sym is-b ∙ e) (safe .class) (safe .classes)) (safe .ends);
       }
 
 -- ---- make_table
@@ -241,7 +242,9 @@ module _ (tower table nodes graph : List ℕ) (r : Found)
         → TableMade a tower nodes out after
     few-enough out after a rows =
         record {
-          says = λ h. rows .says (h .book) (not-many (tower-of tower) (h .book) n (sym is ∙ says h)) (pairs-held .pairs-graph h);
+          says = λ h.
+              rows .says (h .book) (not-many (tower-of tower) (h .book) n (sym is ∙ says h)) (held-narrow (tower-of tower) nodes h)
+              (pairs-held .pairs-graph h);
         }
 
 -- ---- make_book

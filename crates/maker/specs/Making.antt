@@ -10,7 +10,7 @@ use Rattle.logic.specs.Tower.{FitTower, tower-of, layout-of}
 use Rattle.logic.specs.Book.{Book}
 use Rattle.logic.specs.TableFile.{table-file}
 use Rattle.reading.specs.BookReading.{read-book}
-use Rattle.pending.specs.Pairs.{over-pairs}
+use Rattle.alternatives.specs.Pairs.{over-pairs, over-alternatives}
 use Rattle.outcome.specs.Areas.{book-area, pairs-area, index-area, graph-area, flags-area, classes-area}
 use Rattle.outcome.specs.Make.{table-for, fitting, written, MakeOutcome, make-outcome}
 use Rattle.book_progression.specs.NodeBytes.{IsHeld}
@@ -61,8 +61,8 @@ pub record SafeWritten (r : MakeAnswer) (tower graph flags : List ℕ) (n : ℕ)
 
 -- The made table is the file, or there is none, for each book whose pairs these are.
 pub record RowsMade (r : MakeAnswer) (tower graph : List ℕ) (n : ℕ) (out after : List ℕ) : Type 0 where
-  pub says : (book : Book) → over-pairs (tower-of tower) book ≡ false → GraphOf (tower-of tower) book (graph-in tower graph n)
-      → Ends (made-table-file tower book) out r after
+  pub says : (book : Book) → over-pairs (tower-of tower) book ≡ false → over-alternatives (tower-of tower) book ≡ false
+      → GraphOf (tower-of tower) book (graph-in tower graph n) → Ends (made-table-file tower book) out r after
 
 -- ---- the book
 

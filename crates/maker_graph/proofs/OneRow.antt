@@ -13,7 +13,7 @@ use Rattle.base.specs.Lists.{same-option, only-if}
 use Rattle.base.proofs.Lists.{same-truth, mem-getD}
 use Rattle.logic.specs.Tower.{Tower}
 use Rattle.logic.specs.Book.{Book}
-use Rattle.pending.specs.Pairs.{first-pair, pair-step, pairs}
+use Rattle.alternatives.specs.Pairs.{first-pair, pair-step, pairs}
 use Rattle.outcome.specs.Game.{safe, safe-step}
 use Rattle.outcome.specs.Rows.{alike-for, last-split, one-row}
 use Rattle.outcome.proofs.Alike.{Known, alike-more, one-row-state, one-row-step}

@@ -3,17 +3,17 @@ use Prim.Native.Nat.{ℕ, zero, suc, _<_}
 use mathlib.Core.Path.{_≡_, refl, sym, _∙_, ap, subst}
 use mathlib.Core.Logic.{_⊎_, inl, inr}
 use mathlib.Core.Bool.{Bool, true, false, _&&_, _||_, not}
-use mathlib.Core.Option.{none, some, bind}
+use mathlib.Core.Option.{none}
 use mathlib.Core.List.{List·Memᴰ}
 use native.Mathlib.Omega.{arith}
 use lib.ListN.{length}
 use borrow.Author.Tests.{not-true}
 use Rattle.base.specs.Lists.{every, some-of, below, is-there, there-with}
-use Rattle.base.proofs.Lists.{whether, never-both, same-truth, and-both, and-left, and-right, or-left, or-right, or-cases, not-in, below-every, below-some, every-below, some-below, is-there-in, there-not, there-with-in, there-with-out, none-some, some-one, mem-getD}
+use Rattle.base.proofs.Lists.{whether, never-both, same-truth, and-both, and-left, and-right, or-left, or-right, or-cases, not-in, below-every, below-some, every-below, some-below, is-there-in, there-not, there-with-in, there-with-out, whether-there, none-some, some-one, mem-getD}
 use Rattle.logic.specs.Tower.{Tower, controllable, goes-on, Listed}
 use Rattle.logic.specs.Book.{Book}
-use Rattle.pending.specs.Pairs.{Pair, first-pair, pair-step, pairs, over-pairs}
-use Rattle.pending.proofs.Steps.{pair-step-out}
+use Rattle.alternatives.specs.Pairs.{Pair, first-pair, pair-step, pairs, over-pairs}
+use Rattle.alternatives.proofs.Steps.{pair-step-out}
 use Rattle.outcome.specs.Game.{forced-right, can-go, fine, safe-through, last-removal, safe}
 use Rattle.outcome.proofs.Game.{safe-fine}
 use Rattle.pair_graph.specs.Graph.{Move, not-enabled, broken, to, Graph, LeadsTo, led, Fine, Largest}
@@ -26,8 +26,9 @@ led-out staying m (led j k) = (j, refl, k)
 -- an action that is not enabled makes no step
 pub not-enabled-none : (tower : Tower) (book : Book) (i a : ℕ) → tower .target (numbered tower book i .state) a ≡ none
     → pair-step tower book (numbered tower book i) a ≡ none
-unfolding pair-step bind
-not-enabled-none tower book i a e = rw e
+not-enabled-none tower book i a e =
+    whether-there (pair-step tower book (numbered tower book i) a) (λ f. f)
+    (λ w f. none-some e (pair-step-out tower book (numbered tower book i) w a f .0))
 
 -- a broken step leads to none
 broken-led {ℓ} : {C : Type ℓ} (staying : ℕ → Bool) → LeadsTo staying broken → C

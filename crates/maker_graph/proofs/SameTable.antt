@@ -16,7 +16,7 @@ use Rattle.base.proofs.Search.{search-first, total-once}
 use Rattle.logic.specs.Tower.{Tower}
 use Rattle.logic.specs.Book.{Book}
 use Rattle.logic.specs.Tables.{Step, Row}
-use Rattle.pending.specs.Pairs.{Pair, same-pair, first-pair, pair-followers, pairs, pair-weight, most-pairs}
+use Rattle.alternatives.specs.Pairs.{Pair, same-pair, first-pair, pair-followers, pairs, pair-weight, most-pairs}
 use Rattle.outcome.specs.Game.{safe, safe-step}
 use Rattle.outcome.specs.Rows.{one-row, safe-followers, row-pairs, row-step, made-row, made-table}
 use Rattle.pair_graph.specs.Graph.{Graph, allowed-to, SafePair, Classes}

@@ -14,8 +14,8 @@ use Rattle.logic.specs.Tower.{Tower, Listed}
 use Rattle.logic.specs.Book.{Book}
 use Rattle.logic.specs.Runs.{leads}
 use Rattle.logic.proofs.Leads.{leads-nil, leads-step, leads-stuck, leads-one}
-use Rattle.pending.specs.Pairs.{Pair, pair-step, pairs, first-pair, over-pairs}
-use Rattle.pending.proofs.Steps.{pair-step-out}
+use Rattle.alternatives.specs.Pairs.{Pair, pair-step, pairs, first-pair, over-pairs}
+use Rattle.alternatives.proofs.Steps.{pair-step-out}
 use Rattle.outcome.specs.Game.{safe, safe-step, fine}
 use Rattle.outcome.specs.Rows.{Two, alike-for, twos, last-split, one-row}
 

@@ -16,7 +16,7 @@ use Rattle.base.proofs.Answers.{if-on, if-refuses, then-on, then-stays}
 use Rattle.base.specs.declared.Reason.{Reason}
 use Rattle.base.specs.declared.Reason.the-variants.{Broken}
 use Rattle.base.specs.declared.Refusal.{Refusal}
-use Rattle.base.specs.declared.Refusal.the-variants.{Range, Pairs, NoTable, Layout, Output}
+use Rattle.base.specs.declared.Refusal.the-variants.{Range, Pairs, NoTable, Layout, Output, Alternatives}
 use Rattle.base.specs.declared.BookAnswer.the-variants as Book
 use Rattle.base.specs.declared.BookAnswer.{BookAnswer}
 use Rattle.base.specs.declared.MakeAnswer.{MakeAnswer}
@@ -26,7 +26,7 @@ use Rattle.base.specs.declared.Verdict.{Verdict}
 use Rattle.base.specs.declared.Verdict.the-variants as Check
 use Rattle.logic.specs.Tower.{Tower, layout-of, most-marks}
 use Rattle.logic.specs.Book.{Book}
-use Rattle.logic.specs.Tables.{Table, Allows, Good, GoodAllow, IsMade}
+use Rattle.logic.specs.Tables.{Table, rows-tower, Allows, Good, GoodAllow, IsMade}
 use Rattle.logic.specs.TableFile.{table-file}
 use Rattle.logic.proofs.Canonical.{good-follows, made-fewest}
 use Rattle.logic.proofs.TableFile.{Fits, made-fits}
@@ -36,20 +36,20 @@ use Rattle.reading.specs.TableReading.{rows-of, table-of, read-table}
 use Rattle.reading.proofs.FitInput.{tower-fits, table-read, laid-out-read}
 use Rattle.reading.proofs.HeldTable.{FileHolds, file-holds}
 use Rattle.reading.proofs.TableReading.{file-laid-out, file-table, made-same-file}
-use Rattle.pending.specs.Pairs.{most-pairs}
+use Rattle.alternatives.specs.Pairs.{most-pairs}
 use Rattle.outcome.specs.Areas.{book-areas, make-areas, check-areas}
 use Rattle.outcome.specs.ReadBook.{book-answer, book-under, read-outcome}
 use Rattle.outcome.specs.Check.{Finding, good-table, judge, checked-file, verdict, check-outcome}
 use Rattle.outcome.specs.Make.{table-for, made-file, written, make-outcome}
-use Rattle.outcome.specs.Reached.{ReachedPair, ReachedItem, MoreThan}
+use Rattle.outcome.specs.Reached.{ReachedPair, ReachedItem, MoreThan, GivesOver}
 use Rattle.outcome.specs.Calls.{FitFiles, Fit, FitTable, MadeCall}
-use Rattle.outcome.specs.VerdictRight.{FirstReason, by-rows, too-many, reason-e, good}
+use Rattle.outcome.specs.VerdictRight.{Judgeable, FirstReason, by-rows, too-many, too-wide, reason-e, good}
 use Rattle.outcome.specs.MadeRight as Right
 use Rattle.outcome.specs.MadeRight.{RightTable}
-use Rattle.outcome.specs.RightAnswer.{RightRead, read-area, read-range, read-refused, read-given, RightMake, make-area, make-tower, make-book, make-pairs, make-none, make-room, make-made, RightCheck, check-area, check-tower, check-book, check-layout, check-judged}
-use Rattle.outcome.specs.Shown.{HoldsGood, NoneGood, TooManyPairs, MadeWell, EqualExactly, FewestRows, MakesTable}
-use Rattle.outcome.proofs.Checker.{judged, judge-is, accepted-good, good-accepted}
-use Rattle.outcome.proofs.Maker.{table-right, table-only, no-table-out, over-out}
+use Rattle.outcome.specs.RightAnswer.{RightRead, read-area, read-range, read-refused, read-given, RightMake, make-area, make-tower, make-book, make-pairs, make-wide, make-none, make-room, make-made, RightCheck, check-area, check-tower, check-book, check-layout, check-judged}
+use Rattle.outcome.specs.Shown.{HoldsGood, NoneGood, TooManyPairs, TooManyAlternatives, MadeWell, EqualExactly, FewestRows, MakesTable}
+use Rattle.outcome.proofs.Checker.{Many, Wide, judged, judge-is, accepted-good, good-accepted}
+use Rattle.outcome.proofs.Maker.{table-right, table-only, no-table-out, over-out, wide-out}
 use Rattle.outcome.proofs.CallLaws.{made-call, refused-call, call-refused, check-call, accepted-files}
 use Rattle.outcome.proofs.Refusals.{One, make-enough, make-short, check-enough, check-short, book-enough, book-short}
 use Rattle.outcome.proofs.Refusals.{table-only as layout-only}
@@ -112,31 +112,38 @@ accepted-holds tower-file text file e =
 pub good-or-size : (tower-file text file : List ℕ) (areas : List (List ℕ)) → long-enough check-areas areas ≡ true
     → (holds : HoldsGood tower-file text file)
     → (check-outcome tower-file text file areas .answer ≡ Check.Good)
-    ⊎ ((check-outcome tower-file text file areas .answer ≡ Check.Refused Pairs)
+    ⊎ (((check-outcome tower-file text file areas .answer ≡ Check.Refused Pairs)
     × MoreThan most-pairs (ReachedItem (holds .tower) (holds .book) (holds .table)))
+    ⊎ ((check-outcome tower-file text file areas .answer ≡ Check.Refused Alternatives)
+    × GivesOver (rows-tower (holds .tower) (holds .table)) (holds .book)))
 unfolding verdict
 good-or-size tower-file text file areas enough holds =
-    go
-    (good-accepted (holds .tower) (holds .book) (holds .table)
-    (judgeable tower-file text file (holds .tower) (holds .book) (holds .table) (holds .fit) (holds .laid)) (holds .good))
+    go (good-accepted (holds .tower) (holds .book) (holds .table) known (holds .good))
   where
+    known : Judgeable (holds .tower) (holds .book) (holds .table)
+    known = judgeable tower-file text file (holds .tower) (holds .book) (holds .table) (holds .fit) (holds .laid)
+
     says : check-outcome tower-file text file areas .answer ≡ verdict (judge (holds .tower) (holds .book) (holds .table))
     says = check-call tower-file text file areas (holds .tower) (holds .book) (holds .table) (holds .fit) (holds .laid) enough
 
-    go : ((judge (holds .tower) (holds .book) (holds .table) ≡ give good-table) × (MoreThan most-pairs (ReachedItem (holds .tower) (holds .book) (holds .table)) → ⊥))
-        ⊎ ((judge (holds .tower) (holds .book) (holds .table) ≡ refuse Pairs) × MoreThan most-pairs (ReachedItem (holds .tower) (holds .book) (holds .table)))
+    go : ((judge (holds .tower) (holds .book) (holds .table) ≡ give good-table) × (Many (holds .tower) (holds .book) (holds .table) known → ⊥)
+        × (Wide (holds .tower) (holds .book) (holds .table) known → ⊥))
+        ⊎ (((judge (holds .tower) (holds .book) (holds .table) ≡ refuse Pairs) × Many (holds .tower) (holds .book) (holds .table) known)
+        ⊎ ((judge (holds .tower) (holds .book) (holds .table) ≡ refuse Alternatives) × Wide (holds .tower) (holds .book) (holds .table) known))
         → (check-outcome tower-file text file areas .answer ≡ Check.Good)
-        ⊎ ((check-outcome tower-file text file areas .answer ≡ Check.Refused Pairs) × MoreThan most-pairs (ReachedItem (holds .tower) (holds .book) (holds .table)))
-    go (inl (e, few)) = inl (says ∙ ap verdict e)
-    go (inr (e, many)) = inr (says ∙ ap verdict e, many)
+        ⊎ (((check-outcome tower-file text file areas .answer ≡ Check.Refused Pairs) × Many (holds .tower) (holds .book) (holds .table) known)
+        ⊎ ((check-outcome tower-file text file areas .answer ≡ Check.Refused Alternatives) × Wide (holds .tower) (holds .book) (holds .table) known))
+    go (inl (e, few, narrow)) = inl (says ∙ ap verdict e)
+    go (inr (inl (e, many))) = inr (inl (says ∙ ap verdict e, many))
+    go (inr (inr (e, wide))) = inr (inr (says ∙ ap verdict e, wide))
 
 pub checks : (tower-file text file : List ℕ) (areas : List (List ℕ)) (tower : Tower) (book : Book) (table : Table)
     → FitFiles tower-file text tower book → FitTable tower file table → long-enough check-areas areas ≡ true
-    → (MoreThan most-pairs (ReachedItem tower book table) → ⊥)
+    → (MoreThan most-pairs (ReachedItem tower book table) → ⊥) → (GivesOver (rows-tower tower table) book → ⊥)
     → (check-outcome tower-file text file areas .answer ≡ Check.Good)
     ⊎ ((why : Reason) × (check-outcome tower-file text file areas .answer ≡ Check.NotGood why))
 unfolding verdict
-checks tower-file text file areas tower book table fit laid enough few =
+checks tower-file text file areas tower book table fit laid enough few narrow =
     go (judge tower book table) (judged tower book table (judgeable tower-file text file tower book table fit laid))
     (check-call tower-file text file areas tower book table fit laid enough)
   where
@@ -145,8 +152,9 @@ checks tower-file text file areas tower book table fit laid enough few =
         ⊎ ((why : Reason) × (check-outcome tower-file text file areas .answer ≡ Check.NotGood why))
     go o (by-rows q first) e = inr (q, e)
     go o (too-many right many) e = absurd (few many)
-    go o (reason-e right not-many wrong) e = inr (Broken, e)
-    go o (good g not-many) e = inl e
+    go o (too-wide right not-many wide) e = absurd (narrow wide)
+    go o (reason-e right not-many not-wide wrong) e = inr (Broken, e)
+    go o (good g not-many not-wide) e = inl e
 
 -- the checker's answer in every case
 module _ (tower-file text file : List ℕ) (areas : List (List ℕ)) where
@@ -216,14 +224,16 @@ module _ (tower-file text file : List ℕ) (areas : List (List ℕ)) where
 -- ---- the maker
 
 pub makes : (tower-file text : List ℕ) (tower : Tower) (book : Book) → FitFiles tower-file text tower book
-    → (MoreThan most-pairs (ReachedPair tower book) → ⊥) → (table : Table) → Good tower book table → MakesTable tower-file text tower book
-makes tower-file text tower book fit few table is-good =
+    → (MoreThan most-pairs (ReachedPair tower book) → ⊥) → (GivesOver tower book → ⊥) → (table : Table) → Good tower book table
+    → MakesTable tower-file text tower book
+makes tower-file text tower book fit few narrow table is-good =
     go (table-for tower book) (table-right tower book (makeable tower-file text tower book fit)) refl
   where
     go : (o : Answer Table) → RightTable tower book o → table-for tower book ≡ o → MakesTable tower-file text tower book
     go o (Right.too-many many) e = absurd (few many)
-    go o (Right.none-good not-many lost) e = absurd (lost table is-good)
-    go o (Right.made t not-many is) e = makes-table tower-file text tower book fit t is e
+    go o (Right.too-wide not-many wide) e = absurd (narrow wide)
+    go o (Right.none-good not-many not-wide lost) e = absurd (lost table is-good)
+    go o (Right.made t not-many not-wide is) e = makes-table tower-file text tower book fit t is e
 
 -- the maker's answer in every case
 module _ (tower-file text output : List ℕ) (areas : List (List ℕ)) where
@@ -245,9 +255,9 @@ module _ (tower-file text output : List ℕ) (areas : List (List ℕ)) where
 
   -- a made table is given
   made-given : (tower : Tower) (book : Book) → FitFiles tower-file text tower book → (MoreThan most-pairs (ReachedPair tower book) → ⊥)
-      → (table : Table) → IsMade tower book table → table-for tower book ≡ give table
-  made-given tower book fit few table is =
-      table-only tower book (makeable tower-file text tower book fit) (give table) (Right.made table few is)
+      → (GivesOver tower book → ⊥) → (table : Table) → IsMade tower book table → table-for tower book ≡ give table
+  made-given tower book fit few narrow table is =
+      table-only tower book (makeable tower-file text tower book fit) (give table) (Right.made table few narrow is)
 
   pub make-right : RightMake tower-file text output areas (make-outcome tower-file text output areas .answer)
   make-right =
@@ -263,17 +273,21 @@ module _ (tower-file text output : List ℕ) (areas : List (List ℕ)) where
           → RightMake tower-file text output areas (make-outcome tower-file text output areas .answer)
       by-table enough tower book fit _ (Right.too-many many) e =
           answer-by (Refused Pairs) (refused-call tower-file text output areas tower book fit enough Pairs e) (make-pairs enough tower book fit many)
-      by-table enough tower book fit _ (Right.none-good few lost) e =
-          answer-by (Refused NoTable) (refused-call tower-file text output areas tower book fit enough NoTable e) (make-none enough tower book fit few lost)
-      by-table enough tower book fit _ (Right.made table few is) e =
+      by-table enough tower book fit _ (Right.too-wide few wide) e =
+          answer-by (Refused Alternatives) (refused-call tower-file text output areas tower book fit enough Alternatives e)
+          (make-wide enough tower book fit few wide)
+      by-table enough tower book fit _ (Right.none-good few narrow lost) e =
+          answer-by (Refused NoTable) (refused-call tower-file text output areas tower book fit enough NoTable e)
+          (make-none enough tower book fit few narrow lost)
+      by-table enough tower book fit _ (Right.made table few narrow is) e =
           whether (ltb (length output) (length (table-file (layout-of tower-file) (tower .states) (tower .actions) table)))
           (λ short.
           let lt = ltb-true (length output) (length (table-file (layout-of tower-file) (tower .states) (tower .actions) table)) short in
-          answer-by (Refused Output) (table-no-room tower-file text tower book fit table e output areas enough lt) (make-room enough tower book fit few table is lt))
+          answer-by (Refused Output) (table-no-room tower-file text tower book fit table e output areas enough lt) (make-room enough tower book fit few narrow table is lt))
           (λ room.
           let le = ltb-false (length output) (length (table-file (layout-of tower-file) (tower .states) (tower .actions) table)) room in
           answer-by (Make.Made (length (table-file (layout-of tower-file) (tower .states) (tower .actions) table)))
-          (table-answered tower-file text tower book fit table e output areas enough le) (make-made enough tower book fit few table is le))
+          (table-answered tower-file text tower book fit table e output areas enough le) (make-made enough tower book fit few narrow table is le))
 
       by-book : long-enough make-areas areas ≡ true → (tower : Tower) → read-tower tower-file ≡ give tower → (o : Answer Book)
           → read-book (tower .marks) text ≡ o → RightMake tower-file text output areas (make-outcome tower-file text output areas .answer)
@@ -294,13 +308,16 @@ module _ (tower-file text output : List ℕ) (areas : List (List ℕ)) where
   make-only _ (make-pairs enough tower book fit many) =
       refused-call tower-file text output areas tower book fit enough Pairs
       (table-only tower book (makeable tower-file text tower book fit) (refuse Pairs) (Right.too-many many))
-  make-only _ (make-none enough tower book fit few lost) =
+  make-only _ (make-wide enough tower book fit few wide) =
+      refused-call tower-file text output areas tower book fit enough Alternatives
+      (table-only tower book (makeable tower-file text tower book fit) (refuse Alternatives) (Right.too-wide few wide))
+  make-only _ (make-none enough tower book fit few narrow lost) =
       refused-call tower-file text output areas tower book fit enough NoTable
-      (table-only tower book (makeable tower-file text tower book fit) (refuse NoTable) (Right.none-good few lost))
-  make-only _ (make-room enough tower book fit few table is lt) =
-      table-no-room tower-file text tower book fit table (made-given tower book fit few table is) output areas enough lt
-  make-only _ (make-made enough tower book fit few table is le) =
-      table-answered tower-file text tower book fit table (made-given tower book fit few table is) output areas enough le
+      (table-only tower book (makeable tower-file text tower book fit) (refuse NoTable) (Right.none-good few narrow lost))
+  make-only _ (make-room enough tower book fit few narrow table is lt) =
+      table-no-room tower-file text tower book fit table (made-given tower book fit few narrow table is) output areas enough lt
+  make-only _ (make-made enough tower book fit few narrow table is le) =
+      table-answered tower-file text tower book fit table (made-given tower book fit few narrow table is) output areas enough le
 
 pub same-made : (tower-file text : List ℕ) (n m : ℕ) (file other-file : List ℕ) → MadeCall tower-file text n file
     → MadeCall tower-file text m other-file → (n ≡ m) × (file ≡ other-file)
@@ -352,6 +369,18 @@ beyond-size tower-file text output areas e =
           many = over-out (it .tower) (it .book) (makeable tower-file text (it .tower) (it .book) (it .fit)) f;
         }
 
+pub beyond-alternatives : (tower-file text output : List ℕ) (areas : List (List ℕ))
+    → make-outcome tower-file text output areas .answer ≡ Refused Alternatives → TooManyAlternatives tower-file text
+unfolding One some-of
+beyond-alternatives tower-file text output areas e =
+    of-table
+    (refused-table tower-file text output areas Alternatives (λ f. never-both f refl) (λ f. let z : _≡_ {A = ℕ} 0 1 = cc in omega arith) e)
+  where
+    of-table : (it : Fit tower-file text) × (table-for (it .tower) (it .book) ≡ refuse Alternatives) → TooManyAlternatives tower-file text
+    of-table (it, f) =
+        let (few, wide) = wide-out (it .tower) (it .book) (makeable tower-file text (it .tower) (it .book) (it .fit)) f in
+        record { tower = it .tower; book = it .book; fit = it .fit; few = few; wide = wide }
+
 -- ---- what was made
 
 -- what was made for the tower and the book of fit files
@@ -364,6 +393,7 @@ well-for tower-file text n file tower book fit it =
       table = table;
       fit = fit;
       few = it .few;
+      narrow = it .narrow;
       size = it .size;
       laid = laid;
       made = it .given .made;

@@ -2,7 +2,7 @@
 -- contracts of the entries are equations: `read-outcome`, `make-outcome`, `check-outcome`, `follow-outcome` and `log-outcome`. The words are those
 -- of crate `logic`; nothing here speaks of how an answer is found. Where the other words stand, in specs/ here:
 --   `FitFiles`, `FitTable`, `MadeCall`: Calls · the right answer of each entry: RightAnswer, with `FirstReason` in VerdictRight · what holds of every
---   call: EveryCall · what an answer shows: Shown · `MoreThan` and what is reached: Reached · the follower: FollowChain · the log: LoggedRun.
+--   call: EveryCall · what an answer shows: Shown · `MoreThan`, `GivesOver` and what is reached: Reached · the follower: FollowChain · the log: LoggedRun.
 -- Numbers and places of answers are in base/specs/Answers.antt. The proofs are in Answering.antt, Refusals.antt, Following.antt and
 -- Logs.antt.
 use Prim.Native.Nat.{ℕ, _≤_}
@@ -15,7 +15,7 @@ use Rattle.base.specs.Bytes.{long-enough}
 use Rattle.base.specs.Answers.{book-said, make-said, verdict-said, follow-said, log-said, Answer, give}
 use Rattle.base.specs.declared.Reason.{Reason}
 use Rattle.base.specs.declared.Refusal.{Refusal}
-use Rattle.base.specs.declared.Refusal.the-variants.{Pairs, NoTable, Area}
+use Rattle.base.specs.declared.Refusal.the-variants.{Pairs, NoTable, Area, Alternatives}
 use Rattle.base.specs.declared.BookAnswer.{BookAnswer}
 use Rattle.base.specs.declared.BookAnswer.the-variants as Book
 use Rattle.base.specs.declared.MakeAnswer.{MakeAnswer}
@@ -28,27 +28,27 @@ use Rattle.base.specs.declared.LogAnswer.{LogAnswer}
 use Rattle.base.specs.declared.LogAnswer.the-variants as Logged
 use Rattle.logic.specs.Tower.{Tower, most-marks}
 use Rattle.logic.specs.Book.{Book, nodes}
-use Rattle.logic.specs.Tables.{Table, Allows, Good, GoodAllow}
+use Rattle.logic.specs.Tables.{Table, rows-tower, Allows, Good, GoodAllow}
 use Rattle.reading.specs.BookReading.{read-book}
 use Rattle.reading.specs.LogReading.{read-log}
 use Rattle.reading.specs.LogSpelling.{RightLog}
 use Rattle.reading.specs.declared.Stroke.{Stroke}
 use Rattle.reading.proofs.LogRight.{log-exactly}
 use Rattle.reading.specs.TableReading.{laid-out, table-of}
-use Rattle.pending.specs.Pairs.{most-pairs}
+use Rattle.alternatives.specs.Pairs.{most-pairs}
 use Rattle.outcome.specs.Areas.{book-areas, make-areas, check-areas}
 use Rattle.outcome.specs.ReadBook.{read-outcome}
 use Rattle.outcome.specs.Make.{make-outcome}
 use Rattle.outcome.specs.Check.{Finding, verdict, check-outcome}
 use Rattle.outcome.specs.Follow.{follow-outcome}
 use Rattle.outcome.specs.Log.{log-outcome}
-use Rattle.outcome.specs.Reached.{ReachedPair, ReachedItem, MoreThan}
+use Rattle.outcome.specs.Reached.{ReachedPair, ReachedItem, MoreThan, GivesOver}
 use Rattle.outcome.specs.VerdictRight.{FirstReason}
 use Rattle.outcome.specs.Calls.{FitFiles, FitTable, MadeCall}
 use Rattle.outcome.specs.EveryCall.{book-numbers, make-numbers, check-numbers, follow-numbers, log-numbers, RefusesWith, AreasRight}
 use Rattle.outcome.specs.FollowChain.{FollowsTo, Chain}
-use Rattle.outcome.specs.RightAnswer.{RightRead, read-given, RightMake, make-pairs, make-none, RightCheck, check-judged, RightFollow, RightLogged}
-use Rattle.outcome.specs.Shown.{HoldsGood, NoneGood, TooManyPairs, MadeWell, EqualExactly, FewestRows, MakesTable, FinalRow, NamedLine, LogUnbroken}
+use Rattle.outcome.specs.RightAnswer.{RightRead, read-given, RightMake, make-pairs, make-wide, make-none, RightCheck, check-judged, RightFollow, RightLogged}
+use Rattle.outcome.specs.Shown.{HoldsGood, NoneGood, TooManyPairs, TooManyAlternatives, MadeWell, EqualExactly, FewestRows, MakesTable, FinalRow, NamedLine, LogUnbroken}
 use Rattle.outcome.proofs.CallLaws.{accepted-call}
 use Rattle.outcome.proofs.Refusals as Refusals
 use Rattle.outcome.proofs.Answering as Answering
@@ -120,19 +120,22 @@ pub reads : (marks : ℕ) (text : List ℕ) (areas : List (List ℕ)) (book : Bo
     → long-enough book-areas areas ≡ true → read-outcome marks text areas .answer ≡ Book.Read (length book) (length (nodes book))
 reads marks text areas book few e enough = Answering.read-only marks text areas _ (read-given enough few book e)
 
--- the maker: with not more than 1,000 pairs and some good table it makes one, and says 16 exactly where the output is shorter
+-- the maker: with pairs that count no more than 1,000, of which none gives over 16 alternatives, and some good table it makes one, and says 16
+-- exactly where the output is shorter
 pub makes : (tower-file text : List ℕ) (tower : Tower) (book : Book) → FitFiles tower-file text tower book
-    → (MoreThan most-pairs (ReachedPair tower book) → ⊥) → (table : Table) → Good tower book table → MakesTable tower-file text tower book
-makes tower-file text tower book fit few table good = Answering.makes tower-file text tower book fit few table good
+    → (MoreThan most-pairs (ReachedPair tower book) → ⊥) → (GivesOver tower book → ⊥) → (table : Table) → Good tower book table
+    → MakesTable tower-file text tower book
+makes tower-file text tower book fit few narrow table good = Answering.makes tower-file text tower book fit few narrow table good
 
--- the checker: with not more than 1,000 rows with what is pending it says that the table is good, or the reason why not
+-- the checker: with rows with what is pending that count no more than 1,000, of which none gives over 16 alternatives, it says that the table is
+-- good, or the reason why not
 pub checks : (tower-file text file : List ℕ) (areas : List (List ℕ)) (tower : Tower) (book : Book) (table : Table)
     → FitFiles tower-file text tower book → FitTable tower file table → long-enough check-areas areas ≡ true
-    → (MoreThan most-pairs (ReachedItem tower book table) → ⊥)
+    → (MoreThan most-pairs (ReachedItem tower book table) → ⊥) → (GivesOver (rows-tower tower table) book → ⊥)
     → (check-outcome tower-file text file areas .answer ≡ Check.Good)
     ⊎ ((why : Reason) × (check-outcome tower-file text file areas .answer ≡ Check.NotGood why))
-checks tower-file text file areas tower book table fit laid enough few =
-    Answering.checks tower-file text file areas tower book table fit laid enough few
+checks tower-file text file areas tower book table fit laid enough few narrow =
+    Answering.checks tower-file text file areas tower book table fit laid enough few narrow
 
 -- the follower: it answers row s exactly if the file is laid out, row and action lie inside, and the table allows that action there with
 -- target row s
@@ -180,13 +183,15 @@ pub accepts-only-good : (tower-file text file : List ℕ) (areas : List (List �
     → HoldsGood tower-file text file
 accepts-only-good tower-file text file areas e = Answering.accepted-holds tower-file text file (accepted-call tower-file text file areas e)
 
--- 'and turns down a good one only for the stated size.'
+-- 'and turns down a good one only for the stated size.' 02, item 3: 'with 20 beside 11 as a refusal for size.'
 
 pub good-or-size : (tower-file text file : List ℕ) (areas : List (List ℕ)) → long-enough check-areas areas ≡ true
     → (holds : HoldsGood tower-file text file)
     → (check-outcome tower-file text file areas .answer ≡ Check.Good)
-    ⊎ ((check-outcome tower-file text file areas .answer ≡ Check.Refused Pairs)
+    ⊎ (((check-outcome tower-file text file areas .answer ≡ Check.Refused Pairs)
     × MoreThan most-pairs (ReachedItem (holds .tower) (holds .book) (holds .table)))
+    ⊎ ((check-outcome tower-file text file areas .answer ≡ Check.Refused Alternatives)
+    × GivesOver (rows-tower (holds .tower) (holds .table)) (holds .book)))
 good-or-size tower-file text file areas enough holds = Answering.good-or-size tower-file text file areas enough holds
 
 -- The checker's answer in full: on fit files it is the first reason that holds, and no other.
@@ -203,24 +208,33 @@ pub none-exists : (tower-file text output : List ℕ) (areas : List (List ℕ))
     → make-outcome tower-file text output areas .answer ≡ Refused NoTable → NoneGood tower-file text
 none-exists tower-file text output areas e = Answering.none-exists tower-file text output areas e
 
--- 'and for size only beyond the 1,000 pairs of our paper.'
+-- 'and for size only beyond the 1,000 pairs of our paper,' or with 20 beyond the 16 alternatives of 02, item 3.
 
 pub beyond-size : (tower-file text output : List ℕ) (areas : List (List ℕ))
     → make-outcome tower-file text output areas .answer ≡ Refused Pairs → TooManyPairs tower-file text
 beyond-size tower-file text output areas e = Answering.beyond-size tower-file text output areas e
 
--- Both exactly: with areas that are long enough, each is said wherever its condition holds and nothing before it does.
+pub beyond-alternatives : (tower-file text output : List ℕ) (areas : List (List ℕ))
+    → make-outcome tower-file text output areas .answer ≡ Refused Alternatives → TooManyAlternatives tower-file text
+beyond-alternatives tower-file text output areas e = Answering.beyond-alternatives tower-file text output areas e
+
+-- All three exactly: with areas that are long enough, each is said wherever its condition holds and nothing before it does.
 
 pub says-beyond-size : (tower-file text output : List ℕ) (areas : List (List ℕ)) → long-enough make-areas areas ≡ true
     → TooManyPairs tower-file text → make-outcome tower-file text output areas .answer ≡ Refused Pairs
 says-beyond-size tower-file text output areas enough over =
     Answering.make-only tower-file text output areas _ (make-pairs enough (over .tower) (over .book) (over .fit) (over .many))
 
+pub says-beyond-alternatives : (tower-file text output : List ℕ) (areas : List (List ℕ)) → long-enough make-areas areas ≡ true
+    → TooManyAlternatives tower-file text → make-outcome tower-file text output areas .answer ≡ Refused Alternatives
+says-beyond-alternatives tower-file text output areas enough over =
+    Answering.make-only tower-file text output areas _ (make-wide enough (over .tower) (over .book) (over .fit) (over .few) (over .wide))
+
 pub says-none-exists : (tower-file text output : List ℕ) (areas : List (List ℕ)) → long-enough make-areas areas ≡ true
     → (lost : NoneGood tower-file text) → (MoreThan most-pairs (ReachedPair (lost .tower) (lost .book)) → ⊥)
-    → make-outcome tower-file text output areas .answer ≡ Refused NoTable
-says-none-exists tower-file text output areas enough lost few =
-    Answering.make-only tower-file text output areas _ (make-none enough (lost .tower) (lost .book) (lost .fit) few (lost .no-table))
+    → (GivesOver (lost .tower) (lost .book) → ⊥) → make-outcome tower-file text output areas .answer ≡ Refused NoTable
+says-none-exists tower-file text output areas enough lost few narrow =
+    Answering.make-only tower-file text output areas _ (make-none enough (lost .tower) (lost .book) (lost .fit) few narrow (lost .no-table))
 
 -- 'What it makes is accepted, and allows every run that any good table allows.'
 

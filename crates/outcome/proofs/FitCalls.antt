@@ -1,4 +1,4 @@
--- What fit files give, and what a call shows of its files: one that made a table, or said 11 or 12, had fit files.
+-- What fit files give, and what a call shows of its files: one that made a table, or said 11, 20 or 12, had fit files.
 use Prim.Native.Nat.{ℕ, _≤_, _<_}
 use mathlib.Core.Path.{_≡_, refl, sym, _∙_, ap, subst}
 use mathlib.Core.Logic.{_↔_}
@@ -29,13 +29,13 @@ use Rattle.reading.proofs.BookLines.{book-fit}
 use Rattle.reading.proofs.TableReading.{laid-out-fits}
 use Rattle.outcome.specs.Areas.{make-areas}
 use Rattle.outcome.specs.Make.{table-for, made-file, fitting, written, make-outcome}
-use Rattle.pending.specs.Pairs.{most-pairs}
-use Rattle.outcome.specs.Reached.{ReachedPair, MoreThan}
+use Rattle.alternatives.specs.Pairs.{most-pairs}
+use Rattle.outcome.specs.Reached.{ReachedPair, MoreThan, GivesOver}
 use Rattle.outcome.specs.Calls.{FitFiles, Fit, FitTable, MadeCall}
 use Rattle.outcome.specs.VerdictRight.{Judgeable}
-use Rattle.outcome.specs.MadeRight.{Makeable, GivenTable, made}
+use Rattle.outcome.specs.MadeRight.{Makeable, GivenTable}
 use Rattle.outcome.specs.Shown.{MakesTable}
-use Rattle.outcome.proofs.Counted.{over-pairs-iff}
+use Rattle.outcome.proofs.Counted.{over-pairs-iff, over-alternatives-iff}
 use Rattle.outcome.proofs.Maker.{table-made}
 use Rattle.outcome.proofs.Accepted.{given-table}
 use Rattle.outcome.proofs.CallLaws.{made-call, file-of, of-file}
@@ -117,7 +117,7 @@ chain-fit tower-file text room r not-of-files e = by-tower (read-tower tower-fil
         absurd (not-of-files (subst (One of-files) (bad-tower q f) (tower-only (One of-files) refl refl refl refl refl tower-file .only q f)))
     by-tower (give tower) f = by-book tower f (read-book (tower .marks) text) refl
 
--- From a refusal whose number is not about the files, such as 11 and 12.
+-- From a refusal whose number is not about the files, such as 11, 20 and 12.
 pub refused-fit : (tower-file text output : List ℕ) (areas : List (List ℕ)) (r : Refusal) → (One of-files r → ⊥)
     → make-outcome tower-file text output areas .answer ≡ Make.Refused r → Fit tower-file text
 unfolding One some-of
@@ -137,6 +137,7 @@ pub record CallWrote (tower-file : List ℕ) (n : ℕ) (file : List ℕ) (tower 
   pub table : Table
   pub given : GivenTable tower book table
   pub few : MoreThan most-pairs (ReachedPair tower book) → ⊥
+  pub narrow : GivesOver tower book → ⊥
   pub same : table-file (layout-of tower-file) (tower .states) (tower .actions) table ≡ file
   pub size : length file ≡ n
 
@@ -146,13 +147,26 @@ table-few : (tower : Tower) (book : Book) → Makeable tower book → (table : T
 table-few tower book able table is many =
     never-both (over-pairs-iff tower book (able .listed) .1 many) (table-made tower book able table is .few)
 
+-- and none of them gives over 16 alternatives
+table-narrow : (tower : Tower) (book : Book) → Makeable tower book → (table : Table) → table-for tower book ≡ give table → GivesOver tower book → ⊥
+table-narrow tower book able table is wide =
+    let made = table-made tower book able table is in
+    never-both (over-alternatives-iff tower book (able .listed) (made .few) .1 wide) (made .narrow)
+
 pub wrote : (tower-file text file : List ℕ) (n : ℕ) (tower : Tower) (book : Book) → FitFiles tower-file text tower book
     → MadeCall tower-file text n file → CallWrote tower-file n file tower book
 wrote tower-file text file n tower book fit call =
     let (gives, size) = made-call tower-file text n file call in
     let (table, is, same) = file-of tower-file text file tower book fit gives in
     let able = makeable tower-file text tower book fit in
-    record { table = table; given = given-table tower book able table is; few = table-few tower book able table is; same = same; size = size }
+    record {
+      table = table;
+      given = given-table tower book able table is;
+      few = table-few tower book able table is;
+      narrow = table-narrow tower book able table is;
+      same = same;
+      size = size;
+    }
 
 -- ---- the maker makes
 

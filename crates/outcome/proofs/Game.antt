@@ -17,10 +17,10 @@ use Rattle.logic.specs.Runs.{leads, IsRun, Unbroken}
 use Rattle.logic.specs.Tables.{Table, row-at, move, AllowsAction, AllowsFrom, Allows, NoneWithheld, GoesOn, StepsRight, NoneBroken, Good}
 use Rattle.logic.proofs.Leads.{snoc-in, snoc-out}
 use Rattle.logic.proofs.Canonical.{good-arrives, good-run}
-use Rattle.pending.proofs.Weights.{pairs-few}
-use Rattle.pending.specs.Pairs.{Pair, same-pair, first-pair, pair-step, pair-followers, pairs, over-pairs, pair-weight, most-pairs}
-use Rattle.pending.proofs.Same.{same-pair-eq, same-pair-refl}
-use Rattle.pending.proofs.Steps.{pair-step-listed}
+use Rattle.alternatives.proofs.Weights.{pairs-few}
+use Rattle.alternatives.specs.Pairs.{Pair, same-pair, first-pair, pair-step, pair-followers, pairs, over-pairs, pair-weight, most-pairs}
+use Rattle.alternatives.proofs.Same.{same-pair-eq, same-pair-refl}
+use Rattle.alternatives.proofs.Steps.{pair-step-listed}
 use Rattle.outcome.specs.Game.{forced-right, can-go, fine, safe-through, last-removal, safe}
 
 module _ (tower : Tower) (book : Book) where

@@ -87,7 +87,7 @@ pub makes-exists : (tower : Tower) × ((book : Book) × MakesTable small-tower (
 makes-exists =
     let well = made-well-exists in (
       well .tower,
-      (well .book, makes small-tower (ascii book-1) (well .tower) (well .book) (well .fit) (well .few) (well .table) (well .made .good)),
+      (well .book, makes small-tower (ascii book-1) (well .tower) (well .book) (well .fit) (well .few) (well .narrow) (well .table) (well .made .good)),
     )
 
 -- A chain of the follower's answers, as the listing of outcome 1 shows it: from row 0 by action 0 to row 1, by 1 to row 3, by 2 to row 2.

@@ -20,7 +20,7 @@ use Rattle.logic.specs.Tables.{Step, Row, row-at, step-to, move, AllowsAction, 
 use Rattle.logic.specs.TableFile.{most-rows}
 use Rattle.logic.proofs.Leads.{leads-nil, leads-step, leads-stuck}
 use Rattle.logic.proofs.Canonical.{ascending-once, step-found}
-use Rattle.pending.specs.Pairs.{Pair, pairs, first-pair, pair-step}
+use Rattle.alternatives.specs.Pairs.{Pair, pairs, first-pair, pair-step}
 use Rattle.outcome.specs.Game.{forced-right, can-go, fine, safe, safe-step}
 use Rattle.outcome.specs.Rows.{one-row, safe-followers, row-pairs, row-step, made-row, made-table}
 use Rattle.outcome.proofs.Reasons.{step-in}

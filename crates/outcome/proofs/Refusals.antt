@@ -16,7 +16,7 @@ use Rattle.base.specs.declared.Reason.{Reason}
 use Rattle.base.specs.declared.Reason.the-variants.{Start, Withheld, Stopped, Broken}
 use Rattle.base.specs.declared.Reason.the-variants as Why
 use Rattle.base.specs.declared.Refusal.{Refusal}
-use Rattle.base.specs.declared.Refusal.the-variants.{TowerSize, Range, Action, Target, Mask, Grammar, Number, Mark, Limit, Timed, Pairs, NoTable, Layout, Area, Output, Outside, NotAllowed, Log}
+use Rattle.base.specs.declared.Refusal.the-variants.{TowerSize, Range, Action, Target, Mask, Grammar, Number, Mark, Limit, Timed, Pairs, NoTable, Layout, Area, Output, Outside, NotAllowed, Log, Alternatives}
 use Rattle.base.specs.declared.BookAnswer.the-variants as Book
 use Rattle.base.specs.declared.MakeAnswer.the-variants as Make
 use Rattle.base.specs.declared.Verdict.the-variants as Check
@@ -29,7 +29,7 @@ use Rattle.reading.specs.TowerReading.{read-tower}
 use Rattle.reading.specs.BookReading.{Line, no-line, line, line-at, ReadSoFar, most-bytes, usual-bound, over-number, over-mark, over-limit, judge-line, lines-step, read-lines, read-book}
 use Rattle.reading.specs.TableReading.{laid-out, rows-of, table-actions, table-of, read-table}
 use Rattle.reading.specs.LogReading.{log-from, read-log}
-use Rattle.pending.specs.Pairs.{first-pair, over-pairs}
+use Rattle.alternatives.specs.Pairs.{first-pair, over-pairs, over-alternatives}
 use Rattle.outcome.specs.Areas.{book-areas, make-areas, check-areas}
 use Rattle.outcome.specs.Game.{safe}
 use Rattle.outcome.specs.Rows.{made-table}
@@ -124,18 +124,19 @@ module _ (P : Refusal → Type 0) where
   unfolding read-log
   lines-only form log = if-only (Log (length (log-from log 0 .strokes))) _ _ (form (length (log-from log 0 .strokes))) (give-only _)
 
-  -- the maker: 11, 12, 16
-  made-only : P Pairs → P NoTable → (tower : Tower) (book : Book) → Only P (table-for tower book)
+  -- the maker: 11, 20, 12, 16
+  made-only : P Pairs → P Alternatives → P NoTable → (tower : Tower) (book : Book) → Only P (table-for tower book)
   unfolding table-for
-  made-only pairs no-table tower book =
+  made-only pairs alternatives no-table tower book =
       if-only Pairs (over-pairs tower book) _ pairs
-      (if-only NoTable (not (safe tower book (first-pair tower book))) _ no-table (give-only (made-table tower book)))
+      (if-only Alternatives (over-alternatives tower book) _ alternatives
+      (if-only NoTable (not (safe tower book (first-pair tower book))) _ no-table (give-only (made-table tower book))))
 
   fitting-only : P Output → (room : ℕ) (file : List ℕ) → Only P (fitting room file)
   unfolding fitting
   fitting-only output room file = if-only Output (ltb room (length file)) _ output (give-only file)
 
-  -- the checker: 11
+  -- the checker: 11, 20
   found-only : (q : Reason) (b : Bool) (o : Answer Finding) → Only P o → Only P (q found-if b else o)
   unfolding _found-if_else_
   found-only q true o rest = give-only (not-good q)
@@ -151,9 +152,10 @@ module _ (P : Refusal → Type 0) where
     rows-judged-only : (after : Answer Finding) → Only P after → Only P (rows-judged tower table after)
     rows-judged-only after rest = found-only Start _ _ (rows-only (below (length table)) after rest)
 
-    judge-only : P Pairs → (book : Book) → Only P (judge tower book table)
+    judge-only : P Pairs → P Alternatives → (book : Book) → Only P (judge tower book table)
     unfolding judge
-    judge-only pairs book = rows-judged-only _ (if-only Pairs _ _ pairs (found-only Broken _ _ (give-only good-table)))
+    judge-only pairs alternatives book =
+        rows-judged-only _ (if-only Pairs _ _ pairs (if-only Alternatives _ _ alternatives (found-only Broken _ _ (give-only good-table))))
 
 -- ---- the numbers
 
@@ -245,7 +247,7 @@ module _ (marks : ℕ) (text : List ℕ) (areas : List (List ℕ)) where
 -- ---- the maker
 
 abbrev making : List ℕ
-making = 1 ∷ 2 ∷ 3 ∷ 4 ∷ 5 ∷ 6 ∷ 7 ∷ 8 ∷ 9 ∷ 10 ∷ 11 ∷ 12 ∷ 16 ∷ []
+making = 1 ∷ 2 ∷ 3 ∷ 4 ∷ 5 ∷ 6 ∷ 7 ∷ 8 ∷ 9 ∷ 10 ∷ 11 ∷ 20 ∷ 12 ∷ 16 ∷ []
 
 module _ (tower-file text output : List ℕ) where
   abbrev make-chain : Answer (List ℕ)
@@ -260,7 +262,7 @@ module _ (tower-file text output : List ℕ) where
       then-only (One making) (read-book (tower .marks) text) _
       (book-only (One making) (λ l. refl) (λ l. refl) (λ l. refl) (λ l. refl) (λ l. refl) (tower .marks) text)
       (λ book.
-      then-only (One making) (table-for tower book) _ (made-only (One making) refl refl tower book)
+      then-only (One making) (table-for tower book) _ (made-only (One making) refl refl refl tower book)
       (λ table. give-only (One making) _))))
       (λ file. fitting-only (One making) refl (length output) file)
 
@@ -351,7 +353,7 @@ make-same-answer tower-file text output other areas lent enough lent-enough same
 -- ---- the checker
 
 abbrev checking : List ℕ
-checking = 1 ∷ 2 ∷ 3 ∷ 4 ∷ 5 ∷ 6 ∷ 7 ∷ 8 ∷ 9 ∷ 10 ∷ 13 ∷ 14 ∷ 11 ∷ []
+checking = 1 ∷ 2 ∷ 3 ∷ 4 ∷ 5 ∷ 6 ∷ 7 ∷ 8 ∷ 9 ∷ 10 ∷ 13 ∷ 14 ∷ 11 ∷ 20 ∷ []
 
 -- 14 is one of them
 finding-with : (x : Finding) → RefusesWith checking (verdict-said (verdict (give x)))
@@ -369,7 +371,7 @@ module _ (tower-file text file : List ℕ) where
       (book-only (One checking) (λ l. refl) (λ l. refl) (λ l. refl) (λ l. refl) (λ l. refl) (tower .marks) text)
       (λ book.
       then-only (One checking) (read-table tower file) _ (table-only (One checking) refl tower file)
-      (λ table. judge-only (One checking) tower table refl book)))
+      (λ table. judge-only (One checking) tower table refl refl book)))
 
   check-inner : RefusesWith checking (verdict-said (verdict (checked-file tower-file text file)))
   unfolding verdict verdict-said

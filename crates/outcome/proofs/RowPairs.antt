@@ -16,8 +16,8 @@ use Rattle.logic.specs.Book.{Book}
 use Rattle.logic.specs.Runs.{leads}
 use Rattle.logic.specs.TableFile.{most-rows}
 use Rattle.logic.proofs.Leads.{leads-nil, leads-out, snoc-in}
-use Rattle.pending.proofs.Weights.{pairs-most}
-use Rattle.pending.specs.Pairs.{Pair, pairs, pair-weight, most-pairs, first-pair, pair-followers, same-pair}
+use Rattle.alternatives.proofs.Weights.{pairs-most}
+use Rattle.alternatives.specs.Pairs.{Pair, pairs, pair-weight, most-pairs, first-pair, pair-followers, same-pair}
 use Rattle.outcome.specs.Game.{safe, safe-step}
 use Rattle.outcome.specs.Rows.{one-row, safe-followers, row-pairs}
 use Rattle.outcome.proofs.Alike.{Known, one-row-same, safe-step-out, safe-met, safe-listed, one-row-step}

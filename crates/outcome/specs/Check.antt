@@ -1,4 +1,4 @@
--- The checker's outcome: 15, tower, book, 13, 14 a, 14 b to d by row, 11 counted over rows with what is pending, 14 e.
+-- The checker's outcome: 15, tower, book, 13, 14 a, 14 b to d by row, 11 counted over rows with what is pending, 20, 14 e.
 use Prim.Native.Nat.{ℕ}
 use mathlib.Core.Bool.{Bool, _&&_, not}
 use mathlib.Core.List.{List, [], _∷_}
@@ -11,7 +11,7 @@ use Rattle.base.specs.Answers.{Answer, refuse, give, _if_else_, _then_}
 use Rattle.base.specs.declared.Reason.{Reason}
 use Rattle.base.specs.declared.Reason.the-variants.{Start, Withheld, Stopped, Broken}
 use Rattle.base.specs.declared.Reason.the-variants as Why
-use Rattle.base.specs.declared.Refusal.the-variants.{Pairs, Area}
+use Rattle.base.specs.declared.Refusal.the-variants.{Pairs, Area, Alternatives}
 use Rattle.base.specs.declared.Verdict.{Verdict}
 use Rattle.base.specs.declared.Verdict.the-variants as Check
 use Rattle.logic.specs.Tower.{Tower, controllable, goes-on}
@@ -20,7 +20,7 @@ use Rattle.logic.specs.Tables.{Step, Table, row-at, move, rows-tower}
 use Rattle.reading.specs.TowerReading.{read-tower}
 use Rattle.reading.specs.BookReading.{read-book}
 use Rattle.reading.specs.TableReading.{read-table}
-use Rattle.pending.specs.Pairs.{Pair, pair-step, pairs, over-pairs}
+use Rattle.alternatives.specs.Pairs.{Pair, pair-step, pairs, over-pairs, over-alternatives}
 use Rattle.outcome.specs.Areas.{check-areas}
 
 -- What is found of a table that is judged: that it is good, or the first reason why not.
@@ -70,13 +70,13 @@ judge-rows tower table (r ∷ rs) after = judge-row tower table r (judge-rows to
 abbrev pub rows-judged : Tower → Table → Answer Finding → Answer Finding
 rows-judged tower table after = Start found-if wrong-start tower table else judge-rows tower table (below (length table)) after
 
--- ---- 11 and reason e: rows with what is pending, which are the pairs of the table as a tower
+-- ---- 11, 20 and reason e: rows with what is pending, which are the pairs of the table as a tower
 
--- 11: more than 1,000 rows with what is pending are reached over unbroken allowed steps
+-- 11: the rows with what is pending that are reached over unbroken allowed steps count over 1,000
 unfoldable pub over-items : Tower → Book → Table → Bool
 over-items tower book table = over-pairs (rows-tower tower table) book
 
--- an action that is enabled in the pair's state makes a broken step
+-- an action that is enabled in the pair's state makes a broken step; this is asked only where 20 has found no pair over-full
 unfoldable pub broken-step : Tower → Book → Pair → ℕ → Bool
 broken-step tower book v a = is-there (tower .target (v .state) a) && not (is-there (pair-step tower book v a))
 
@@ -90,11 +90,12 @@ some-broken tower book = some-of (breaks tower book) (pairs tower book)
 
 -- ---- the verdict
 
--- a table for a tower and a book: 14 a to d; 11; 14 e, that some allowed run is broken
+-- a table for a tower and a book: 14 a to d; 11; 20, over rows that are tried by each allowed action; 14 e, that some allowed run is broken
 unfoldable pub judge : Tower → Book → Table → Answer Finding
 judge tower book table =
     rows-judged tower table
     (Pairs if over-items tower book table else
+    Alternatives if over-alternatives (rows-tower tower table) book else
     Broken found-if some-broken (rows-tower tower table) book else
     give good-table)
 

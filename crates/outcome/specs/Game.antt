@@ -1,13 +1,13 @@
 -- The safety game on the pairs: remove every pair from which a break or a stop can be forced. What is left is what a good table may reach.
 use Prim.Native.Nat.{ℕ, zero, suc}
 use mathlib.Core.Bool.{Bool, true, _&&_, _||_, not}
-use mathlib.Core.Option.{Option, none, some}
+use mathlib.Core.Option.{Option}
 use lib.ListN.{length}
 use Rattle.base.specs.Lists.{every, some-of, below, is-there, there-with, only-if}
 use Rattle.logic.specs.Tower.{Tower, controllable, goes-on}
 use Rattle.logic.specs.Book.{Book}
 use Rattle.base.specs.Search.{rest-round}
-use Rattle.pending.specs.Pairs.{Pair, pair-step, pairs}
+use Rattle.alternatives.specs.Pairs.{Pair, pair-step, pairs}
 
 -- an action that may not be withheld leads to a staying pair, if it is enabled at all
 unfoldable pub forced-right : Tower → Book → (Pair → Bool) → Pair → ℕ → Bool

@@ -1,4 +1,4 @@
--- The maker's outcome: 15; the tower; the book; 11; 12; 16.
+-- The maker's outcome: 15; the tower; the book; 11; 20; 12; 16.
 use Prim.Native.Nat.{ℕ}
 use mathlib.Core.Bool.{not}
 use mathlib.Core.List.{List}
@@ -8,7 +8,7 @@ use lib.Dec.{ltb}
 use Rattle.base.specs.Choice.{pick}
 use Rattle.base.specs.Bytes.{long-enough, cleared}
 use Rattle.base.specs.Answers.{Answer, refuse, give, _if_else_, _then_}
-use Rattle.base.specs.declared.Refusal.the-variants.{Pairs, NoTable, Area, Output}
+use Rattle.base.specs.declared.Refusal.the-variants.{Pairs, NoTable, Area, Output, Alternatives}
 use Rattle.base.specs.declared.MakeAnswer.{MakeAnswer}
 use Rattle.base.specs.declared.MakeAnswer.the-variants.{Made, Refused}
 use Rattle.logic.specs.Tower.{Tower, layout-of}
@@ -18,14 +18,15 @@ use Rattle.logic.specs.TableFile.{table-file}
 use Rattle.reading.specs.TowerReading.{read-tower}
 use Rattle.reading.specs.BookReading.{read-book}
 use Rattle.outcome.specs.Areas.{make-areas}
-use Rattle.pending.specs.Pairs.{first-pair, over-pairs}
+use Rattle.alternatives.specs.Pairs.{first-pair, over-pairs, over-alternatives}
 use Rattle.outcome.specs.Game.{safe}
 use Rattle.outcome.specs.Rows.{made-table}
 
--- the made table for a tower and a book; 11; 12
+-- the made table for a tower and a book; 11; 20; 12
 unfoldable pub table-for : Tower → Book → Answer Table
 table-for tower book =
     Pairs if over-pairs tower book else
+    Alternatives if over-alternatives tower book else
     NoTable if not (safe tower book (first-pair tower book)) else
     give (made-table tower book)
 

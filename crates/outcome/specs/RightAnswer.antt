@@ -11,7 +11,7 @@ use Rattle.base.specs.Bytes.{long-enough}
 use Rattle.base.specs.Answers.{Answer, give, refuse}
 use Rattle.base.specs.declared.Reason.{Reason}
 use Rattle.base.specs.declared.Refusal.{Refusal}
-use Rattle.base.specs.declared.Refusal.the-variants.{Range, Pairs, NoTable, Layout, Area, Output, Outside, NotAllowed, Log}
+use Rattle.base.specs.declared.Refusal.the-variants.{Range, Pairs, NoTable, Layout, Area, Output, Outside, NotAllowed, Log, Alternatives}
 use Rattle.base.specs.declared.BookAnswer.{BookAnswer}
 use Rattle.base.specs.declared.BookAnswer.the-variants as Book
 use Rattle.base.specs.declared.MakeAnswer.{MakeAnswer}
@@ -32,10 +32,10 @@ use Rattle.reading.specs.BookReading.{read-book}
 use Rattle.reading.specs.TableReading.{laid-out, rows-of, table-actions, table-of, read-table}
 use Rattle.reading.specs.LogReading.{read-log}
 use Rattle.reading.specs.declared.Stroke.{Stroke}
-use Rattle.pending.specs.Pairs.{most-pairs}
+use Rattle.alternatives.specs.Pairs.{most-pairs}
 use Rattle.outcome.specs.Areas.{book-areas, make-areas, check-areas}
 use Rattle.outcome.specs.Check.{Finding, verdict}
-use Rattle.outcome.specs.Reached.{ReachedPair, MoreThan}
+use Rattle.outcome.specs.Reached.{ReachedPair, MoreThan, GivesOver}
 use Rattle.outcome.specs.Calls.{FitFiles, FitTable}
 use Rattle.outcome.specs.VerdictRight.{RightBelow, FirstOfRows, FirstReason}
 use Rattle.outcome.specs.FollowChain.{FollowsTo}
@@ -50,7 +50,7 @@ pub data RightRead (marks : ℕ) (text : List ℕ) (areas : List (List ℕ)) : B
   read-given : long-enough book-areas areas ≡ true → marks ≤ most-marks → (book : Book) → read-book marks text ≡ give book
       → RightRead marks text areas (Book.Read (length book) (length (nodes book)))
 
--- The maker: 15; the tower; the book; 11; 12; 16; or the length of the made table's file.
+-- The maker: 15; the tower; the book; 11; 20; 12; 16; or the length of the made table's file.
 pub data RightMake (tower-file text output : List ℕ) (areas : List (List ℕ)) : MakeAnswer → Type 0 where
   make-area : long-enough make-areas areas ≡ false → RightMake tower-file text output areas (Make.Refused Area)
   make-tower : long-enough make-areas areas ≡ true → (r : Refusal) → read-tower tower-file ≡ refuse r
@@ -59,18 +59,21 @@ pub data RightMake (tower-file text output : List ℕ) (areas : List (List ℕ))
       → read-book (tower .marks) text ≡ refuse r → RightMake tower-file text output areas (Make.Refused r)
   make-pairs : long-enough make-areas areas ≡ true → (tower : Tower) (book : Book) → FitFiles tower-file text tower book
       → MoreThan most-pairs (ReachedPair tower book) → RightMake tower-file text output areas (Make.Refused Pairs)
+  make-wide : long-enough make-areas areas ≡ true → (tower : Tower) (book : Book) → FitFiles tower-file text tower book
+      → (MoreThan most-pairs (ReachedPair tower book) → ⊥) → GivesOver tower book
+      → RightMake tower-file text output areas (Make.Refused Alternatives)
   make-none : long-enough make-areas areas ≡ true → (tower : Tower) (book : Book) → FitFiles tower-file text tower book
-      → (MoreThan most-pairs (ReachedPair tower book) → ⊥) → ((table : Table) → Good tower book table → ⊥)
+      → (MoreThan most-pairs (ReachedPair tower book) → ⊥) → (GivesOver tower book → ⊥) → ((table : Table) → Good tower book table → ⊥)
       → RightMake tower-file text output areas (Make.Refused NoTable)
   make-room : long-enough make-areas areas ≡ true → (tower : Tower) (book : Book) → FitFiles tower-file text tower book
-      → (MoreThan most-pairs (ReachedPair tower book) → ⊥) → (table : Table) → IsMade tower book table
+      → (MoreThan most-pairs (ReachedPair tower book) → ⊥) → (GivesOver tower book → ⊥) → (table : Table) → IsMade tower book table
       → length output < length (table-file (layout-of tower-file) (tower .states) (tower .actions) table) → RightMake tower-file text output areas (Make.Refused Output)
   make-made : long-enough make-areas areas ≡ true → (tower : Tower) (book : Book) → FitFiles tower-file text tower book
-      → (MoreThan most-pairs (ReachedPair tower book) → ⊥) → (table : Table) → IsMade tower book table
+      → (MoreThan most-pairs (ReachedPair tower book) → ⊥) → (GivesOver tower book → ⊥) → (table : Table) → IsMade tower book table
       → length (table-file (layout-of tower-file) (tower .states) (tower .actions) table) ≤ length output
       → RightMake tower-file text output areas (Make.Made (length (table-file (layout-of tower-file) (tower .states) (tower .actions) table)))
 
--- The checker: 15; the tower; the book; 13; and then the first reason a to e that holds, 11 before e, or good.
+-- The checker: 15; the tower; the book; 13; and then the first reason a to e that holds, 11 and 20 before e, or good.
 pub data RightCheck (tower-file text file : List ℕ) (areas : List (List ℕ)) : Verdict → Type 0 where
   check-area : long-enough check-areas areas ≡ false → RightCheck tower-file text file areas (Check.Refused Area)
   check-tower : long-enough check-areas areas ≡ true → (r : Refusal) → read-tower tower-file ≡ refuse r

@@ -10,7 +10,7 @@ use Rattle.logic.specs.Tower.{Tower}
 use Rattle.logic.specs.Book.{Book}
 use Rattle.logic.specs.Tables.{Step, Row, Table}
 use Rattle.base.specs.Search.{search-from, once, rest-round}
-use Rattle.pending.specs.Pairs.{Pair, first-pair, pairs}
+use Rattle.alternatives.specs.Pairs.{Pair, first-pair, pairs}
 use Rattle.outcome.specs.Game.{safe-step}
 
 -- Two safe pairs are alike for n steps: they have equal state, and for each action both or neither allow it, and lead to pairs that are

@@ -21,11 +21,11 @@ use Rattle.reading.specs.TowerReading.{read-tower}
 use Rattle.reading.specs.TableReading.{rows-of, table-of}
 use Rattle.reading.specs.LogReading.{read-log}
 use Rattle.reading.specs.declared.Stroke.{Stroke}
-use Rattle.pending.specs.Pairs.{most-pairs}
+use Rattle.alternatives.specs.Pairs.{most-pairs}
 use Rattle.outcome.specs.Areas.{make-areas, check-areas}
 use Rattle.outcome.specs.Make.{make-outcome}
 use Rattle.outcome.specs.Check.{check-outcome}
-use Rattle.outcome.specs.Reached.{ReachedPair, MoreThan}
+use Rattle.outcome.specs.Reached.{ReachedPair, MoreThan, GivesOver}
 use Rattle.outcome.specs.Calls.{FitFiles, FitTable}
 use Rattle.outcome.specs.LoggedRun.{logged-actions, LoggedRun, FirstMisfit}
 use Rattle.outcome.specs.RightAnswer.{SoundTable}
@@ -46,21 +46,30 @@ pub record NoneGood (tower-file text : List ℕ) : Type 0 where
   pub fit : FitFiles tower-file text tower book
   pub no-table : (table : Table) → Good tower book table → ⊥
 
--- The files are fit, and more than 1,000 pairs of their tower and their book are reached.
+-- The files are fit, and pairs of their tower and their book are reached that count more than 1,000.
 pub record TooManyPairs (tower-file text : List ℕ) : Type 0 where
   pub tower : Tower
   pub book : Book
   pub fit : FitFiles tower-file text tower book
   pub many : MoreThan most-pairs (ReachedPair tower book)
 
--- The files are fit, not more than 1,000 pairs are reached, and the n bytes hold the made table of the logic for their tower and their book.
--- The checker accepts them, and their header gives the number of rows.
+-- The files are fit, the pairs that are reached count no more than 1,000, and one of them gives more than 16 alternatives.
+pub record TooManyAlternatives (tower-file text : List ℕ) : Type 0 where
+  pub tower : Tower
+  pub book : Book
+  pub fit : FitFiles tower-file text tower book
+  pub few : MoreThan most-pairs (ReachedPair tower book) → ⊥
+  pub wide : GivesOver tower book
+
+-- The files are fit, the pairs that are reached count no more than 1,000, none of them gives more than 16 alternatives, and the n bytes hold the made
+-- table of the logic for their tower and their book. The checker accepts them, and their header gives the number of rows.
 pub record MadeWell (tower-file text : List ℕ) (n : ℕ) (file : List ℕ) : Type 0 where
   pub tower : Tower
   pub book : Book
   pub table : Table
   pub fit : FitFiles tower-file text tower book
   pub few : MoreThan most-pairs (ReachedPair tower book) → ⊥
+  pub narrow : GivesOver tower book → ⊥
   pub size : length file ≡ n
   pub laid : FitTable tower file table
   pub made : IsMade tower book table

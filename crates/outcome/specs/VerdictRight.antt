@@ -1,17 +1,17 @@
--- What the checker is to say of a table for a tower and a book, in the words of the logic: the first reason a to e that holds, 11 before e.
+-- What the checker is to say of a table for a tower and a book, in the words of the logic: the first reason a to e that holds, 11 and 20 before e.
 use Prim.Native.Nat.{ℕ, _<_}
 use lib.ListN.{length}
 use Rattle.base.specs.Answers.{Answer, refuse, give}
 use Rattle.base.specs.declared.Reason.{Reason}
 use Rattle.base.specs.declared.Reason.the-variants.{Start, Withheld, Stopped, Broken}
 use Rattle.base.specs.declared.Reason.the-variants as Why
-use Rattle.base.specs.declared.Refusal.the-variants.{Pairs}
+use Rattle.base.specs.declared.Refusal.the-variants.{Pairs, Alternatives}
 use Rattle.logic.specs.Tower.{Tower, Listed}
 use Rattle.logic.specs.Book.{Book, FitBook}
-use Rattle.logic.specs.Tables.{Table, IsTable, GoodStart, NoneWithheld, StepsRight, GoesOn, NoneBroken, Good}
-use Rattle.pending.specs.Pairs.{most-pairs}
+use Rattle.logic.specs.Tables.{Table, IsTable, rows-tower, GoodStart, NoneWithheld, StepsRight, GoesOn, NoneBroken, Good}
+use Rattle.alternatives.specs.Pairs.{most-pairs}
 use Rattle.outcome.specs.Check.{Finding, good-table, not-good}
-use Rattle.outcome.specs.Reached.{ReachedItem, MoreThan}
+use Rattle.outcome.specs.Reached.{ReachedItem, MoreThan, GivesOver}
 
 -- What the checker may take for granted when it judges: a fit tower, a fit book, and bytes that are laid out as a table.
 pub record Judgeable (tower : Tower) (book : Book) (table : Table) : Type 0 where
@@ -44,6 +44,9 @@ pub data FirstReason (tower : Tower) (book : Book) (table : Table) : Answer Find
   by-rows : (q : Reason) → FirstOfRows tower table q → FirstReason tower book table (give (not-good q))
   too-many : RightBelow tower table (length table) → MoreThan most-pairs (ReachedItem tower book table)
       → FirstReason tower book table (refuse Pairs)
+  too-wide : RightBelow tower table (length table) → (MoreThan most-pairs (ReachedItem tower book table) → ⊥)
+      → GivesOver (rows-tower tower table) book → FirstReason tower book table (refuse Alternatives)
   reason-e : RightBelow tower table (length table) → (MoreThan most-pairs (ReachedItem tower book table) → ⊥)
-      → (NoneBroken tower book table → ⊥) → FirstReason tower book table (give (not-good Broken))
-  good : Good tower book table → (MoreThan most-pairs (ReachedItem tower book table) → ⊥) → FirstReason tower book table (give good-table)
+      → (GivesOver (rows-tower tower table) book → ⊥) → (NoneBroken tower book table → ⊥) → FirstReason tower book table (give (not-good Broken))
+  good : Good tower book table → (MoreThan most-pairs (ReachedItem tower book table) → ⊥) → (GivesOver (rows-tower tower table) book → ⊥)
+      → FirstReason tower book table (give good-table)

@@ -5,14 +5,14 @@ use mathlib.Core.Option.{none, some}
 use lib.ListN.{length, getD}
 use Rattle.logic.specs.Tower.{Tower}
 use Rattle.logic.specs.Book.{Book}
-use Rattle.pending.specs.Pairs.{Pair, first-pair, pair-step, pairs}
+use Rattle.alternatives.specs.Pairs.{Pair, first-pair, pair-step, pairs}
 use Rattle.pair_graph.specs.Graph.{Move, not-enabled, broken, to, Graph}
 
 -- pair number i
 unfoldable pub numbered : Tower → Book → ℕ → Pair
 numbered tower book i = getD (pairs tower book) i (first-pair tower book)
 
--- What the move of an action from a pair has to say.
+-- What the move of an action from a pair has to say. A step by an enabled action that leads to no pair is broken.
 pub data SaysStep (tower : Tower) (book : Book) (i a : ℕ) : Move → Type 0 where
   says-not-enabled : tower .target (numbered tower book i .state) a ≡ none → SaysStep tower book i a not-enabled
   says-broken : (y : ℕ) → tower .target (numbered tower book i .state) a ≡ some y → pair-step tower book (numbered tower book i) a ≡ none

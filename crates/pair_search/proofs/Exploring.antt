@@ -4,10 +4,10 @@ use native.Mathlib.Omega.{arith}
 use native.Mathlib.Decide.{decLt}
 use mathlib.Core.Path.{_≡_, refl, sym, _∙_, ap, ap₂, subst}
 use mathlib.Core.Logic.{inl}
-use mathlib.Core.Bool.{Bool}
-use mathlib.Core.Option.{some}
-use mathlib.Core.List.{List, [], _∷_}
-use lib.ListN.{length, getD, drop}
+use mathlib.Core.Bool.{Bool, true, false}
+use mathlib.Core.Option.{some, Option·map}
+use mathlib.Core.List.{List, [], _∷_, map}
+use lib.ListN.{length, getD, drop, length-map, List·getD-map}
 use borrow.Author.Tests.{lt-ltb, le-ltb}
 use Rattle.base.specs.Lists.{below, count-from}
 use Rattle.base.specs.Search.{search-on, search-from}
@@ -15,6 +15,8 @@ use Rattle.logic.specs.Tower.{Tower}
 use Rattle.logic.specs.Book.{Book}
 use Rattle.pending.proofs.Weights.{pairs-weight}
 use Rattle.pending.specs.Pairs.{Pair, same-pair, pair-weight, most-pairs, first-pair, pair-step, pair-followers, pairs, over-pairs}
+use Rattle.alternatives.specs.OneAlternative.{one}
+use Rattle.alternatives.specs.Pairs as Sets
 use Rattle.book_progression.specs.NodeBytes.{IsHeld}
 use Rattle.area_bytes.proofs.Numbers.{stored, stored-read, stored-beside, length-stored}
 use Rattle.area_index.specs.Entries.{entries-of, Indexed, index-size}
@@ -27,6 +29,7 @@ use Rattle.pair_search.specs.Walked.{walked, Searchable, Walkable}
 use Rattle.pair_search.specs.Explored.{found, HoldsPairs, Explored, pair-of, pairs-of, pair-in, PairsFilled, SaysMove, moves-not, moves-broken, moves-to, RightGraph, Searching, with-new, Grown, SearchBegun}
 use Rattle.pair_search.specs.declared.Found.the-variants.{TooMany, Met}
 use Rattle.pair_search.proofs.PairEntries.{pairs-length, pairs-at, getD-there, state-of-pair}
+use Rattle.pair_search.proofs.Bridge.{held-pairs, held-count, held-step, held-over}
 
 -- ---- the loop
 
@@ -84,17 +87,21 @@ module _ (tower : Tower) (nodes area index graph : List ℕ) (i n : ℕ)
         (omega (arith, exploring .most)))
         ∙ exploring .same h
 
+    over-many : 1000 < m → (h : IsHeld nodes) → over-pairs tower (h .book) ≡ true
+    unfolding over-pairs most-pairs
+    over-many over h =
+        let many = grown .many over h in
+        let seen = with-new tower (h .book) (pairs-of nodes area n) (pair-in nodes area i) in
+        let all = sym (turned h) ∙ search-over same-pair (pair-followers tower (h .book)) pair-weight 1000 (1001 - (i + 1)) seen
+        (drop (i + 1) seen) (omega (arith, pairs-weight seen)) in
+        let more : 1000 < length (pairs tower (h .book)) = omega (arith, ap length all, many) in
+        rw (pairs-weight (pairs tower (h .book)), lt-ltb 1000 (length (pairs tower (h .book))) more)
+
     pub explore-many : 1000 < m → Explored TooMany tower nodes later-graph
-    unfolding found over-pairs most-pairs
+    unfolding found
     explore-many over =
         record {
-          says = λ h.
-              let many = grown .many over h in
-              let seen = with-new tower (h .book) (pairs-of nodes area n) (pair-in nodes area i) in
-              let all = sym (turned h) ∙ search-over same-pair (pair-followers tower (h .book)) pair-weight 1000 (1001 - (i + 1)) seen
-              (drop (i + 1) seen) (omega (arith, pairs-weight seen)) in
-              let more : 1000 < length (pairs tower (h .book)) = omega (arith, ap length all, many) in
-              rw (pairs-weight (pairs tower (h .book)), lt-ltb 1000 (length (pairs tower (h .book))) more);
+          says = λ h. sym (rw (held-over tower nodes h, over-many over h));
           pairs-held = λ k e. let z : _≡_ {A = ℕ} 0 1 = cc in absurd (omega arith);
         }
 
@@ -125,12 +132,14 @@ module _ (tower : Tower) (nodes area index graph : List ℕ) (i n : ℕ)
     all-counted : (h : IsHeld nodes) → n ≡ length (pairs tower (h .book))
     all-counted h = sym all-seen ∙ ap length (sym (all-found h))
 
-    numbered-is : (h : IsHeld nodes) (j : ℕ) → j < n → numbered tower (h .book) j ≡ pair-in nodes area j
+    -- Each is numbered as it was met, with its obligation as the one alternative.
+    numbered-is : (h : IsHeld nodes) (j : ℕ) → j < n → numbered tower (h .book) j ≡ one (pair-in nodes area j)
     unfolding numbered
     numbered-is h j k =
-        ap (λ z. getD z j (first-pair tower (h .book))) (all-found h)
-        ∙ getD-there (pairs-of nodes area n) j (first-pair tower (h .book)) (pair-in nodes area 0) (omega (arith, all-seen))
-        ∙ pairs-at nodes area n j k
+        ap (λ z. getD z j (Sets.first-pair tower (h .book))) (held-pairs tower nodes h ∙ ap (map one) (all-found h))
+        ∙ getD-there (map one (pairs-of nodes area n)) j (Sets.first-pair tower (h .book)) (one (pair-in nodes area 0))
+        (omega (arith, all-seen, length-map (pairs-of nodes area n) one))
+        ∙ List·getD-map one (pairs-of nodes area n) j (pair-in nodes area 0) ∙ ap one (pairs-at nodes area n j k)
 
     -- The move of every action of every pair is right.
     move-says : (h : IsHeld nodes) (j a : ℕ) → j < n → a < tower .actions
@@ -139,13 +148,15 @@ module _ (tower : Tower) (nodes area index graph : List ℕ) (i n : ℕ)
 
     says-step : (h : IsHeld nodes) (j a : ℕ) → j < n → (move : Move)
         → SaysMove tower (h .book) nodes area n (pair-in nodes area j) a move → SaysStep tower (h .book) j a move
+    unfolding one
     says-step h j a k _ (moves-not e) = says-not-enabled (ap (λ v. tower .target (v .state) a) (numbered-is h j k) ∙ e)
     says-step h j a k _ (moves-broken y e f) =
         says-broken y (ap (λ v. tower .target (v .state) a) (numbered-is h j k) ∙ e)
-        (ap (λ v. pair-step tower (h .book) v a) (numbered-is h j k) ∙ f)
+        (ap (λ v. Sets.pair-step tower (h .book) v a) (numbered-is h j k) ∙ held-step tower nodes h (pair-in nodes area j) a ∙ ap (Option·map one) f)
     says-step h j a k _ (moves-to t m e) =
-        says-to t (omega (arith, all-counted h))
-        (ap (λ v. pair-step tower (h .book) v a) (numbered-is h j k) ∙ e ∙ ap some (sym (numbered-is h t m)))
+        says-to t (omega (arith, all-counted h, held-count tower nodes h))
+        (ap (λ v. Sets.pair-step tower (h .book) v a) (numbered-is h j k) ∙ held-step tower nodes h (pair-in nodes area j) a
+        ∙ ap (Option·map one) e ∙ ap some (sym (numbered-is h t m)))
 
     leads-inside : (h : IsHeld nodes) (j a t : ℕ) (move : Move)
         → SaysMove tower (h .book) nodes area n (pair-in nodes area j) a move → move ≡ to t → t < n
@@ -154,7 +165,7 @@ module _ (tower : Tower) (nodes area index graph : List ℕ) (i n : ℕ)
     leads-inside h j a t _ (moves-to s m e) f = let same : s ≡ t = cc in omega arith
 
     held : HoldsPairs tower nodes graph n
-    unfolding graph-of
+    unfolding graph-of one
     held =
         record {
           least = exploring .least;
@@ -166,22 +177,25 @@ module _ (tower : Tower) (nodes area index graph : List ℕ) (i n : ℕ)
                 targets = λ j a t k m e. leads-inside world j a t (move-at graph j a) (move-says world j a k m) e;
               };
           pairs-graph = λ h. record {
-            count = all-counted h;
+            count = all-counted h ∙ sym (held-count tower nodes h);
             actions = refl;
             kinds = λ a. refl;
-            states = λ j k. exploring .right .states j (omega arith) ∙ sym (state-of-pair nodes area j) ∙ ap (λ (v : Pair). v .state) (sym (numbered-is h j k));
+            states = λ j k. exploring .right .states j (omega arith) ∙ sym (state-of-pair nodes area j) ∙ ap (λ (v : Sets.Pair). v .state) (sym (numbered-is h j k));
             moves = λ j a k m. says-step h j a k (move-at graph j a) (move-says h j a k m);
           };
         }
 
+    not-over : (h : IsHeld nodes) → over-pairs tower (h .book) ≡ false
+    unfolding over-pairs most-pairs
+    not-over h =
+        let few : length (pairs tower (h .book)) ≤ 1000 = omega (arith, all-counted h, exploring .most) in
+        rw (pairs-weight (pairs tower (h .book)), le-ltb 1000 (length (pairs tower (h .book))) few)
+
     pub explore-done : Explored (Met n) tower nodes graph
-    unfolding found over-pairs most-pairs
+    unfolding found
     explore-done =
         record {
-          says = λ h.
-              let few : length (pairs tower (h .book)) ≤ 1000 = omega (arith, all-counted h, exploring .most) in
-              let not-over = le-ltb 1000 (length (pairs tower (h .book))) few in
-              sym (rw (pairs-weight (pairs tower (h .book)), not-over, ← all-counted h));
+          says = λ h. sym (rw (held-over tower nodes h, not-over h, held-count tower nodes h, ← all-counted h));
           pairs-held = λ k e. let same : k ≡ n = cc in rw same held;
         }
 

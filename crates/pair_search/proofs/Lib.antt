@@ -1,4 +1,5 @@
 pub mod Walking
+pub mod Bridge
 mod PairEntries
 mod Entering
 mod Following

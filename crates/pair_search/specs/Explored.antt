@@ -12,7 +12,8 @@ use Rattle.base.specs.Search.{new-ones}
 use Rattle.logic.specs.Tower.{Tower, tower-of}
 use Rattle.logic.specs.Book.{Book}
 use Rattle.pending.specs.Pending.{progressed}
-use Rattle.pending.specs.Pairs.{Pair, same-pair, first-pair, pair-step, pair-followers, pairs, over-pairs}
+use Rattle.pending.specs.Pairs.{Pair, same-pair, first-pair, pair-step, pair-followers}
+use Rattle.alternatives.specs.Pairs.{pairs, over-pairs}
 use Rattle.reading.specs.BookArea.{nodes-in}
 use Rattle.book_progression.specs.PendingBytes.{pending-of, part, outcome}
 use Rattle.book_progression.specs.NodeBytes.{IsHeld}
@@ -44,6 +45,9 @@ pub record Explored (r : Found) (tower : Tower) (nodes graph : List ℕ) : Type 
   pub pairs-held : (n : ℕ) → r ≡ Met n → HoldsPairs tower nodes graph n
 
 -- ---- pairs as entries
+
+-- A book that is held has no `|` with two timed sides, so that each of its pairs has one alternative: the search keeps it as the one obligation
+-- of crate `pending`, and what is found is turned into pairs of alternatives at the end (proofs/Bridge.antt).
 
 -- the pair of an entry
 unfoldable pub pair-of : List ℕ → List ℕ → Pair

@@ -3,6 +3,7 @@ pub mod Kept
 pub mod Nodes
 pub mod Adds
 pub mod Progress
+pub mod Asked
 pub mod Steps
 pub mod Same
 pub mod Marks

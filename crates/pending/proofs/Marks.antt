@@ -12,7 +12,7 @@ use Rattle.logic.specs.declared.Tick.{Tick}
 use Rattle.pending.specs.Pending.{Pending, holds, fresh, put, provided, progress, progress-nodes, progress-rule, progress-rules, none-pending, progressed}
 
 module _ (tower other : Tower) (x y : ℕ) (same : (k : ℕ) → tower .marked x k ≡ other .marked y k) where
-  holds-same : (f : Formula) → holds tower x f ≡ holds other y f
+  pub holds-same : (f : Formula) → holds tower x f ≡ holds other y f
   unfolding holds
   holds-same (constant b) = refl
   holds-same (proposition wanted k) = ap (λ b. Bool·beq b wanted) (same k)

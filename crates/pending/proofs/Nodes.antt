@@ -4,12 +4,13 @@ use native.Mathlib.Omega.{arith}
 use native.Mathlib.Nat.{add-zero}
 use mathlib.Core.Path.{_≡_, refl, sym, _∙_, ap}
 use mathlib.Core.Bool.{true, false, _&&_, not, and-eq-true-iff}
-use mathlib.Core.List.{List, [], _∷_, _++_, append-assoc, append-nil, List·Memᴰ·head, List·Memᴰ·tail}
+use mathlib.Core.List.{List, [], _∷_, _++_, append-assoc, append-nil, List·Memᴰ, List·Memᴰ·head, List·Memᴰ·tail}
 use lib.ListN.{length, getD, drop, length-append, length-drop}
 use lib.Seq.{drop-drop, drop-append-seam, getD-drop}
 use Rattle.base.specs.Lists.{joined}
 use Rattle.pending.specs.Pending.{root}
-use Rattle.logic.specs.Book.{Formula, constant, proposition, and, or, next, always-for, until, parts, size, nodes, first-part, second-part, Book, timed, timed-right, FitBook}
+use Rattle.logic.specs.Book.{Comparison, Formula, constant, proposition, and, or, next, always-for, until, parts, size, nodes, first-part, second-part, Rule, Book, timed, timed-right, FitBook}
+use Rattle.logic.specs.declared.Tick.{Tick}
 
 -- The formulas fs stand in a row among all the nodes, the first with number n.
 pub record Stand (all : List Formula) (n : ℕ) (fs : List Formula) : Type 0 where
@@ -113,33 +114,41 @@ module _ (all : List Formula) (h : Formula) (k : ℕ) (s : Sits all h k) where
         last = omega (arith, s .last, ap length e, length-append (parts g) (h ∷ []), size-pos g);
       }
 
--- Every formula of the row fs sits where it stands, the first as node k, and has its timed formulas where they may be.
-abbrev pub AllSit : List Formula → List Formula → ℕ → Type 0
-AllSit all [] k = Unit {0}
-AllSit all (f ∷ fs) k = (Sits all f k × (timed-right f ≡ true)) × AllSit all fs (suc k)
+-- A property of formulas that a formula has only if its parts have it.
+pub record Inherited (Has : Formula → Type 0) : Type 0 where
+  pub and-parts : (f g : Formula) → Has (and f g) → Has f × Has g
+  pub or-parts : (f g : Formula) → Has (or f g) → Has f × Has g
+  pub next-part : (c : Comparison) (t : Tick) (g : Formula) → Has (next c t g) → Has g
+  pub always-part : (t : Tick) (g : Formula) → Has (always-for t g) → Has g
+  pub until-parts : (t : Tick) (f g : Formula) → Has (until t f g) → Has f × Has g
 
--- one row behind another
-all-append : (all xs ys : List Formula) (k n : ℕ) → n ≡ k + length xs → AllSit all xs k → AllSit all ys n → AllSit all (xs ++ ys) k
-all-append all [] ys k n e left right = let same : n ≡ k = omega arith in rw same at right
-all-append all (x ∷ xs) ys k n e left right = (left .0, all-append all xs ys (suc k) n (omega arith) (left .1) right)
+-- Every formula of the row fs sits where it stands, the first as node k, and has the property.
+abbrev pub AllSit : (Formula → Type 0) → List Formula → List Formula → ℕ → Type 0
+AllSit Has all [] k = Unit {0}
+AllSit Has all (f ∷ fs) k = (Sits all f k × Has f) × AllSit Has all fs (suc k)
 
 -- A formula whose nodes stand from number n on sits at its root.
 pub sits-root : (all : List Formula) (f : Formula) (n : ℕ) → Stand all n (parts f) → Sits all f (root n f)
 unfolding root
 sits-root all f n s = record { first = n; row = s; last = omega (arith, size-pos f) }
 
-module _ (all : List Formula) where
+module _ (Has : Formula → Type 0) (all : List Formula) where
+  -- one row behind another
+  all-append : (xs ys : List Formula) (k n : ℕ) → n ≡ k + length xs → AllSit Has all xs k → AllSit Has all ys n → AllSit Has all (xs ++ ys) k
+  all-append [] ys k n e left right = let same : n ≡ k = omega arith in rw same at right
+  all-append (x ∷ xs) ys k n e left right = (left .0, all-append xs ys (suc k) n (omega arith) (left .1) right)
+
   -- a formula of two parts, from those of its parts
-  two-sit : (h f g : Formula) (n : ℕ) → parts h ≡ parts f ++ (parts g ++ (h ∷ [])) → Stand all n (parts h) → timed-right h ≡ true
-      → (Stand all n (parts f) → AllSit all (parts f) n) → ((k : ℕ) → Stand all k (parts g) → AllSit all (parts g) k)
-      → AllSit all (parts h) n
+  two-sit : (h f g : Formula) (n : ℕ) → parts h ≡ parts f ++ (parts g ++ (h ∷ [])) → Stand all n (parts h) → Has h
+      → (Stand all n (parts f) → AllSit Has all (parts f) n) → ((k : ℕ) → Stand all k (parts g) → AllSit Has all (parts g) k)
+      → AllSit Has all (parts h) n
   unfolding size
-  two-sit h f g n e s fit first second =
-      rw e (all-append all (parts f) (parts g ++ (h ∷ [])) n (n + size f) refl
+  two-sit h f g n e s has first second =
+      rw e (all-append (parts f) (parts g ++ (h ∷ [])) n (n + size f) refl
       (first (stand-left all n (parts f) (parts g ++ (h ∷ [])) row))
-      (all-append all (parts g) (h ∷ []) (n + size f) (n + size f + size g) refl (second (n + size f)
+      (all-append (parts g) (h ∷ []) (n + size f) (n + size f + size g) refl (second (n + size f)
       (stand-left all (n + size f) (parts g) (h ∷ []) (stand-right all n (parts f) (parts g ++ (h ∷ [])) row)))
-      ((sits, fit), tt)))
+      ((sits, has), tt)))
     where
       row : Stand all n (parts f ++ (parts g ++ (h ∷ [])))
       row = rw e at s
@@ -153,42 +162,81 @@ module _ (all : List Formula) where
           }
 
   -- and of one part
-  one-sits : (h g : Formula) (n : ℕ) → parts h ≡ parts g ++ (h ∷ []) → Stand all n (parts h) → timed-right h ≡ true
-      → (Stand all n (parts g) → AllSit all (parts g) n) → AllSit all (parts h) n
+  one-sits : (h g : Formula) (n : ℕ) → parts h ≡ parts g ++ (h ∷ []) → Stand all n (parts h) → Has h
+      → (Stand all n (parts g) → AllSit Has all (parts g) n) → AllSit Has all (parts h) n
   unfolding size
-  one-sits h g n e s fit only =
-      rw e (all-append all (parts g) (h ∷ []) n (n + size g) refl (only (stand-left all n (parts g) (h ∷ []) (rw e at s)))
-      ((record { first = n; row = s; last = omega (arith, ap length e, length-append (parts g) (h ∷ [])) }, fit), tt))
+  one-sits h g n e s has only =
+      rw e (all-append (parts g) (h ∷ []) n (n + size g) refl (only (stand-left all n (parts g) (h ∷ []) (rw e at s)))
+      ((record { first = n; row = s; last = omega (arith, ap length e, length-append (parts g) (h ∷ [])) }, has), tt))
 
-  -- all nodes of a formula sit where they stand
-  parts-sit : (f : Formula) (n : ℕ) → Stand all n (parts f) → timed-right f ≡ true → AllSit all (parts f) n
-  unfolding parts size timed-right
-  parts-sit (constant b) n s fit = ((record { first = n; row = s; last = omega arith }, fit), tt)
-  parts-sit (proposition w k) n s fit = ((record { first = n; row = s; last = omega arith }, fit), tt)
-  parts-sit (and f g) n s fit =
-      let (left, right) = (and-eq-true-iff (timed-right f) (timed-right g)) .0 fit in
-      two-sit (and f g) f g n refl s fit (λ row. parts-sit f n row left) (λ k row. parts-sit g k row right)
-  parts-sit (or f g) n s fit =
-      let (one, both) = (and-eq-true-iff (not (timed f && timed g)) (timed-right f && timed-right g)) .0 fit in
-      let (left, right) = (and-eq-true-iff (timed-right f) (timed-right g)) .0 both in
-      two-sit (or f g) f g n refl s fit (λ row. parts-sit f n row left) (λ k row. parts-sit g k row right)
-  parts-sit (next c t g) n s fit = one-sits (next c t g) g n refl s fit (λ row. parts-sit g n row fit)
-  parts-sit (always-for t g) n s fit = one-sits (always-for t g) g n refl s fit (λ row. parts-sit g n row fit)
-  parts-sit (until t f g) n s fit =
-      let (one, both) = (and-eq-true-iff (not (timed g)) (timed-right f && timed-right g)) .0 fit in
-      let (left, right) = (and-eq-true-iff (timed-right f) (timed-right g)) .0 both in
-      two-sit (until t f g) f g n refl s fit (λ row. parts-sit f n row left) (λ k row. parts-sit g k row right)
+  module _ (inherited : Inherited Has) where
+    -- all nodes of a formula sit where they stand
+    parts-sit : (f : Formula) (n : ℕ) → Stand all n (parts f) → Has f → AllSit Has all (parts f) n
+    unfolding parts size
+    parts-sit (constant b) n s has = ((record { first = n; row = s; last = omega arith }, has), tt)
+    parts-sit (proposition w k) n s has = ((record { first = n; row = s; last = omega arith }, has), tt)
+    parts-sit (and f g) n s has =
+        let (left, right) = inherited .and-parts f g has in
+        two-sit (and f g) f g n refl s has (λ row. parts-sit f n row left) (λ k row. parts-sit g k row right)
+    parts-sit (or f g) n s has =
+        let (left, right) = inherited .or-parts f g has in
+        two-sit (or f g) f g n refl s has (λ row. parts-sit f n row left) (λ k row. parts-sit g k row right)
+    parts-sit (next c t g) n s has =
+        one-sits (next c t g) g n refl s has (λ row. parts-sit g n row (inherited .next-part c t g has))
+    parts-sit (always-for t g) n s has =
+        one-sits (always-for t g) g n refl s has (λ row. parts-sit g n row (inherited .always-part t g has))
+    parts-sit (until t f g) n s has =
+        let (left, right) = inherited .until-parts t f g has in
+        two-sit (until t f g) f g n refl s has (λ row. parts-sit f n row left) (λ k row. parts-sit g k row right)
 
-  -- all nodes of a book's rules sit where they stand
-  rules-sit : (rules : Book) (n : ℕ) → Stand all n (nodes rules) → FitBook rules → AllSit all (nodes rules) n
-  unfolding nodes joined FitBook size
-  rules-sit [] n s fit = tt
-  rules-sit (rule ∷ rules) n s fit =
-      all-append all (parts (rule .formula)) (nodes rules) n (n + size (rule .formula)) refl
-      (parts-sit (rule .formula) n (stand-left all n (parts (rule .formula)) (nodes rules) s) (fit rule (List·Memᴰ·head refl)))
-      (rules-sit rules (n + size (rule .formula)) (stand-right all n (parts (rule .formula)) (nodes rules) s)
-      (λ other listed. fit other (List·Memᴰ·tail listed)))
+    -- all nodes of a book's rules sit where they stand
+    rules-sit : (rules : Book) (n : ℕ) → Stand all n (nodes rules) → ((rule : Rule) → List·Memᴰ rule rules → Has (rule .formula))
+        → AllSit Has all (nodes rules) n
+    unfolding nodes joined size
+    rules-sit [] n s has = tt
+    rules-sit (rule ∷ rules) n s has =
+        all-append (parts (rule .formula)) (nodes rules) n (n + size (rule .formula)) refl
+        (parts-sit (rule .formula) n (stand-left all n (parts (rule .formula)) (nodes rules) s) (has rule (List·Memᴰ·head refl)))
+        (rules-sit rules (n + size (rule .formula)) (stand-right all n (parts (rule .formula)) (nodes rules) s)
+        (λ other listed. has other (List·Memᴰ·tail listed)))
 
--- Every node of a book sits where it stands.
-pub book-sits : (book : Book) → FitBook book → AllSit (nodes book) (nodes book) 0
-book-sits book fit = rules-sit (nodes book) book 0 (record { behind = []; here = sym (append-nil (nodes book)) }) fit
+-- Every node of a book sits where it stands, and has what the book's formulas have.
+pub book-sits : (Has : Formula → Type 0) → Inherited Has → (book : Book)
+    → ((rule : Rule) → List·Memᴰ rule book → Has (rule .formula)) → AllSit Has (nodes book) (nodes book) 0
+book-sits Has inherited book has =
+    rules-sit Has (nodes book) inherited book 0 (record { behind = []; here = sym (append-nil (nodes book)) }) has
+
+-- What every formula has.
+abbrev pub Any : Formula → Type 0
+Any f = Unit {0}
+
+pub any-inherited : Inherited Any
+any-inherited =
+    record {
+      and-parts = λ f g h. (tt, tt);
+      or-parts = λ f g h. (tt, tt);
+      next-part = λ c t g h. tt;
+      always-part = λ t g h. tt;
+      until-parts = λ t f g h. (tt, tt);
+    }
+
+-- The formula has its timed formulas where they may be.
+abbrev pub TimedRight : Formula → Type 0
+TimedRight f = timed-right f ≡ true
+
+pub timed-inherited : Inherited TimedRight
+unfolding timed-right
+timed-inherited =
+    record {
+      and-parts = λ f g h. (and-eq-true-iff (timed-right f) (timed-right g)) .0 h;
+      or-parts = λ f g h. (and-eq-true-iff (timed-right f) (timed-right g)) .0
+          ((and-eq-true-iff (not (timed f && timed g)) (timed-right f && timed-right g)) .0 h .1);
+      next-part = λ c t g h. h;
+      always-part = λ t g h. h;
+      until-parts = λ t f g h. (and-eq-true-iff (timed-right f) (timed-right g)) .0
+          ((and-eq-true-iff (not (timed g)) (timed-right f && timed-right g)) .0 h .1);
+    }
+
+pub fit-sits : (book : Book) → FitBook book → AllSit TimedRight (nodes book) (nodes book) 0
+unfolding FitBook
+fit-sits book fit = book-sits TimedRight timed-inherited book fit

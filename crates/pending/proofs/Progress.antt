@@ -19,11 +19,11 @@ use Rattle.logic.specs.declared.Tick.{Tick}
 use Rattle.pending.specs.Pending.{Pending, holds, fresh, put, provided, progress, progress-nodes, root, progress-rule, progress-rules, begin-rule, begin-rules}
 use Rattle.pending.specs.Asks.{with-left}
 use Rattle.pending.proofs.Kept.{Now, Then, next-step, always-step, until-step}
-use Rattle.pending.proofs.Nodes.{Stand, stand-left, stand-right, Sits, sits-first, sits-second, sits-only, sits-root, AllSit}
+use Rattle.pending.proofs.Nodes.{Stand, stand-left, stand-right, Sits, sits-first, sits-second, sits-only, sits-root, AllSit, TimedRight}
 use Rattle.pending.proofs.Adds.{with-left-fresh, Adds, adds-iff, adds-nothing, adds-both, adds-provided, adds-if, adds-unless, adds-put}
 
 -- a `start` rule is no `always` rule
-start-not-everywhere : at-start ≡ everywhere → ⊥
+pub start-not-everywhere : at-start ≡ everywhere → ⊥
 start-not-everywhere e = let z : _≡_ {A = ℕ} 0 1 = cc in omega arith
 
 -- Every rule of the book is as said.
@@ -31,7 +31,7 @@ abbrev pub Each : Book → (Rule → Type 0) → Type 0
 Each rules P = (rule : Rule) → List·Memᴰ rule rules → P rule
 
 -- the first rule and the others
-each-cons : (rule : Rule) (rules : Book) (P : Rule → Type 0) → Each (rule ∷ rules) P ↔ (P rule × Each rules P)
+pub each-cons : (rule : Rule) (rules : Book) (P : Rule → Type 0) → Each (rule ∷ rules) P ↔ (P rule × Each rules P)
 each-cons rule rules P = (
   λ h. (h rule (List·Memᴰ·head refl), λ other listed. h other (List·Memᴰ·tail listed)),
   λ h other listed. ⊎-elim (λ same. subst P (sym same) (h .0)) (λ later. h .1 other later) (List·Memᴰ·cases-cons listed),
@@ -213,7 +213,7 @@ module _ (tower : Tower) (m : Moment) (run : Trace) where
     adds-progress (until t f g) = right-until t f g (adds-progress f)
 
     -- Progressing every pending node adds what they all ask.
-    pub adds-nodes : (fs : List Formula) (k : ℕ) (cells p : Pending) → AllSit all fs k → length p ≡ length all
+    pub adds-nodes : (fs : List Formula) (k : ℕ) (cells p : Pending) → AllSit TimedRight all fs k → length p ≡ length all
         → Gives (progress-nodes tower (m .state) (duration tower m) fs k cells p) p (NodesNow fs cells)
     unfolding progress-nodes
     adds-nodes [] k cells p sit sized = adds-nothing tower run all p (Unit {0}) tt

@@ -1,23 +1,21 @@
 -- Pairs along a run: what a step of a pair is, what the rest of a run has to meet before and after a step, and where a run begins.
 use Prim.Native.Nat.{ℕ, _<_}
-use native.Mathlib.Omega.{arith}
 use mathlib.Core.Path.{_≡_, refl, sym, _∙_, ap, subst}
 use mathlib.Core.Logic.{_↔_, Iff·trans}
 use mathlib.Core.Option.{Option, none, some, bind, bind-eq-some-iff, Option·none-ne-some, Option·some-ne-none, Option·some-injective}
-use mathlib.Core.List.{List, [], _∷_, _++_, append-nil}
-use lib.ListN.{length, length-replicate, getD-replicate}
+use mathlib.Core.List.{List, [], _∷_, _++_}
+use lib.ListN.{length}
 use Rattle.logic.specs.Tower.{Tower, Listed}
-use Rattle.logic.specs.Book.{nodes, Form, at-start, everywhere, Book, FitBook}
-use Rattle.logic.specs.Runs.{leads, Moment, Trace, trace-from, trace, Judged, duration, Kept, KeptRule, Unbroken}
+use Rattle.logic.specs.Book.{nodes, Book, FitBook}
+use Rattle.logic.specs.Runs.{leads, Moment, Trace, trace-from, duration}
 use Rattle.logic.proofs.Leads.{leads-nil, leads-step, leads-stuck, leads-out, leads-in}
-use Rattle.logic.specs.declared.Tick.{Tick}
-use Rattle.pending.specs.Pending.{Pending, progress-nodes, progress-rules, none-pending, progressed, first-pending}
+use Rattle.pending.specs.Pending.{Pending, progress-nodes, progress-rules, none-pending, progressed}
 use Rattle.pending.specs.Pairs.{Pair, pair-at, pair-step}
 use Rattle.pending.specs.Asks.{Fulfils}
-use Rattle.pending.proofs.Kept.{kept-now, rule-step, rule-end}
-use Rattle.pending.proofs.Nodes.{Stand, book-sits}
-use Rattle.pending.proofs.Adds.{Sat, Adds, adds-both}
-use Rattle.pending.proofs.Progress.{Each, NodesNow, RuleNow, RuleStarts, adds-nodes, nodes-in, nodes-out, adds-rules, adds-begin}
+use Rattle.pending.proofs.Nodes.{fit-sits}
+use Rattle.pending.proofs.Adds.{Adds, adds-both}
+use Rattle.pending.proofs.Progress.{Each, NodesNow, RuleNow, adds-nodes, adds-rules}
+use Rattle.pending.proofs.Asked.{meets-end, none-asks, none-sized, book-stands, Asked, AskedLater, meets-now}
 
 -- a pair that is there has the state and what is pending
 pair-at-out : (y : ℕ) (o : Option Pending) (w : Pair) → pair-at y o ≡ some w → (y ≡ w .state) × (o ≡ some (w .pending))
@@ -85,57 +83,23 @@ module _ (tower : Tower) (book : Book) where
       let (z, step, rest) = leads-out (pair-step tower book) v w a u e in
       leads-in (tower .target) (v .state) (z .state) (w .state) a u (pair-step-out v z a step .0) (pair-leads-state z w u rest)
 
-  -- at the end of a run everything is met
-  meets-end : (x : ℕ) (p : Pending) → Fulfils tower book x p []
-  unfolding trace-from Kept Judged
-  meets-end x p =
-      record { pending = λ k r below e judged. absurd (omega arith); rules = λ rule listed e. rule-end tower everywhere (rule .formula) }
-
-  -- nothing pending asks nothing
-  none-asks : (run : Trace) → Sat tower run (nodes book) (none-pending book)
-  unfolding none-pending
-  none-asks run k r below e =
-      absurd (Option·none-ne-some r (sym (getD-replicate {A = Option Tick} (length (nodes book)) k none none below) ∙ e))
-
-  none-sized : length (none-pending book) ≡ length (nodes book)
-  unfolding none-pending
-  none-sized = length-replicate {A = Option Tick} (length (nodes book)) none
-
-  -- the nodes of the book stand from number 0 on
-  book-stands : Stand (nodes book) 0 (nodes book)
-  book-stands = record { behind = []; here = sym (append-nil (nodes book)) }
-
-  -- What is pending at first adds to nothing exactly what the `start` rules ask.
-  pub first-adds : (run : Trace) → Adds tower run (nodes book) (some (first-pending book)) (none-pending book)
-      (Each book (RuleStarts tower run))
-  unfolding first-pending
-  first-adds run = adds-begin tower run (nodes book) book 0 (none-pending book) book-stands none-sized
-
-  -- At first there is a cell for each node.
-  pub first-sized : length (first-pending book) ≡ length (nodes book)
-  first-sized = first-adds [] .0 ∙ none-sized
-
 module _ (tower : Tower) (book : Book) (fit : FitBook book) where
-  -- what is asked where moment m leaves its state with p pending
-  abbrev Asked : Moment → Trace → Pending → Type 0
-  Asked m run p = NodesNow tower m run (nodes book) p × Each book (RuleNow tower m run)
-
   -- Progression adds to nothing exactly what is asked.
   pub progressed-adds : (m : Moment) (run : Trace) (p : Pending)
-      → Adds tower run (nodes book) (then-pending tower book (m .state) p (m .action)) (none-pending book) (Asked m run p)
+      → Adds tower run (nodes book) (then-pending tower book (m .state) p (m .action)) (none-pending book) (Asked tower book m run p)
   unfolding progressed duration
   progressed-adds m run p =
       adds-both tower run (nodes book) (progress-nodes tower (m .state) (duration tower m) (nodes book) 0 p (none-pending book))
       (λ q. progress-rules tower (m .state) (duration tower m) book 0 q) (none-pending book)
       (NodesNow tower m run (nodes book) p)
       (Each book (RuleNow tower m run))
-      (adds-nodes tower m run (nodes book) (nodes book) 0 p (none-pending book) (book-sits book fit) (none-sized tower book))
+      (adds-nodes tower m run (nodes book) (nodes book) 0 p (none-pending book) (fit-sits book fit) (none-sized tower book))
       (λ q same. adds-rules tower m run (nodes book) book 0 q (book-stands tower book) fit (same ∙ none-sized tower book))
 
   -- A step of a pair leaves a cell for each node.
   pub pair-step-sized : (v w : Pair) (a : ℕ) → pair-step tower book v a ≡ some w → length (w .pending) ≡ length (nodes book)
   pair-step-sized v w a e =
-      subst (λ o. Adds tower [] (nodes book) o (none-pending book) (Asked m [] (v .pending))) (pair-step-out tower book v w a e .1)
+      subst (λ o. Adds tower [] (nodes book) o (none-pending book) (Asked tower book m [] (v .pending))) (pair-step-out tower book v w a e .1)
       (progressed-adds m [] (v .pending)) .0 ∙ none-sized tower book
     where
       m : Moment
@@ -158,54 +122,27 @@ module _ (tower : Tower) (book : Book) (fit : FitBook book) where
     abbrev rest : Trace
     rest = trace-from tower y u
 
-    trace-step : trace-from tower x (a ∷ u) ≡ here ∷ rest
-    unfolding trace-from
-    trace-step = rw enabled
-
-    -- what the `always` rules ask later
-    abbrev Later : Type 0
-    Later = Each book (λ rule. rule .form ≡ everywhere → KeptRule tower rest everywhere (rule .formula))
-
-    meets-now : Fulfils tower book x p (a ∷ u) ↔ (Asked here rest p × Later)
-    meets-now = (out, into)
-      where
-        out : Fulfils tower book x p (a ∷ u) → Asked here rest p × Later
-        out h = (
-          (
-            nodes-in tower here rest (nodes book) p
-                (λ k r below e. kept-now tower here rest _ .0 (rw trace-step at (h .pending k r below e))),
-            λ rule listed e. rule-step tower here rest (rule .formula) .0 (rw trace-step at (h .rules rule listed e)) .0,
-          ),
-          λ rule listed e. rule-step tower here rest (rule .formula) .0 (rw trace-step at (h .rules rule listed e)) .1,
-        )
-
-        into : Asked here rest p × Later → Fulfils tower book x p (a ∷ u)
-        into h =
-            record {
-              pending = λ k r below e. rw trace-step (kept-now tower here rest _ .1
-                  (nodes-out tower here rest (nodes book) p (h .0 .0) k r below e));
-              rules = λ rule listed e. rw trace-step (rule-step tower here rest (rule .formula) .1
-                  (h .0 .1 rule listed e, h .1 rule listed e));
-            }
+    now : Fulfils tower book x p (a ∷ u) ↔ (Asked tower book here rest p × AskedLater tower book rest)
+    now = meets-now tower book x a y p u enabled
 
     -- A broken step cannot be met.
     pub meets-broken : then-pending tower book x p a ≡ none → Fulfils tower book x p (a ∷ u) → ⊥
     meets-broken e h =
-        subst (λ o. Adds tower rest (nodes book) o (none-pending book) (Asked here rest p)) e (progressed-adds here rest p)
-        (none-asks tower book rest) (meets-now .0 h .0)
+        subst (λ o. Adds tower rest (nodes book) o (none-pending book) (Asked tower book here rest p)) e (progressed-adds here rest p)
+        (none-asks tower book rest) (now .0 h .0)
 
     -- A run meets what is pending before a step exactly if its rest meets what is pending behind it.
     pub meets-step : (q : Pending) → then-pending tower book x p a ≡ some q → Fulfils tower book x p (a ∷ u) ↔ Fulfils tower book y q u
     meets-step q e = (out, into)
       where
-        adds : Adds tower rest (nodes book) (some q) (none-pending book) (Asked here rest p)
-        adds = subst (λ o. Adds tower rest (nodes book) o (none-pending book) (Asked here rest p)) e (progressed-adds here rest p)
+        adds : Adds tower rest (nodes book) (some q) (none-pending book) (Asked tower book here rest p)
+        adds = subst (λ o. Adds tower rest (nodes book) o (none-pending book) (Asked tower book here rest p)) e (progressed-adds here rest p)
 
         out : Fulfils tower book x p (a ∷ u) → Fulfils tower book y q u
-        out h = record { pending = adds .1 .1 (none-asks tower book rest, meets-now .0 h .0); rules = meets-now .0 h .1 }
+        out h = record { pending = adds .1 .1 (none-asks tower book rest, now .0 h .0); rules = now .0 h .1 }
 
         into : Fulfils tower book y q u → Fulfils tower book x p (a ∷ u)
-        into h = meets-now .1 (adds .1 .0 (h .pending) .1, h .rules)
+        into h = now .1 (adds .1 .0 (h .pending) .1, h .rules)
 
   -- Where the tower leads, the run meets what is pending exactly if pairs lead there too.
   pub meets-leads : (v : Pair) (u : List ℕ) (y : ℕ) → leads (tower .target) (v .state) u ≡ some y
@@ -245,28 +182,3 @@ module _ (tower : Tower) (book : Book) (fit : FitBook book) where
       let (z, step, later) = leads-out (pair-step tower book) v w a u e in
       let (enabled, next) = pair-step-out tower book v z a step in
       Iff·trans (meets-step (v .state) a (z .state) (v .pending) (u ++ rest) enabled (z .pending) next) (meets-on z w u rest later)
-
-  -- A run is unbroken exactly if it meets what is pending at first.
-  pub unbroken-meets : (w : List ℕ) → Unbroken tower book w ↔ Fulfils tower book (tower .start) (first-pending book) w
-  unfolding Unbroken trace KeptRule
-  unbroken-meets w = (out, into)
-    where
-      run : Trace
-      run = trace-from tower (tower .start) w
-
-      out : Unbroken tower book w → Fulfils tower book (tower .start) (first-pending book) w
-      out h =
-          record {
-            pending = first-adds tower book run .1 .1 (
-              none-asks tower book run,
-              λ rule listed e. subst (λ form. KeptRule tower run form (rule .formula)) e (h rule listed),
-            );
-            rules = λ rule listed e. subst (λ form. KeptRule tower run form (rule .formula)) e (h rule listed);
-          }
-
-      into : Fulfils tower book (tower .start) (first-pending book) w → Unbroken tower book w
-      into h rule listed = go (rule .form) refl
-        where
-          go : (form : Form) → rule .form ≡ form → KeptRule tower run form (rule .formula)
-          go everywhere e = h .rules rule listed e
-          go at-start e = first-adds tower book run .1 .0 (h .pending) .1 rule listed e

@@ -1,6 +1,6 @@
 -- Progression is exactly the logic of 01: what is pending along a run, and its steps, say of every run whether it is broken. The statements
 -- stand here; the files beside this one prove them. `Kept` has the laws of the logic, `Nodes` where nodes stand, `Adds` and `Progress` that
--- progression adds exactly what the formulas ask, `Steps` the pairs along a run, `Same` the tests for equal pairs.
+-- progression adds exactly what the formulas ask, `Asked` what a run has to meet, `Steps` the pairs along a run, `Same` the tests for equal pairs.
 use Prim.Native.Nat.{ℕ, _<_}
 use native.Mathlib.Omega.{arith}
 use mathlib.Core.Path.{_≡_, refl}
@@ -10,7 +10,7 @@ use mathlib.Core.Option.{none, some}
 use mathlib.Core.List.{List, [], _∷_, _++_, List·Memᴰ·head}
 use lib.ListN.{length}
 use Rattle.base.proofs.Lists.{whether-there, none-some}
-use Rattle.logic.specs.Time.{longer, shorter, position}
+use Rattle.logic.specs.Time.{longer, shorter}
 use Rattle.logic.specs.Tower.{Tower, Listed}
 use Rattle.logic.specs.Book.{Formula, constant, always-for, until, at-start, nodes, Book, FitBook}
 use Rattle.logic.specs.Runs.{leads, IsRun, Trace, trace, trace-from, Judged, Kept, KeptAt, KeptRule, Unbroken, Broken}
@@ -20,6 +20,7 @@ use Rattle.pending.specs.Pending.{progressed}
 use Rattle.pending.specs.Pairs.{Pair, pair-step, first-pair, same-pair}
 use Rattle.pending.specs.Asks.{Fulfils}
 use Rattle.pending.proofs.Kept as Laws
+use Rattle.pending.proofs.Asked as Asked
 use Rattle.pending.proofs.Steps as Steps
 use Rattle.pending.proofs.Same as Same
 
@@ -28,7 +29,7 @@ pub unbroken-iff : (tower : Tower) (book : Book) → FitBook book → (w : List 
     → Unbroken tower book w ↔ ((v : Pair) × (leads (pair-step tower book) (first-pair tower book) w ≡ some v))
 unfolding IsRun first-pair
 unbroken-iff tower book fit w (x, e) =
-    Iff·trans (Steps.unbroken-meets tower book fit w) (Steps.meets-leads tower book fit (first-pair tower book) w x e)
+    Iff·trans (Asked.unbroken-meets tower book w) (Steps.meets-leads tower book fit (first-pair tower book) w x e)
 
 -- It is broken exactly if pairs do not lead along it.
 pub broken-iff : (tower : Tower) (book : Book) → FitBook book → (w : List ℕ) → IsRun tower w
@@ -46,7 +47,7 @@ pub continued-iff : (tower : Tower) (book : Book) → FitBook book → (w u : Li
     → Unbroken tower book (w ++ u) ↔ Fulfils tower book (v .state) (v .pending) u
 unfolding first-pair
 continued-iff tower book fit w u v e =
-    Iff·trans (Steps.unbroken-meets tower book fit (w ++ u)) (Steps.meets-on tower book fit (first-pair tower book) v w u e)
+    Iff·trans (Asked.unbroken-meets tower book (w ++ u)) (Steps.meets-on tower book fit (first-pair tower book) v w u e)
 
 -- The empty run is never broken: at position n every formula is kept.
 pub empty-unbroken : (tower : Tower) (book : Book) → Unbroken tower book []
@@ -74,7 +75,7 @@ pub pending-sized : (tower : Tower) (book : Book) → FitBook book → (w : List
     → leads (pair-step tower book) (first-pair tower book) w ≡ some v → length (v .pending) ≡ length (nodes book)
 unfolding first-pair
 pending-sized tower book fit w v e =
-    Steps.pair-leads-sized tower book fit (first-pair tower book) v w (Steps.first-sized tower book) e
+    Steps.pair-leads-sized tower book fit (first-pair tower book) v w (Asked.first-sized tower book) e
 
 -- Where pairs lead, the tower leads to their states.
 pub pair-leads-state : (tower : Tower) (book : Book) (v w : Pair) (u : List ℕ) → leads (pair-step tower book) v u ≡ some w

@@ -25,9 +25,9 @@ module _ (tower : Tower) (book : Book) (few : over-pairs tower book ≡ false) w
   -- Where it is not 11, they count at most 1,000,
   pub pairs-few : Few pair-weight most-pairs (pairs tower book)
   unfolding over-pairs
-  pairs-few = record { heavy = pair-heavy; light = ltb-false most-pairs (total (map pair-weight (pairs tower book))) few }
+  pairs-few = record { heavy = λ v m. pair-heavy v; light = ltb-false most-pairs (total (map pair-weight (pairs tower book))) few }
 
   -- and are at most so many.
   pub pairs-most : length (pairs tower book) ≤ 1000
   unfolding most-pairs
-  pairs-most = omega (arith, pairs-few .light, length-weight pair-weight pair-heavy (pairs tower book))
+  pairs-most = omega (arith, pairs-few .light, length-weight pair-weight (pairs tower book) (λ v m. pair-heavy v))

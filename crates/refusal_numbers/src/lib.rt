@@ -8,7 +8,7 @@ use base::Refusal;
 // The number of a table that is not good.
 pub const NOT_GOOD: u32 = 14;
 
-// The number, from 1 to 19.
+// The number, from 1 to 20.
 pub fn number(refusal: Refusal) -> u32
     ensures { λ n. ⌜ n ≡ refusal-number refusal ⌝ }
 {
@@ -31,6 +31,7 @@ pub fn number(refusal: Refusal) -> u32
         Refusal::Outside => 17,
         Refusal::NotAllowed => 18,
         Refusal::Log(_) => 19,
+        Refusal::Alternatives => 20,
     }
 }
 
@@ -57,6 +58,7 @@ pub fn place(refusal: Refusal) -> usize
         Refusal::Outside => 0,
         Refusal::NotAllowed => 0,
         Refusal::Log(line) => line,
+        Refusal::Alternatives => 0,
     }
 }
 

@@ -79,6 +79,12 @@ fn explain(
         Refusal::Log(_) => {
             say(b"a line of the log is not of its form\n");
         }
+        Refusal::Alternatives => {
+            in_file(
+                book,
+                b"a step leaves more than 16 alternatives: fewer promises beside each other in `|` are needed",
+            );
+        }
     }
 }
 

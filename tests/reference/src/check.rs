@@ -1,11 +1,11 @@
 //! Judges a table, whoever made it.
 
+use crate::alternatives::{self, Alternatives, OverFull};
 use crate::book::{self, Book};
 use crate::judge::{self, Reason};
-use crate::pending::{self, Pending};
-use crate::table::{self, Table};
+use crate::table::{self, Row, Step, Table};
 use crate::tower::{self, Tower};
-use crate::{Refusal, MOST_PAIRS};
+use crate::{Refusal, MOST_PAIRS, TWO_TIMED};
 use std::collections::HashSet;
 use std::fmt;
 
@@ -29,9 +29,13 @@ impl fmt::Display for Answer {
 
 /// The checker's entry.
 pub fn check(tower: &[u8], book: &[u8], table: &[u8]) -> Answer {
+    check_with(TWO_TIMED, tower, book, table)
+}
+
+pub fn check_with(two_timed: bool, tower: &[u8], book: &[u8], table: &[u8]) -> Answer {
     let read = || {
         let tower = tower::parse(tower)?;
-        let book = book::read(tower.marks, book)?;
+        let book = book::read_with(two_timed, tower.marks, book)?;
         let table = table::decode_for(&tower, table)?;
         Ok((tower, book, table))
     };
@@ -47,36 +51,61 @@ pub fn check_table(tower: &Tower, book: &Book, table: &Table) -> Answer {
         return Answer::NotGood(reason, place);
     }
     match allows_a_broken_run(tower, book, table) {
-        None => Answer::Refused(Refusal::new(11)),
-        Some(true) => Answer::NotGood(Reason::Broken, 0),
-        Some(false) => Answer::Good,
+        Err(refusal) => Answer::Refused(refusal),
+        Ok(true) => Answer::NotGood(Reason::Broken, 0),
+        Ok(false) => Answer::Good,
     }
 }
 
-/// Whether some allowed run is broken; nothing where rows with what is pending are over 1,000. The
-/// rows are fit by b, c and d. Counting goes on after a broken step.
-fn allows_a_broken_run(tower: &Tower, book: &Book, table: &Table) -> Option<bool> {
-    let first: (usize, Pending) = (0, pending::at_first(book));
+/// Whether some allowed run is broken; 11 where rows with what is pending, each counted once for each of
+/// its alternatives, are over 1,000, and then 20 where one of them gives over 16 alternatives by an
+/// allowed action. The rows are fit by b, c and d. Counting goes on after a broken step.
+fn allows_a_broken_run(tower: &Tower, book: &Book, table: &Table) -> Result<bool, Refusal> {
+    let first = (0, alternatives::at_first(book));
+    let mut count = first.1.len();
     let mut met = HashSet::from([first.clone()]);
     let mut to_visit = vec![first];
+    let mut over_full = false;
     let mut broken = false;
     while let Some((row, waiting)) = to_visit.pop() {
-        let row = &table.rows[row];
-        let marks = tower.states[row.state].marks;
-        for step in &row.steps {
-            let length = tower.step_length(row.state, step.action);
-            let Some(after) = pending::after(book, &waiting, marks, length) else {
+        let Ok(reached) = reached(tower, book, &table.rows[row], &waiting) else {
+            over_full = true;
+            continue;
+        };
+        for (target, after) in reached {
+            if after.is_empty() {
                 broken = true;
                 continue;
-            };
-            let reached = (step.target, after);
-            if met.insert(reached.clone()) {
-                to_visit.push(reached);
             }
-            if met.len() > MOST_PAIRS {
-                return None;
+            let pair = (target, after);
+            if met.insert(pair.clone()) {
+                count += pair.1.len();
+                to_visit.push(pair);
+            }
+            if count > MOST_PAIRS {
+                return Err(Refusal::new(11));
             }
         }
     }
-    Some(broken)
+    if over_full {
+        return Err(Refusal::new(20));
+    }
+    Ok(broken)
+}
+
+/// The row that each allowed action leads to, and what is pending there: no alternative where the step
+/// is broken.
+fn reached(
+    tower: &Tower,
+    book: &Book,
+    row: &Row,
+    waiting: &Alternatives,
+) -> Result<Vec<(usize, Alternatives)>, OverFull> {
+    let marks = tower.states[row.state].marks;
+    let after = |step: &Step| {
+        let length = tower.step_length(row.state, step.action);
+        let after = alternatives::after(book, waiting, marks, length)?;
+        Ok((step.target, after))
+    };
+    row.steps.iter().map(after).collect()
 }

@@ -1,16 +1,25 @@
 //! Makes the table that allows exactly the runs that good tables allow, with the fewest rows.
 
+use crate::alternatives::{self, Alternatives, OverFull};
 use crate::book::{self, Book};
-use crate::pending::{self, Pending};
 use crate::table::{Row, Step, Table};
 use crate::tower::{self, Tower};
-use crate::{Refusal, MOST_PAIRS};
+use crate::{Refusal, MOST_PAIRS, TWO_TIMED};
 use std::collections::HashMap;
 
 /// The maker's entry: the table file, or why there is none.
 pub fn make(tower: &[u8], book: &[u8], output_length: usize) -> Result<Vec<u8>, Refusal> {
+    make_with(TWO_TIMED, tower, book, output_length)
+}
+
+pub fn make_with(
+    two_timed: bool,
+    tower: &[u8],
+    book: &[u8],
+    output_length: usize,
+) -> Result<Vec<u8>, Refusal> {
     let tower = tower::parse(tower)?;
-    let book = book::read(tower.marks, book)?;
+    let book = book::read_with(two_timed, tower.marks, book)?;
     let table = make_table(&tower, &book)?;
     let file = table.encode();
     if file.len() > output_length {
@@ -21,6 +30,9 @@ pub fn make(tower: &[u8], book: &[u8], output_length: usize) -> Result<Vec<u8>, 
 
 pub fn make_table(tower: &Tower, book: &Book) -> Result<Table, Refusal> {
     let pairs = Pairs::explore(tower, book).ok_or(Refusal::new(11))?;
+    if pairs.over_full {
+        return Err(Refusal::new(20));
+    }
     let safe = pairs.safe(tower);
     if !safe[0] {
         return Err(Refusal::new(12));
@@ -29,9 +41,36 @@ pub fn make_table(tower: &Tower, book: &Book) -> Result<Table, Refusal> {
     Ok(pairs.table(tower, &safe, &classes))
 }
 
-/// The number of pairs of a tower and a book, or nothing where there are over 1,000.
+/// The number of pairs of a tower and a book, each counted once for each of its alternatives, or nothing
+/// where there are over 1,000.
 pub fn pair_count(tower: &Tower, book: &Book) -> Option<usize> {
-    Pairs::explore(tower, book).map(|pairs| pairs.states.len())
+    Pairs::explore(tower, book).map(|pairs| pairs.count)
+}
+
+/// A tower state and what is pending there.
+type Pair = (usize, Alternatives);
+
+/// The unbroken steps from a pair, which is tried by each enabled action: each action with the pair that
+/// it leads to.
+fn reached(
+    tower: &Tower,
+    book: &Book,
+    state: usize,
+    waiting: &Alternatives,
+) -> Result<Vec<(usize, Pair)>, OverFull> {
+    let mut reached = Vec::new();
+    for (action, target) in tower.states[state].targets.iter().enumerate() {
+        let Some(target) = *target else {
+            continue;
+        };
+        let length = tower.step_length(state, action);
+        let marks = tower.states[state].marks;
+        let after = alternatives::after(book, waiting, marks, length)?;
+        if !after.is_empty() {
+            reached.push((action, (target, after)));
+        }
+    }
+    Ok(reached)
 }
 
 /// The pairs met over all unbroken steps from the start, which is pair 0.
@@ -40,41 +79,46 @@ struct Pairs {
     states: Vec<usize>,
     /// The pair that each action leads to, where it is enabled and breaks nothing.
     next: Vec<Vec<Option<usize>>>,
+    /// How many they are, each counted once for each of its alternatives.
+    count: usize,
+    /// Whether some pair, tried by some enabled action, gives over 16 alternatives.
+    over_full: bool,
 }
 
 impl Pairs {
-    /// Meets every pair, or answers nothing where there are over 1,000.
+    /// Meets every pair, or answers nothing where there are over 1,000. A pair that gives over 16
+    /// alternatives by some action is stepped from by none, and counts itself.
     fn explore(tower: &Tower, book: &Book) -> Option<Pairs> {
-        let first = (tower.start, pending::at_first(book));
-        let mut numbers: HashMap<(usize, Pending), usize> = HashMap::from([(first.clone(), 0)]);
+        let first = (tower.start, alternatives::at_first(book));
+        let mut count = first.1.len();
+        let mut numbers = HashMap::from([(first.clone(), 0)]);
         let mut met = vec![first];
         let mut next = Vec::new();
+        let mut over_full = false;
         while next.len() < met.len() {
-            let (state, waiting) = met[next.len()].clone();
             let mut steps = vec![None; tower.actions.len()];
-            for (action, target) in tower.states[state].targets.iter().enumerate() {
-                let Some(target) = *target else {
-                    continue;
-                };
-                let length = tower.step_length(state, action);
-                let marks = tower.states[state].marks;
-                let Some(waiting) = pending::after(book, &waiting, marks, length) else {
-                    continue;
-                };
-                let pair = (target, waiting);
+            let (state, waiting) = &met[next.len()];
+            let reached = reached(tower, book, *state, waiting);
+            over_full |= reached.is_err();
+            for (action, pair) in reached.unwrap_or_default() {
                 let number = *numbers.entry(pair).or_insert_with_key(|pair| {
+                    count += pair.1.len();
                     met.push(pair.clone());
                     met.len() - 1
                 });
-                if met.len() > MOST_PAIRS {
+                if count > MOST_PAIRS {
                     return None;
                 }
                 steps[action] = Some(number);
             }
             next.push(steps);
         }
-        let states = met.into_iter().map(|(state, _)| state).collect();
-        Some(Pairs { states, next })
+        Some(Pairs {
+            states: met.into_iter().map(|(state, _)| state).collect(),
+            next,
+            count,
+            over_full,
+        })
     }
 
     /// The pairs from which play can go on for ever, whatever comes that is not ours and without waiting

@@ -34,7 +34,7 @@ pub fn after(book: &Book, pending: &Pending, marks: u16, length: u16) -> Option<
 }
 
 /// The number that a new node starts with.
-fn bound(book: &Book, node: usize) -> u16 {
+pub fn bound(book: &Book, node: usize) -> u16 {
     match book.nodes[node] {
         Node::Next { bound, .. } | Node::Always { bound, .. } | Node::Until { bound, .. } => bound,
         _ => 0,
@@ -42,13 +42,24 @@ fn bound(book: &Book, node: usize) -> u16 {
 }
 
 /// Makes a node pending. Where it is so already, A keeps the larger number and U the smaller.
-fn add(book: &Book, pending: &mut Pending, node: usize, left: u16) {
+pub fn add(book: &Book, pending: &mut Pending, node: usize, left: u16) {
     let merged = match (pending[node], book.nodes[node]) {
         (Some(other), Node::Always { .. }) => left.max(other),
         (Some(other), Node::Until { .. }) => left.min(other),
         _ => left,
     };
     pending[node] = Some(merged);
+}
+
+/// Whether an untimed formula holds at a state with these marks.
+pub fn holds(book: &Book, marks: u16, node: usize) -> bool {
+    match book.nodes[node] {
+        Node::Constant(value) => value,
+        Node::Mark { index, negated } => (marks >> index & 1 == 1) != negated,
+        Node::And(left, right) => holds(book, marks, left) && holds(book, marks, right),
+        Node::Or(left, right) => holds(book, marks, left) || holds(book, marks, right),
+        _ => unreachable!("a timed formula where the book has none"),
+    }
 }
 
 struct Step<'a> {
@@ -105,12 +116,6 @@ impl Step<'_> {
 
     /// Whether an untimed formula holds at the state that is left.
     fn holds(&self, node: usize) -> bool {
-        match self.book.nodes[node] {
-            Node::Constant(value) => value,
-            Node::Mark { index, negated } => (self.marks >> index & 1 == 1) != negated,
-            Node::And(left, right) => self.holds(left) && self.holds(right),
-            Node::Or(left, right) => self.holds(left) || self.holds(right),
-            _ => unreachable!("a timed formula where the book has none"),
-        }
+        holds(self.book, self.marks, node)
     }
 }

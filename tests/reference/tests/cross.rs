@@ -2,16 +2,24 @@
 
 mod common;
 
-use common::{lines, promise, random_book, random_table, random_tower, tower_file, Random};
+use common::{
+    either_book, lines, promise, random_book, random_table, random_tower, tower_file, Random,
+};
+use reference::alternatives;
 use reference::book::{self, Book};
-use reference::check::{check, check_table, Answer};
+use reference::check::{check_table, check_with, Answer};
 use reference::judge::Reason;
-use reference::make::{make, make_table, pair_count};
-use reference::pending;
+use reference::make::{make_table, make_with, pair_count};
 use reference::runs::Run;
 use reference::table::{self, Table};
 use reference::tower::{self, Tower};
+use reference::Refusal;
 use std::collections::{HashSet, VecDeque};
+
+type AnyBook = fn(&mut Random, usize) -> (Vec<u8>, Book);
+
+/// Books as they are, and a third as often books for which item 3 of the change requests is in force.
+const BOOKS: [(AnyBook, usize); 2] = [(random_book, 1), (either_book, 3)];
 
 fn is_broken(tower: &Tower, book: &Book, run: &[usize]) -> bool {
     let run = Run::new(tower, run).expect("each action is enabled");
@@ -64,16 +72,16 @@ fn allows_no_more(one: &Table, other: &Table) -> bool {
     true
 }
 
-/// Walks at random and compares the definition with progression at every position: how many of the
-/// runs are broken, and how many are not.
+/// Walks at random and compares the definition with progression at every position, as long as that is
+/// not over-full: how many of the runs are broken, and how many are not.
 fn compare_along_a_walk(random: &mut Random, tower: &Tower, book: &Book) -> [usize; 2] {
     let mut counts = [0, 0];
-    let mut waiting = Some(pending::at_first(book));
+    let mut waiting = alternatives::at_first(book);
     let mut state = tower.start;
     let mut run = Vec::new();
     for _ in 0..=12 {
         let broken = is_broken(tower, book, &run);
-        assert_eq!(broken, waiting.is_none(), "{run:?} {tower:?} {book:?}");
+        assert_eq!(broken, waiting.is_empty(), "{run:?} {tower:?} {book:?}");
         counts[usize::from(!broken)] += 1;
         let choices = enabled(tower, state);
         if choices.is_empty() {
@@ -82,7 +90,10 @@ fn compare_along_a_walk(random: &mut Random, tower: &Tower, book: &Book) -> [usi
         let action = choices[random.below(choices.len())];
         let length = tower.step_length(state, action);
         let marks = tower.states[state].marks;
-        waiting = waiting.and_then(|waiting| pending::after(book, &waiting, marks, length));
+        let Ok(after) = alternatives::after(book, &waiting, marks, length) else {
+            break;
+        };
+        waiting = after;
         run.push(action);
         state = tower.states[state].targets[action].expect("an enabled action");
     }
@@ -91,16 +102,18 @@ fn compare_along_a_walk(random: &mut Random, tower: &Tower, book: &Book) -> [usi
 
 #[test]
 fn a_run_is_broken_exactly_when_a_step_along_it_breaks() {
-    let mut random = Random::new(0x5EED_0001);
-    let [mut broken, mut unbroken] = [0, 0];
-    for _ in 0..30_000 {
-        let (_, tower) = random_tower(&mut random, 3);
-        let (_, book) = random_book(&mut random, tower.marks);
-        let counts = compare_along_a_walk(&mut random, &tower, &book);
-        broken += counts[0];
-        unbroken += counts[1];
+    for (any_book, share) in BOOKS {
+        let mut random = Random::new(0x5EED_0001);
+        let [mut broken, mut unbroken] = [0, 0];
+        for _ in 0..30_000 / share {
+            let (_, tower) = random_tower(&mut random, 3);
+            let (_, book) = any_book(&mut random, tower.marks);
+            let counts = compare_along_a_walk(&mut random, &tower, &book);
+            broken += counts[0];
+            unbroken += counts[1];
+        }
+        assert!(broken > 20_000 / share && unbroken > 20_000 / share);
     }
-    assert!(broken > 20_000 && unbroken > 20_000);
 }
 
 /// Where a node comes up twice, A keeps the larger number and U the smaller.
@@ -141,23 +154,27 @@ fn promises_that_meet_are_kept_as_the_definition_has_it() {
 
 #[test]
 fn made_tables_are_good_and_allow_no_broken_run() {
-    let mut random = Random::new(0x5EED_0002);
-    let mut tables = 0;
-    for _ in 0..4_000 {
-        let (tower_file, tower) = random_tower(&mut random, 3);
-        let (text, book) = random_book(&mut random, tower.marks);
-        let Ok(file) = make(&tower_file, &text, table::most_bytes()) else {
-            continue;
-        };
-        tables += 1;
-        assert_eq!(check(&tower_file, &text, &file), Answer::Good);
-        let table = table::decode(&file).expect("a table that is well laid out");
-        assert_eq!(table.encode(), file);
-        for run in all_runs(&tower, 6) {
-            assert!(!table.allows(&run) || !is_broken(&tower, &book, &run));
+    for (any_book, share) in BOOKS {
+        let mut random = Random::new(0x5EED_0002);
+        let mut tables = 0;
+        for _ in 0..4_000 / share {
+            let (tower_file, tower) = random_tower(&mut random, 3);
+            let (text, book) = any_book(&mut random, tower.marks);
+            let two_timed = book.two_timed;
+            let Ok(file) = make_with(two_timed, &tower_file, &text, table::most_bytes()) else {
+                continue;
+            };
+            tables += 1;
+            let answer = check_with(two_timed, &tower_file, &text, &file);
+            assert_eq!(answer, Answer::Good);
+            let table = table::decode(&file).expect("a table that is well laid out");
+            assert_eq!(table.encode(), file);
+            for run in all_runs(&tower, 6) {
+                assert!(!table.allows(&run) || !is_broken(&tower, &book, &run));
+            }
         }
+        assert!(tables > 1_000 / share);
     }
-    assert!(tables > 1_000);
 }
 
 /// Whether a run is unbroken and can be continued for `rounds` more actions, whatever comes that is not
@@ -184,27 +201,30 @@ fn can_go_on(tower: &Tower, book: &Book, run: &[usize], rounds: usize) -> bool {
 /// what can be continued for k actions can be continued for ever.
 #[test]
 fn a_made_table_allows_what_the_definitions_allow() {
-    let mut random = Random::new(0x5EED_0003);
-    let (mut tables, mut wants) = (0, 0);
-    for _ in 0..6_000 {
-        let (_, tower) = random_tower(&mut random, 2);
-        let (_, book) = random_book(&mut random, tower.marks);
-        let Some(pairs) = pair_count(&tower, &book).filter(|pairs| *pairs <= 7) else {
-            continue;
-        };
-        let made = make_table(&tower, &book);
-        match made {
-            Ok(_) => tables += 1,
-            Err(_) => wants += 1,
+    for (any_book, share) in BOOKS {
+        let mut random = Random::new(0x5EED_0003);
+        let (mut tables, mut wants) = (0, 0);
+        for _ in 0..6_000 / share {
+            let (_, tower) = random_tower(&mut random, 2);
+            let (_, book) = any_book(&mut random, tower.marks);
+            let Some(pairs) = pair_count(&tower, &book).filter(|pairs| *pairs <= 7) else {
+                continue;
+            };
+            let made = make_table(&tower, &book);
+            match made {
+                Ok(_) => tables += 1,
+                Err(refusal) if refusal.number == 20 => continue,
+                Err(_) => wants += 1,
+            }
+            for run in all_runs(&tower, 3) {
+                let mut parts = (0..=run.len()).map(|length| &run[..length]);
+                let expected = parts.all(|part| can_go_on(&tower, &book, part, pairs));
+                let allowed = made.as_ref().is_ok_and(|table| table.allows(&run));
+                assert_eq!(allowed, expected, "{run:?} {tower:?} {book:?}");
+            }
         }
-        for run in all_runs(&tower, 3) {
-            let mut parts = (0..=run.len()).map(|length| &run[..length]);
-            let expected = parts.all(|part| can_go_on(&tower, &book, part, pairs));
-            let allowed = made.as_ref().is_ok_and(|table| table.allows(&run));
-            assert_eq!(allowed, expected, "{run:?} {tower:?} {book:?}");
-        }
+        assert!(tables > 500 / share && wants > 500 / share);
     }
-    assert!(tables > 500 && wants > 500);
 }
 
 /// Marks pairs of rows that some run tells apart, until no more are found.
@@ -246,33 +266,35 @@ fn is_numbered_as_met(table: &Table) -> bool {
 
 #[test]
 fn made_tables_are_equal_exactly_when_they_allow_the_same_runs() {
-    let mut random = Random::new(0x5EED_0004);
-    let (mut same, mut different) = (0, 0);
-    for _ in 0..6_000 {
-        let (_, tower) = random_tower(&mut random, 3);
-        let made = [(); 2].map(|_| {
-            let (_, book) = random_book(&mut random, tower.marks);
-            make_table(&tower, &book)
-        });
-        let [Ok(one), Ok(other)] = made else {
-            continue;
-        };
-        assert!(all_rows_differ(&one) && is_numbered_as_met(&one));
-        let same_runs = allows_no_more(&one, &other) && allows_no_more(&other, &one);
-        assert_eq!(one.encode() == other.encode(), same_runs);
-        if same_runs {
-            same += 1;
-        } else {
-            different += 1;
+    for (any_book, share) in BOOKS {
+        let mut random = Random::new(0x5EED_0004);
+        let (mut same, mut different) = (0, 0);
+        for _ in 0..6_000 / share {
+            let (_, tower) = random_tower(&mut random, 3);
+            let made = [(); 2].map(|_| {
+                let (_, book) = any_book(&mut random, tower.marks);
+                make_table(&tower, &book)
+            });
+            let [Ok(one), Ok(other)] = made else {
+                continue;
+            };
+            assert!(all_rows_differ(&one) && is_numbered_as_met(&one));
+            let same_runs = allows_no_more(&one, &other) && allows_no_more(&other, &one);
+            assert_eq!(one.encode() == other.encode(), same_runs);
+            if same_runs {
+                same += 1;
+            } else {
+                different += 1;
+            }
         }
+        assert!(same > 500 / share && different > 100 / share);
     }
-    assert!(same > 500 && different > 100);
 }
 
 /// The shortest allowed run whose last step breaks a rule, where there is one.
 fn shortest_broken_run(tower: &Tower, book: &Book, table: &Table) -> Vec<usize> {
     let mut met = HashSet::new();
-    let mut to_visit = VecDeque::from([(0, pending::at_first(book), vec![])]);
+    let mut to_visit = VecDeque::from([(0, alternatives::at_first(book), vec![])]);
     while let Some((row, waiting, run)) = to_visit.pop_front() {
         if !met.insert((row, waiting.clone())) {
             continue;
@@ -282,10 +304,11 @@ fn shortest_broken_run(tower: &Tower, book: &Book, table: &Table) -> Vec<usize> 
         for step in &table.rows[row].steps {
             let further = [&run[..], &[step.action]].concat();
             let length = tower.step_length(state, step.action);
-            match pending::after(book, &waiting, marks, length) {
-                Some(after) => to_visit.push_back((step.target, after, further)),
-                None => return further,
+            let after = alternatives::after(book, &waiting, marks, length).expect("16 at most");
+            if after.is_empty() {
+                return further;
             }
+            to_visit.push_back((step.target, after, further));
         }
     }
     panic!("no allowed run is broken");
@@ -293,36 +316,83 @@ fn shortest_broken_run(tower: &Tower, book: &Book, table: &Table) -> Vec<usize> 
 
 #[test]
 fn the_checker_accepts_good_tables_and_no_others() {
-    let mut random = Random::new(0x5EED_0005);
-    let (mut good, mut not_good) = (0, 0);
-    for _ in 0..20_000 {
-        let (_, tower) = random_tower(&mut random, 2);
-        let (_, book) = random_book(&mut random, tower.marks);
-        let table = random_table(&mut random, &tower);
-        let answer = check_table(&tower, &book, &table);
-        let runs = || {
-            all_runs(&tower, 7)
-                .into_iter()
-                .filter(|run| table.allows(run))
-        };
-        let some_broken = || runs().any(|run| is_broken(&tower, &book, &run));
-        match answer {
-            Answer::Good => {
-                good += 1;
-                assert!(!some_broken());
-                let made = make_table(&tower, &book).expect("a good table exists");
-                assert!(allows_no_more(&table, &made));
-                let same_runs = allows_no_more(&made, &table);
-                assert!(!same_runs || table.rows.len() >= made.rows.len());
+    for (any_book, share) in BOOKS {
+        let mut random = Random::new(0x5EED_0005);
+        let (mut good, mut not_good) = (0, 0);
+        for _ in 0..20_000 / share {
+            let (_, tower) = random_tower(&mut random, 2);
+            let (_, book) = any_book(&mut random, tower.marks);
+            let table = random_table(&mut random, &tower);
+            let answer = check_table(&tower, &book, &table);
+            let runs = || {
+                all_runs(&tower, 7)
+                    .into_iter()
+                    .filter(|run| table.allows(run))
+            };
+            let some_broken = || runs().any(|run| is_broken(&tower, &book, &run));
+            match answer {
+                Answer::Good => {
+                    good += 1;
+                    assert!(!some_broken());
+                    let made = match make_table(&tower, &book) {
+                        Ok(made) => made,
+                        // The maker tries more actions, and meets more pairs.
+                        Err(refusal) if book.two_timed && [11, 20].contains(&refusal.number) => {
+                            continue
+                        }
+                        Err(refusal) => panic!("a good table exists: {refusal}"),
+                    };
+                    assert!(allows_no_more(&table, &made));
+                    let same_runs = allows_no_more(&made, &table);
+                    assert!(!same_runs || table.rows.len() >= made.rows.len());
+                }
+                Answer::NotGood(Reason::Broken, place) => {
+                    not_good += 1;
+                    assert_eq!(place, 0);
+                    let run = shortest_broken_run(&tower, &book, &table);
+                    assert!(table.allows(&run) && is_broken(&tower, &book, &run));
+                }
+                Answer::NotGood(..) | Answer::Refused(_) => {}
             }
-            Answer::NotGood(Reason::Broken, place) => {
-                not_good += 1;
-                assert_eq!(place, 0);
-                let run = shortest_broken_run(&tower, &book, &table);
-                assert!(table.allows(&run) && is_broken(&tower, &book, &run));
-            }
-            Answer::NotGood(..) | Answer::Refused(_) => {}
+        }
+        assert!(good > 1_000 / share && not_good > 1_000 / share);
+    }
+}
+
+/// Books without two timed sides are answered as before item 3 of the change requests.
+#[test]
+fn one_timed_side_is_as_before() {
+    let mut random = Random::new(0x5EED_000A);
+    let mut counts = [0; 5];
+    for _ in 0..4_000 {
+        let (tower_file, tower) = random_tower(&mut random, 3);
+        let (mut text, _) = random_book(&mut random, tower.marks);
+        if random.once_in(12) {
+            let bound = 100 + random.below(150);
+            let lasting = format!("start A {bound} A {bound} A {bound} A {bound} T");
+            text = [text, lines(&[&lasting])].concat();
+        }
+        let read = [false, true].map(|two_timed| {
+            let book = book::read_with(two_timed, tower.marks, &text)?;
+            Ok::<_, Refusal>((book.lines, book.nodes))
+        });
+        assert_eq!(read[0], read[1]);
+        let made = [false, true]
+            .map(|two_timed| make_with(two_timed, &tower_file, &text, table::most_bytes()));
+        assert_eq!(made[0], made[1]);
+        counts[match &made[0] {
+            Ok(_) => 0,
+            Err(refusal) if refusal.number == 11 => 1,
+            Err(_) => 2,
+        }] += 1;
+        let table = random_table(&mut random, &tower).encode();
+        for table in made.into_iter().flatten().take(1).chain([table]) {
+            let judged =
+                [false, true].map(|two_timed| check_with(two_timed, &tower_file, &text, &table));
+            assert_eq!(judged[0], judged[1]);
+            counts[3] += usize::from(judged[0] == Answer::Good);
+            counts[4] += usize::from(judged[0] == Answer::NotGood(Reason::Broken, 0));
         }
     }
-    assert!(good > 1_000 && not_good > 1_000);
+    assert!(counts.iter().all(|count| *count > 50), "{counts:?}");
 }

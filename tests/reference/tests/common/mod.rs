@@ -135,6 +135,73 @@ pub fn random_book(random: &mut Random, marks: usize) -> (Vec<u8>, Book) {
     }
 }
 
+/// A book of up to four lines over these marks, in which more than one side of `|` may be timed.
+pub fn either_book(random: &mut Random, marks: usize) -> (Vec<u8>, Book) {
+    loop {
+        let mut text = String::new();
+        for _ in 0..1 + random.below(4) {
+            text += random.pick(&["always ", "start "]);
+            let line = if random.once_in(3) {
+                crowd(random, marks)
+            } else {
+                let depth = random.below(3);
+                either(random, marks, depth)
+            };
+            text += line.trim_end();
+            text += "\n";
+        }
+        match book::read_with(true, marks, text.as_bytes()) {
+            Ok(book) => return (text.into_bytes(), book),
+            Err(refusal) => assert_eq!(refusal.number, 9, "{text}"),
+        }
+    }
+}
+
+/// Up to seven sides, of which most leave something pending.
+fn crowd(random: &mut Random, marks: usize) -> String {
+    let sides = 2 + random.below(6);
+    let side = |_| {
+        let lead = random.pick(&["A", "A", "E", "N <="]);
+        let bound = 4 + random.below(6);
+        let last = match (lead, random.below(4)) {
+            (_, 0) => atom(random, marks),
+            ("E", _) => "F".to_string(),
+            _ => "T".to_string(),
+        };
+        format!("{lead} {bound} {last}")
+    };
+    let sides: Vec<String> = (0..sides).map(side).collect();
+    sides.join("| ")
+}
+
+/// Some sides, of which any may be timed, mostly with `|` between them.
+fn either(random: &mut Random, marks: usize, depth: usize) -> String {
+    let joint = random.pick(&["| ", "| ", "| ", "| ", "& "]);
+    let sides = 2 + random.below(4) / 2;
+    let sides: Vec<String> = (0..sides).map(|_| side(random, marks, depth)).collect();
+    sides.join(joint)
+}
+
+fn side(random: &mut Random, marks: usize, depth: usize) -> String {
+    let kind = random.below(if depth == 0 { 6 } else { 11 });
+    let bound = random.below(9);
+    let last = atom(random, marks);
+    match kind {
+        0 => last,
+        1 => format!("N > {bound} {last}"),
+        2 | 3 => format!("A {bound} {last}"),
+        4 | 5 => format!("E {bound} {last}"),
+        _ => {
+            let inside = either(random, marks, depth - 1);
+            match kind {
+                6 | 7 => format!("N <= {bound} ({inside})"),
+                8 | 9 => format!("A {bound} ({inside})"),
+                _ => format!("U {bound} ({inside}, {last})"),
+            }
+        }
+    }
+}
+
 /// A line that makes a promise again and again, so that its node comes up twice.
 pub fn promise(random: &mut Random, marks: usize) -> String {
     let unless = atom(random, marks);

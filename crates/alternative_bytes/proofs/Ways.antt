@@ -1,0 +1,287 @@
+-- A law for each way through the code.
+use Prim.Native.Nat.{ℕ, _+_, _-_, _≤_, _<_}
+use native.Mathlib.Omega.{arith}
+use native.Mathlib.Decide.{decLt}
+use native.Mathlib.Numerals.{add-one}
+use mathlib.Core.Path.{_≡_, refl, sym, _∙_, ap, subst}
+use mathlib.Core.Bool.{Bool, true, false, not, _&&_, _||_}
+use mathlib.Core.Option.{Option, none, some}
+use mathlib.Core.List.{List}
+use lib.ListN.{length, getD, set, drop, length-set, drop-of-length-le}
+use lib.Seq.{drop-cons, take-set-le, drop-set-lt, getD-set-same, getD-set-other, ext-getD}
+use lib.Dec.{leb, ltb, eqb}
+use borrow.Author.Tests.{not-true, not-false, ltb-true, lt-ltb, le-ltb, leb-true, le-leb, eq-eqb, ne-eqb}
+use Rattle.base.proofs.Lists.{same-truth}
+use Rattle.logic.specs.Time.{ticks, at-most, same-ticks}
+use Rattle.logic.specs.Book.{Formula, constant}
+use Rattle.logic.specs.declared.Tick.{Tick}
+use Rattle.pending.specs.Pending.{Pending, coming}
+use Rattle.alternatives.specs.Alternatives.{first-cell, later-cells, no-more-ticks, no-more-cell, asks-no-more, cell-number, earlier, both-cells, both}
+use Rattle.alternatives.proofs.Orders.{no-more-cell-refl}
+use Rattle.alternatives.proofs.Canonical.{both-sized}
+use Rattle.book_progression.specs.PendingBytes.{cell-of}
+use Rattle.book_progression.specs.NodeBytes.{code-of, IsNode}
+use Rattle.book_progression.specs.Contracts.{AreNodes, HasNodes, Merged, Beside}
+use Rattle.book_progression.proofs.Cells.{cell-there, cell-one-more}
+use Rattle.book_progression.proofs.Nodes.{by-kind, by-always, by-until}
+use Rattle.book_progression.proofs.Areas.{beside-none, beside-both}
+use Rattle.alternative_bytes.specs.AlternativeBytes.{alternative-in}
+use Rattle.alternative_bytes.specs.Contracts.{CellNoMore, CellBoth, NoMore, BothPut, Copied}
+use Rattle.alternative_bytes.proofs.Laws.{cell-number-of, alternative-length, alternative-cell, both-cell-at}
+
+-- ---- one cell asks no more
+
+-- Of two bytes that are not 0 and not equal, the smaller has fewer ticks.
+fewer : (a b : ℕ) → (a ≡ 0 → ⊥) → (b ≡ 0 → ⊥) → (a ≡ b → ⊥) → ltb a b ≡ leb (a - 1) (b - 1)
+fewer a b there there′ apart =
+    same-truth (ltb a b) (leb (a - 1) (b - 1)) (λ e. le-leb (a - 1) (b - 1) (omega (arith, ltb-true a b e)))
+    (λ e. lt-ltb a b (omega (arith, leb-true (a - 1) (b - 1) e)))
+
+module _ (bytes : List ℕ) (k cell other : ℕ) where
+  pub no-more-same : cell ≡ other → CellNoMore true bytes k cell other
+  no-more-same e = record { says = λ f s. rw e (sym (no-more-cell-refl f (cell-of other))) }
+
+  pub no-more-none : cell ≡ 0 → CellNoMore true bytes k cell other
+  unfolding cell-of no-more-cell
+  no-more-none e = record { says = λ f s. rw e refl }
+
+  pub more-than-none : (cell ≡ 0 → ⊥) → other ≡ 0 → CellNoMore false bytes k cell other
+  unfolding cell-of no-more-cell
+  more-than-none there e = record { says = λ f s. rw (cell-there cell there, e) refl }
+
+  module _ (apart : cell ≡ other → ⊥) (there : cell ≡ 0 → ⊥) (there′ : other ≡ 0 → ⊥) (code : ℕ) (same : code ≡ code-of bytes k) where
+    -- both cells have a number
+    numbers : (f : Formula) → no-more-cell f (cell-of cell) (cell-of other) ≡ no-more-ticks f (ticks (cell - 1)) (ticks (other - 1))
+    unfolding no-more-cell
+    numbers f = rw (cell-there cell there, cell-there other there′) refl
+
+    pub no-more-always : code ≡ 11 → CellNoMore (ltb cell other) bytes k cell other
+    unfolding no-more-ticks at-most
+    no-more-always eleven =
+        record {
+          says = λ f s. by-always bytes k (λ f. ltb cell other ≡ no-more-cell f (cell-of cell) (cell-of other)) f s (omega arith)
+              (λ t g s. fewer cell other there there′ apart ∙ sym (numbers _));
+        }
+
+    pub no-more-until : code ≡ 12 → CellNoMore (ltb other cell) bytes k cell other
+    unfolding no-more-ticks at-most
+    no-more-until twelve =
+        record {
+          says = λ f s. by-until bytes k (λ f. ltb other cell ≡ no-more-cell f (cell-of cell) (cell-of other)) f s (omega arith)
+              (λ t g h s. fewer other cell there′ there (λ e. apart (sym e)) ∙ sym (numbers _));
+        }
+
+    differ : false ≡ same-ticks (ticks (cell - 1)) (ticks (other - 1))
+    unfolding same-ticks
+    differ = sym (ne-eqb (cell - 1) (other - 1) (λ e. apart (omega arith)))
+
+    pub more-other : (code ≡ 11 → ⊥) → (code ≡ 12 → ⊥) → CellNoMore false bytes k cell other
+    unfolding no-more-ticks
+    more-other not-always not-until =
+        record {
+          says = λ f s. by-kind bytes k (λ f. false ≡ no-more-cell f (cell-of cell) (cell-of other)) f s
+              (λ b s lo. differ ∙ sym (numbers _)) (λ a b s lo up. differ ∙ sym (numbers _)) (λ a b s at. differ ∙ sym (numbers _))
+              (λ a b s lo up. differ ∙ sym (numbers _)) (λ a b c s lo up. differ ∙ sym (numbers _))
+              (λ a b s at. absurd (omega arith)) (λ a b c s at. absurd (omega arith));
+        }
+
+-- ---- all cells ask no more
+
+-- The loop over the nodes has come to number k: those from k on decide.
+pub record Asking (bytes : List ℕ) (n : ℕ) (area : List ℕ) (p q k : ℕ) : Type 0 where
+  pub low : k ≤ n
+  pub left : (fs : List Formula) → AreNodes bytes n fs
+      → asks-no-more fs (alternative-in area n p) (alternative-in area n q)
+      ≡ asks-no-more (drop k fs) (drop k (alternative-in area n p)) (drop k (alternative-in area n q))
+
+pub asking-start : (bytes : List ℕ) (n : ℕ) (area : List ℕ) (p q : ℕ) → Asking bytes n area p q 0
+asking-start bytes n area p q = record { low = omega arith; left = λ fs are. refl }
+
+-- A node is there.
+pub node-there : (bytes : List ℕ) (n k : ℕ) → HasNodes bytes n → k < n → IsNode bytes k
+node-there bytes n k has low = has .nodes k low
+
+-- the next cells, and those behind them
+asks-cons : (fs : List Formula) (o u : Pending) (k : ℕ) → k < length fs → k < length o → k < length u
+    → asks-no-more (drop k fs) (drop k o) (drop k u)
+    ≡ (no-more-cell (getD fs k (constant false)) (getD o k none) (getD u k none) && asks-no-more (drop (k + 1) fs) (drop (k + 1) o) (drop (k + 1) u))
+unfolding asks-no-more first-cell later-cells
+asks-cons fs o u k a b c = rw (drop-cons fs k (constant false) a, drop-cons o k none b, drop-cons u k none c, add-one) refl
+
+module _ (bytes : List ℕ) (n : ℕ) (area : List ℕ) (p q k : ℕ) (going : Asking bytes n area p q k) where
+  pub asking-end : n ≤ k → NoMore true bytes n area p q
+  unfolding asks-no-more
+  asking-end over =
+      record {
+        says = λ fs are.
+            let done : length fs ≤ k = omega (arith, are .all) in
+            sym (going .left fs are ∙ rw (drop-of-length-le fs done));
+      }
+
+  module _ (low : k < n) (fits : p + n ≤ length area) (fits′ : q + n ≤ length area) (b : Bool)
+      (cells : CellNoMore b bytes k (getD area (p + k) 0) (getD area (q + k) 0)) where
+    unrolled : (fs : List Formula) → AreNodes bytes n fs
+        → asks-no-more fs (alternative-in area n p) (alternative-in area n q)
+        ≡ (b && asks-no-more (drop (k + 1) fs) (drop (k + 1) (alternative-in area n p)) (drop (k + 1) (alternative-in area n q)))
+    unrolled fs are =
+        let many : k < length fs = omega (arith, are .all) in
+        let more : k < length (alternative-in area n p) = omega (arith, alternative-length area n p fits) in
+        let more′ : k < length (alternative-in area n q) = omega (arith, alternative-length area n q fits′) in
+        going .left fs are ∙ asks-cons fs (alternative-in area n p) (alternative-in area n q) k many more more′
+        ∙ rw (alternative-cell area n p k low, alternative-cell area n q k low, ← cells .says (getD fs k (constant false)) (are .stored k low)) refl
+
+    pub asking-fails : not b ≡ true → NoMore false bytes n area p q
+    asking-fails fails = record { says = λ fs are. sym (unrolled fs are ∙ rw (not-true b fails) refl) }
+
+    pub asking-on : not b ≡ false → Asking bytes n area p q (k + 1)
+    asking-on passes = record { low = omega arith; left = λ fs are. unrolled fs are ∙ rw (not-false b passes) refl }
+
+-- ---- which comes first
+
+-- The loop over the bytes has come to number k: those from k on decide.
+pub record Ordering (n : ℕ) (area : List ℕ) (p q k : ℕ) : Type 0 where
+  pub low : k ≤ n
+  pub left : earlier (alternative-in area n p) (alternative-in area n q)
+      ≡ earlier (drop k (alternative-in area n p)) (drop k (alternative-in area n q))
+
+pub ordering-start : (n : ℕ) (area : List ℕ) (p q : ℕ) → Ordering n area p q 0
+ordering-start n area p q = record { low = omega arith; left = refl }
+
+-- the next cells, and those behind them
+earlier-cons : (o u : Pending) (k : ℕ) → k < length o → k < length u
+    → earlier (drop k o) (drop k u)
+    ≡ (ltb (cell-number (getD o k none)) (cell-number (getD u k none))
+    || (eqb (cell-number (getD o k none)) (cell-number (getD u k none)) && earlier (drop (k + 1) o) (drop (k + 1) u)))
+unfolding earlier
+earlier-cons o u k b c = rw (drop-cons o k none b, drop-cons u k none c, add-one) refl
+
+or-none : (a : Bool) → (a || false) ≡ a
+or-none true = refl
+or-none false = refl
+
+module _ (n : ℕ) (area : List ℕ) (p q k : ℕ) (going : Ordering n area p q k) (fits : p + n ≤ length area) (fits′ : q + n ≤ length area) where
+  pub ordering-end : n ≤ k → false ≡ earlier (alternative-in area n p) (alternative-in area n q)
+  unfolding earlier
+  ordering-end over =
+      let done : length (alternative-in area n p) ≤ k = omega (arith, alternative-length area n p fits) in
+      let done′ : length (alternative-in area n q) ≤ k = omega (arith, alternative-length area n q fits′) in
+      sym (going .left ∙ rw (drop-of-length-le (alternative-in area n p) done, drop-of-length-le (alternative-in area n q) done′) refl)
+
+  compared : k < n → earlier (alternative-in area n p) (alternative-in area n q)
+      ≡ (ltb (getD area (p + k) 0) (getD area (q + k) 0)
+      || (eqb (getD area (p + k) 0) (getD area (q + k) 0)
+      && earlier (drop (k + 1) (alternative-in area n p)) (drop (k + 1) (alternative-in area n q))))
+  compared low =
+      let more : k < length (alternative-in area n p) = omega (arith, alternative-length area n p fits) in
+      let more′ : k < length (alternative-in area n q) = omega (arith, alternative-length area n q fits′) in
+      going .left ∙ earlier-cons (alternative-in area n p) (alternative-in area n q) k more more′
+      ∙ rw (alternative-cell area n p k low, alternative-cell area n q k low, cell-number-of (getD area (p + k) 0), cell-number-of (getD area (q + k) 0))
+      refl
+
+  pub ordering-differ : k < n → (getD area (p + k) 0 ≡ getD area (q + k) 0 → ⊥)
+      → ltb (getD area (p + k) 0) (getD area (q + k) 0) ≡ earlier (alternative-in area n p) (alternative-in area n q)
+  ordering-differ low apart =
+      sym (compared low ∙ rw (ne-eqb (getD area (p + k) 0) (getD area (q + k) 0) apart) (or-none (ltb (getD area (p + k) 0) (getD area (q + k) 0))))
+
+  pub ordering-on : k < n → getD area (p + k) 0 ≡ getD area (q + k) 0 → Ordering n area p q (k + 1)
+  ordering-on low same =
+      record {
+        low = omega arith;
+        left = compared low
+            ∙ rw (eq-eqb (getD area (p + k) 0) (getD area (q + k) 0) same, le-ltb (getD area (p + k) 0) (getD area (q + k) 0) (omega arith)) refl;
+      }
+
+-- ---- both cells
+
+module _ (bytes : List ℕ) (k cell other : ℕ) where
+  pub both-first : other ≡ 0 → CellBoth cell bytes k cell other
+  unfolding both-cells cell-of
+  both-first e = record { says = λ f s. rw e (sym (alone f (cell-of cell))) }
+    where
+      alone : (f : Formula) (o : Option Tick) → both-cells f o none ≡ o
+      alone f none = refl
+      alone f (some r) = refl
+
+  pub both-merged : (m : Tick) → (other ≡ 0 → ⊥) → Merged m bytes k (ticks (other - 1)) cell → CellBoth (m .0 + 1) bytes k cell other
+  unfolding both-cells coming
+  both-merged m there merged = record { says = λ f s. cell-one-more (m .0) ∙ rw (cell-there other there, merged .says f s) (came f (cell-of cell)) }
+    where
+      came : (f : Formula) (o : Option Tick) → some (coming f (ticks (other - 1)) o) ≡ both-cells f o (some (ticks (other - 1)))
+      came f none = refl
+      came f (some r) = refl
+
+-- ---- an alternative is written, byte by byte
+
+-- The first k of the n bytes at `to` say what they should. Every byte but the n is as it was.
+pub record Filling (Says : ℕ → ℕ → Type 0) (first : List ℕ) (to n : ℕ) (area : List ℕ) (k : ℕ) : Type 0 where
+  pub low : k ≤ n
+  pub size : length area ≡ length first
+  pub beside : Beside first to n area
+  pub says : (j : ℕ) → j < k → Says j (getD area (to + j) 0)
+
+pub filling-start : (Says : ℕ → ℕ → Type 0) (first : List ℕ) (to n : ℕ) → Filling Says first to n first 0
+filling-start Says first to n =
+    record { low = omega arith; size = refl; beside = beside-none first to n; says = λ j low. absurd (omega arith) }
+
+-- A byte is stored.
+beside-set : (area : List ℕ) (to n k v : ℕ) → k < n → Beside area to n (set area (to + k) v)
+beside-set area to n k v low =
+    record {
+      size = length-set area (to + k) v;
+      before = take-set-le to area (to + k) v (omega arith);
+      behind = drop-set-lt (to + n) area (to + k) v (omega arith);
+    }
+
+pub filling-on : (Says : ℕ → ℕ → Type 0) (first : List ℕ) (to n : ℕ) (area : List ℕ) (k v : ℕ) → Filling Says first to n area k → k < n
+    → to + n ≤ length first → Says k v → Filling Says first to n (set area (to + k) v) (k + 1)
+filling-on Says first to n area k v going low fits says =
+    record {
+      low = omega arith;
+      size = length-set area (to + k) v ∙ going .size;
+      beside = beside-both first to n area (set area (to + k) v) (going .beside) (beside-set area to n k v low);
+      says = λ j below. said j below (decLt j k);
+    }
+  where
+    said : (j : ℕ) → j < k + 1 → Dec (j < k) → Says j (getD (set area (to + k) v) (to + j) 0)
+    said j below (yes before) = subst (Says j) (sym (getD-set-other area (to + k) (to + j) v 0 (λ e. omega arith))) (going .says j before)
+    said j below (no here) =
+        let last : j ≡ k = omega arith in
+        rw last (subst (Says k) (sym (getD-set-same area (to + k) v 0 (omega (arith, going .size)))) says)
+
+-- what byte j of a copy should be
+abbrev pub SameByte : List ℕ → ℕ → ℕ → ℕ → Type 0
+SameByte area p j byte = byte ≡ getD area (p + j) 0
+
+-- what byte j of both of two should be
+abbrev pub BothByte : List ℕ → List ℕ → ℕ → ℕ → ℕ → ℕ → Type 0
+BothByte bytes area p q j byte = CellBoth byte bytes j (getD area (p + j) 0) (getD area (q + j) 0)
+
+module _ (n : ℕ) (area : List ℕ) (p : ℕ) (room : List ℕ) (to : ℕ) (after : List ℕ) (k : ℕ) (over : n ≤ k) (fits : to + n ≤ length room) where
+  fits-still : length after ≡ length room → to + n ≤ length after
+  fits-still same = omega arith
+
+  pub copy-end : Filling (SameByte area p) room to n after k → p + n ≤ length area → Copied n area p room to after
+  copy-end going fits-p =
+      let length-to = alternative-length after n to (fits-still (going .size)) in
+      record {
+        beside = going .beside;
+        is = ext-getD none (alternative-in after n to) (alternative-in area n p) (length-to ∙ sym (alternative-length area n p fits-p))
+            (λ i inside. let low : i < n = omega (arith, length-to) in
+            alternative-cell after n to i low ∙ ap cell-of (going .says i (omega arith)) ∙ sym (alternative-cell area n p i low));
+      }
+
+  pub both-end : (bytes : List ℕ) (q : ℕ) → Filling (BothByte bytes area p q) room to n after k → p + n ≤ length area → q + n ≤ length area
+      → BothPut bytes n area p q room to after
+  both-end bytes q going fits-p fits-q =
+      let length-to = alternative-length after n to (fits-still (going .size)) in
+      record {
+        beside = going .beside;
+        says = λ fs are.
+            ext-getD none (alternative-in after n to) (both fs (alternative-in area n p) (alternative-in area n q))
+            (length-to ∙ sym (both-sized fs (alternative-in area n p) (alternative-in area n q) ∙ are .all))
+            (λ i inside. let low : i < n = omega (arith, length-to) in
+            let there : i < length fs = omega (arith, are .all) in
+            alternative-cell after n to i low ∙ going .says i (omega arith) .says (getD fs i (constant false)) (are .stored i low)
+            ∙ sym (both-cell-at fs (alternative-in area n p) (alternative-in area n q) i there
+            ∙ rw (alternative-cell area n p i low, alternative-cell area n q i low)));
+      }

@@ -1,0 +1,34 @@
+-- What the functions of this crate promise. Where the nodes matter, the promise is for the formulas that the book's bytes hold.
+use Prim.Native.Nat.{ℕ}
+use mathlib.Core.Path.{_≡_}
+use mathlib.Core.Bool.{Bool}
+use mathlib.Core.List.{List}
+use Rattle.logic.specs.Book.{Formula}
+use Rattle.alternatives.specs.Alternatives.{no-more-cell, asks-no-more, both-cells, both}
+use Rattle.book_progression.specs.PendingBytes.{cell-of}
+use Rattle.book_progression.specs.NodeBytes.{Stored}
+use Rattle.book_progression.specs.Contracts.{AreNodes, Beside}
+use Rattle.alternative_bytes.specs.AlternativeBytes.{alternative-in}
+
+-- Of node k one cell asks no more than another.
+pub record CellNoMore (answer : Bool) (bytes : List ℕ) (k cell other : ℕ) : Type 0 where
+  pub says : (f : Formula) → Stored bytes f k → answer ≡ no-more-cell f (cell-of cell) (cell-of other)
+
+-- The byte says what both cells ask of node k.
+pub record CellBoth (byte : ℕ) (bytes : List ℕ) (k cell other : ℕ) : Type 0 where
+  pub says : (f : Formula) → Stored bytes f k → cell-of byte ≡ both-cells f (cell-of cell) (cell-of other)
+
+-- The alternative at p asks no more than that at q.
+pub record NoMore (answer : Bool) (bytes : List ℕ) (n : ℕ) (area : List ℕ) (p q : ℕ) : Type 0 where
+  pub says : (fs : List Formula) → AreNodes bytes n fs → answer ≡ asks-no-more fs (alternative-in area n p) (alternative-in area n q)
+
+-- The alternative at `to` becomes both of those at p and q of another area. Every other byte stays.
+pub record BothPut (bytes : List ℕ) (n : ℕ) (area : List ℕ) (p q : ℕ) (room : List ℕ) (to : ℕ) (after : List ℕ) : Type 0 where
+  pub beside : Beside room to n after
+  pub says : (fs : List Formula) → AreNodes bytes n fs
+      → alternative-in after n to ≡ both fs (alternative-in area n p) (alternative-in area n q)
+
+-- The n bytes at `to` become those at p of another area. Every other byte stays.
+pub record Copied (n : ℕ) (area : List ℕ) (p : ℕ) (room : List ℕ) (to : ℕ) (after : List ℕ) : Type 0 where
+  pub beside : Beside room to n after
+  pub is : alternative-in after n to ≡ alternative-in area n p

@@ -1,0 +1,2 @@
+pub mod AlternativeBytes
+pub mod Contracts

@@ -1,0 +1,8 @@
+pub mod Least
+pub mod Canonical
+pub mod Sides
+pub mod Alternatives
+pub mod Progression
+pub mod Pairs
+pub mod Asks
+pub mod OneAlternative

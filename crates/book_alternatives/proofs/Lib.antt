@@ -1,0 +1,9 @@
+pub mod Timing
+pub mod Looking
+pub mod Sets
+pub mod OwnSets
+pub mod Taking
+pub mod Roots
+pub mod Offering
+pub mod Combining
+pub mod Joining
