@@ -392,8 +392,12 @@ mod tests {
             "line 65537 of the log is not of its form"
         );
         assert_eq!(
-            refusal(20, 2, 0).to_string(),
-            "refused with number 20, place 2"
+            refusal(20, 0, 0).to_string(),
+            "a step leaves more than 16 alternatives"
+        );
+        assert_eq!(
+            refusal(21, 2, 0).to_string(),
+            "refused with number 21, place 2"
         );
     }
 }
