@@ -31,12 +31,12 @@ extern "C" {
 
 /* The version of this interface. The names of the functions in the archive end in it, so that a program
  * that was compiled with the header of another version does not link. */
-#define SUCCORYVISE_VERSION 1
-#define succoryvise_read_book succoryvise_read_book_v1
-#define succoryvise_make succoryvise_make_v1
-#define succoryvise_check succoryvise_check_v1
-#define succoryvise_follow succoryvise_follow_v1
-#define succoryvise_read_log succoryvise_read_log_v1
+#define SUCCORYVISE_VERSION 2
+#define succoryvise_read_book succoryvise_read_book_v2
+#define succoryvise_make succoryvise_make_v2
+#define succoryvise_check succoryvise_check_v2
+#define succoryvise_follow succoryvise_follow_v2
+#define succoryvise_read_log succoryvise_read_log_v2
 
 /* The numbers of an answer. There may be more in time: treat one that you do not know as a refusal. */
 enum succoryvise_number {
@@ -51,7 +51,7 @@ enum succoryvise_number {
     SUCCORYVISE_MARK = 8,         /* book: a mark at or above P */
     SUCCORYVISE_LIMIT = 9,        /* book: over 4,096 bytes, 60 nodes or 16 open brackets */
     SUCCORYVISE_TIMED = 10,       /* book: a timed formula where none may be */
-    SUCCORYVISE_PAIRS = 11,       /* over 1,000 pairs, or rows with what is pending */
+    SUCCORYVISE_PAIRS = 11,       /* over 1,000 pairs, or rows with what is pending, one for each alternative */
     SUCCORYVISE_NO_TABLE = 12,    /* there is no good table, of any length */
     SUCCORYVISE_LAYOUT = 13,      /* table: not laid out so, or its S, A are not the tower's */
     SUCCORYVISE_NOT_GOOD = 14,    /* table: not good; the letter says why */
@@ -81,9 +81,11 @@ enum succoryvise_course {
 /* The least lengths of the work areas, in bytes. They may be longer, and need neither alignment nor
  * contents. One set of areas can serve all calls, one after the other. */
 #define SUCCORYVISE_NODES_LENGTH 512
-#define SUCCORYVISE_PAIRS_LENGTH 62062
+#define SUCCORYVISE_PAIRS_LENGTH 64968
 #define SUCCORYVISE_INDEX_LENGTH 8192
 #define SUCCORYVISE_GRAPH_LENGTH 34000
+#define SUCCORYVISE_SETS_LENGTH 59520
+#define SUCCORYVISE_ROOM_LENGTH 30752
 #define SUCCORYVISE_FLAGS_LENGTH 37000
 #define SUCCORYVISE_CLASSES_LENGTH 8192
 
@@ -107,13 +109,13 @@ enum succoryvise_course {
 
 /* Stack for a call that reads a rule book, in bytes: it grows with the depth of brackets, N, A, E and U.
  * The deepest text of 4,096 bytes takes up to 1.5 MiB (measured on x86-64; docs/LINKING.md has each
- * shape), the deepest book that is accepted 15 KiB. succoryvise_follow needs less than 1 KiB, and
+ * shape), the deepest book that is accepted 33 KiB. succoryvise_follow needs less than 1 KiB, and
  * succoryvise_read_log 33 KiB, however long the log is. */
 #define SUCCORYVISE_STACK 2097152
 
 /* What every function answers. */
 struct succoryvise_answer {
-    uint32_t number; /* 0: done; else the number of the refusal, 1 to 19 */
+    uint32_t number; /* 0: done; else the number of the refusal, 1 to 20 */
     uint8_t letter;  /* of a 14: 'a' to 'e'; else 0 */
     size_t place;    /* of 6 to 10 and 19: the line, from 0; of a 14 b to d: the row; else 0 */
     size_t first;    /* the values, where number is 0; else 0 */
@@ -132,7 +134,7 @@ struct succoryvise_answer succoryvise_read_book(
     uint8_t *nodes, size_t nodes_length);
 
 /* Makes the table for a tower and a rule book, the smallest that allows every run that some good
- * table allows, and writes it to the front of 'out': 15, 1 to 12, or 16.
+ * table allows, and writes it to the front of 'out': 15, 1 to 12, 20, or 16.
  * Done: first is the length of the table in bytes, at most SUCCORYVISE_TABLE_MOST. */
 struct succoryvise_answer succoryvise_make(
     const uint8_t *tower, size_t tower_length,
@@ -142,11 +144,13 @@ struct succoryvise_answer succoryvise_make(
     uint8_t *pairs, size_t pairs_length,
     uint8_t *index, size_t index_length,
     uint8_t *graph, size_t graph_length,
+    uint8_t *sets, size_t sets_length,
+    uint8_t *room, size_t room_length,
     uint8_t *flags, size_t flags_length,
     uint8_t *classes, size_t classes_length);
 
-/* Checks a table, whoever made it, against a tower and a rule book: 15, 1 to 11, 13 or 14.
- * Done: the table is good. 11 says that it is too large to be judged, and not that it is bad. */
+/* Checks a table, whoever made it, against a tower and a rule book: 15, 1 to 11, 13, 14 or 20.
+ * Done: the table is good. 11 and 20 say that it is too large to be judged, and not that it is bad. */
 struct succoryvise_answer succoryvise_check(
     const uint8_t *tower, size_t tower_length,
     const uint8_t *text, size_t text_length,
@@ -154,7 +158,9 @@ struct succoryvise_answer succoryvise_check(
     uint8_t *nodes, size_t nodes_length,
     uint8_t *pairs, size_t pairs_length,
     uint8_t *index, size_t index_length,
-    uint8_t *graph, size_t graph_length);
+    uint8_t *graph, size_t graph_length,
+    uint8_t *sets, size_t sets_length,
+    uint8_t *room, size_t room_length);
 
 /* Follows a table by one action: 13, 17, or 18 (the action is not allowed in this row).
  * Done: first is the next row. A performance begins in row 0. */

@@ -187,6 +187,50 @@ pub fn with_pairs(count: usize) -> Ruled {
     })
 }
 
+/// A book of 60 nodes for towers of rounds, in which six `|` have two timed sides. The first line says:
+/// strike the third again within 4, or lift the damper within 6.
+pub const EITHER_BOOK: &str = "\
+always !p1 | (E 4 p3 | E 6 p8)
+always !p2 | (E 8 p6 | E 9 p9 | A 6 !p10)
+always !p3 | U 8 (!p1, p6)
+always !p4 | (E 6 p7 | E 8 p8)
+always !p5 | (E 6 p0 | A 6 !p9)
+always !p7 | N <= 3 (E 4 p2 | E 6 p10)
+always !p11 | A 2 !p12
+start E 9 p3
+";
+
+/// A tower of rounds for it, and the table that they make.
+pub struct Either {
+    pub tower: Vec<u8>,
+    pub table: Vec<u8>,
+    /// How many pairs the maker meets, and how many alternatives they have.
+    pub made: [usize; 2],
+    /// How many rows with what is pending the checker meets in the table, and their alternatives.
+    pub checked: [usize; 2],
+}
+
+/// A tower of 24 states. The maker meets 380 pairs with 994 alternatives: 66 pairs have one, 152 two, 66
+/// three, 78 four, 15 six and 3 eight. The table has 45 rows and 472 steps; in it the checker meets 270
+/// rows with what is pending, with 725 alternatives.
+pub fn either() -> Either {
+    let tower = round_tower(24, 45, true);
+    let book = EITHER_BOOK.as_bytes();
+    let mut table = vec![0; MOST_BYTES];
+    let mut maker = Maker::new();
+    let made = maker.make(&tower, book, &mut table);
+    table.truncate(made.expect("a table"));
+    let mut checker = Checker::new();
+    let checked = checker.check(&tower, book, &table);
+    checked.expect("a good table");
+    Either {
+        made: maker.met_sets(),
+        checked: checker.met_sets(),
+        tower,
+        table,
+    }
+}
+
 /// The tower of the vectors whose 500 rows only time tells apart.
 pub fn chain() -> Ruled {
     let mut lines = vectors::lines("make.txt").into_iter();

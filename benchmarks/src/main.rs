@@ -1,5 +1,6 @@
-//! Measures the proved entries beside plain Rust that does the same work, on the same inputs. With the
-//! feature `before` the entries of another library are measured, too.
+//! Measures the proved entries beside plain Rust that does the same work, on the same inputs; for sets of
+//! alternatives beside tuned Rust, too. With the feature `before` the entries of another library are
+//! measured, too.
 //!
 //! Prints the tables of docs/BENCHMARKS.md. The tests run each side once on every input and compare the
 //! answers, with no time.
@@ -9,10 +10,11 @@ mod inputs;
 mod measure;
 mod plain;
 mod proved;
+mod tuned;
 mod vectors;
 
 use answer::Answer;
-use inputs::{Logged, Ruled};
+use inputs::{Either, Logged, Ruled};
 use measure::{Growth, Pace, Times};
 use plain::book::Book;
 use plain::check::Checker;
@@ -58,11 +60,17 @@ impl Report {
         check_tables(&mut report);
         make_tables(&mut report);
         read_logs(&mut report);
+        keep_either_promise(&mut report);
         report
     }
 
     /// Begins a table whose first columns tell the input. Every library has the entry.
     fn begin(&mut self, title: &str, columns: &[&str]) {
+        self.begin_with(title, columns, "");
+    }
+
+    /// The same with more columns behind the last.
+    fn begin_with(&mut self, title: &str, columns: &[&str], more: &str) {
         self.measured = self.libraries.len();
         let columns = columns.join(" | ");
         self.lines.push(format!("\n### {title}\n"));
@@ -70,7 +78,7 @@ impl Report {
             1 => "proved",
             _ => "before | proved | proved / before",
         };
-        let line = format!("| {columns} | {proved} | plain Rust | proved / plain |");
+        let line = format!("| {columns} | {proved} | plain Rust | proved / plain |{more}");
         self.lines.push(line.clone());
         let rule = line.split('|').skip(2).map(|_| "|---");
         self.lines.push(rule.chain(["|"]).collect());
@@ -98,8 +106,20 @@ impl Report {
         proved: impl FnMut(&mut dyn Library),
         plain: impl FnMut(),
     ) -> Times {
+        self.measure_with(input, work, proved, plain, None)
+    }
+
+    /// The same with a call of tuned Rust, where there is some.
+    fn measure_with(
+        &mut self,
+        input: &[String],
+        work: Work,
+        proved: impl FnMut(&mut dyn Library),
+        plain: impl FnMut(),
+        tuned: Option<&mut dyn FnMut()>,
+    ) -> Times {
         let libraries = &mut self.libraries[..self.measured];
-        let times = self.pace.measure(libraries, proved, plain);
+        let times = self.pace.measure(libraries, proved, plain, tuned);
         let show = |time: Duration| work.show(time);
         let ratio = |time: Duration| format!("{:.2}", measure::ratio(times.proved, time));
         // A library without the entry has no time.
@@ -111,6 +131,8 @@ impl Report {
         columns.extend(times.before.map(ratio));
         columns.extend(missing);
         columns.extend([show(times.plain), ratio(times.plain)]);
+        columns.extend(times.tuned.map(show));
+        columns.extend(times.tuned.map(ratio));
         self.lines.push(format!("| {} |", columns.join(" | ")));
         times
     }
@@ -378,6 +400,78 @@ fn read_logs(report: &mut Report) {
     report.judge_logs(&times);
 }
 
+/// Makes and checks a table under a book with two timed sides of `|`. A library from before item 3 refuses
+/// the book, and has no time.
+fn keep_either_promise(report: &mut Report) {
+    let columns = ["entry", "pairs", "alternatives", "states", "rows", "steps"];
+    let more = " tuned Rust | proved / tuned |";
+    report.begin_with("Either of two promises", &columns, more);
+    let book = inputs::EITHER_BOOK.as_bytes();
+    let libraries = report.libraries.iter_mut();
+    let answers = libraries.map(|library| library.read_book(16, book));
+    report.measured = answers.filter(|answer| answer.number == 0).count();
+    let Either {
+        tower,
+        table,
+        made,
+        checked,
+    } = &inputs::either();
+    let [rows, steps] = inputs::table_counts(table);
+    let input = |entry: &str, [pairs, alternatives]: [usize; 2]| {
+        let states = usize::from(tower[0]);
+        let numbers = [pairs, alternatives, states, rows, steps].map(grouped);
+        [&[entry.to_string()], &numbers[..]].concat()
+    };
+
+    let (mut maker, mut tuned_maker) = (Maker::new(), Maker::tuned());
+    let [mut of_proved, mut of_plain, mut of_tuned] = [(); 3].map(|()| vec![0; MOST_BYTES]);
+    let plain = maker.make(tower, book, &mut of_plain);
+    let tuned = tuned_maker.make(tower, book, &mut of_tuned);
+    assert_eq!(tuned, plain);
+    assert!(of_tuned[..table.len()] == table[..]);
+    assert_eq!(tuned_maker.met_sets(), *made);
+    let make = |library: &mut dyn Library| {
+        let answer = library.make(tower, book, &mut of_proved);
+        assert!(of_proved[..table.len()] == table[..]);
+        answer
+    };
+    report.compare(make, plain.map(|length| [length, 0]));
+    report.measure_with(
+        &input("making", *made),
+        Work::Calls(1),
+        |library| {
+            black_box(library.make(black_box(tower), book, &mut of_proved));
+        },
+        || {
+            let _ = black_box(maker.make(black_box(tower), book, &mut of_plain));
+        },
+        Some(&mut || {
+            let _ = black_box(tuned_maker.make(black_box(tower), book, &mut of_tuned));
+        }),
+    );
+
+    let (mut checker, mut tuned_checker) = (Checker::new(), Checker::tuned());
+    let plain = checker.check(tower, book, table);
+    let tuned = tuned_checker.check(tower, book, table);
+    assert_eq!(tuned, plain);
+    assert_eq!(tuned_checker.met_sets(), *checked);
+    let plain = plain.map(|()| [0, 0]);
+    report.compare(|library| library.check(tower, book, table), plain);
+    report.measure_with(
+        &input("checking", *checked),
+        Work::Calls(1),
+        |library| {
+            black_box(library.check(black_box(tower), book, table));
+        },
+        || {
+            let _ = black_box(checker.check(black_box(tower), book, table));
+        },
+        Some(&mut || {
+            let _ = black_box(tuned_checker.check(black_box(tower), book, table));
+        }),
+    );
+}
+
 fn main() -> ExitCode {
     vectors::compare();
     let report = Report::of(Pace::FULL);
@@ -396,27 +490,37 @@ fn main() -> ExitCode {
 
 #[cfg(test)]
 mod tests {
-    use super::{vectors, Pace, Report};
+    use super::{inputs, vectors, Pace, Report};
 
-    /// All sides answer every input alike, and plain Rust the vectors as they state.
+    /// All sides answer every input alike, and plain and tuned Rust the vectors as they state.
     #[test]
     fn same_answers() {
-        assert!(vectors::compare() > 500);
+        assert!(vectors::compare() > 3_000);
         let report = Report::of(Pace::QUICK);
         let before = cfg!(feature = "before");
         assert_eq!(report.libraries.len(), 1 + usize::from(before));
         let rows = report.lines.iter().filter(|line| line.starts_with("| "));
-        let (mut columns, mut inputs) = (0, 0);
+        let (mut columns, mut inputs, mut tuned) = (0, 0, 0);
         for row in rows {
             let cells: Vec<&str> = row.split(" | ").collect();
-            if cells[cells.len() - 1] == "proved / plain |" {
+            if cells.contains(&"plain Rust") {
                 columns = cells.len();
+                tuned += usize::from(cells[columns - 1] == "proved / tuned |");
                 assert_eq!(cells.contains(&"proved / before"), before);
             } else {
                 inputs += 1;
                 assert_eq!(cells.len(), columns, "{row}");
             }
         }
-        assert_eq!(inputs, 21);
+        assert_eq!((inputs, tuned), (23, 1));
+    }
+
+    /// The input of item 3 of the change requests is as large as stated.
+    #[test]
+    fn either_of_two_promises() {
+        let either = inputs::either();
+        assert_eq!(either.made, [380, 994]);
+        assert_eq!(either.checked, [270, 725]);
+        assert_eq!(inputs::table_counts(&either.table), [45, 472]);
     }
 }

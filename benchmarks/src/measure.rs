@@ -1,4 +1,4 @@
-//! Times of the proved libraries and the plain side, in turn.
+//! Times of the proved libraries, the plain side and the tuned one, in turn.
 
 use crate::proved::Library;
 use std::time::Duration;
@@ -25,31 +25,40 @@ impl Pace {
         least_run: Duration::ZERO,
     };
 
-    /// Runs all sides in turn, of one library or two. A run is as many calls as fill the least time.
+    /// Runs all sides in turn, of one library or two, and tuned Rust where there is some. A run is as many
+    /// calls as fill the least time.
     pub fn measure(
         self,
         libraries: &mut [Box<dyn Library>],
         mut proved: impl FnMut(&mut dyn Library),
         mut plain: impl FnMut(),
+        mut tuned: Option<&mut dyn FnMut()>,
     ) -> Times {
         let mut once = self.shortest(&mut plain);
+        if let Some(tuned) = &mut tuned {
+            once = once.min(self.shortest(tuned));
+        }
         for library in libraries.iter_mut() {
             once = once.min(self.shortest(&mut || proved(library.as_mut())));
         }
         let calls = (self.least_run.as_nanos() / once.as_nanos().max(1)).max(1) as u32;
         let mut of_proved = vec![Vec::new(); libraries.len()];
-        let mut of_plain = Vec::new();
+        let (mut of_plain, mut of_tuned) = (Vec::new(), Vec::new());
         for _ in 0..self.runs {
             for (library, times) in libraries.iter_mut().zip(&mut of_proved) {
                 times.push(time(calls, &mut || proved(library.as_mut())) / calls);
             }
             of_plain.push(time(calls, &mut plain) / calls);
+            if let Some(tuned) = &mut tuned {
+                of_tuned.push(time(calls, tuned) / calls);
+            }
         }
         let mut of_proved = of_proved.into_iter().map(median);
         Times {
             proved: of_proved.next().expect("a library"),
             before: of_proved.next(),
             plain: median(of_plain),
+            tuned: tuned.map(|_| median(of_tuned)),
         }
     }
 
@@ -102,6 +111,8 @@ pub struct Times {
     /// Of the other library, where there is one.
     pub before: Option<Duration>,
     pub plain: Duration,
+    /// Of tuned Rust, where there is some.
+    pub tuned: Option<Duration>,
 }
 
 /// How many times the second the first is.
@@ -145,6 +156,7 @@ mod tests {
             proved: Duration::from_micros(proved[i]),
             before: None,
             plain: Duration::from_micros(plain[i]),
+            tuned: None,
         });
         Growth::of(first, last)
     }

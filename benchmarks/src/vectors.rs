@@ -6,6 +6,7 @@ use crate::plain::check::Checker;
 use crate::plain::follow::follow;
 use crate::plain::log::{Course, LogReader};
 use crate::plain::make::Maker;
+use crate::plain::search::Search;
 use crate::plain::table::MOST_BYTES;
 use std::fs;
 use std::path::{Path, PathBuf};
@@ -22,18 +23,19 @@ pub fn lines(file: &str) -> Vec<Line> {
     let mut folders: Vec<PathBuf> = inside.map(|entry| entry.expect("a file").path()).collect();
     folders.sort();
     folders.insert(0, folder);
-    // the lines of 02-03 hold with item 3 in force, and the plain side has it not yet
-    folders.retain(|path| path.join(file).is_file() && !path.ends_with("02-03"));
-    let read = |folder: &PathBuf| fs::read_to_string(folder.join(file)).expect("a file of vectors");
-    let text: String = folders.iter().map(read).collect();
-    let line = |line: &str| {
-        let (inputs, answer) = line.split_once(" = ").expect("inputs and an answer");
-        Line {
-            inputs: inputs.split(' ').map(str::to_string).collect(),
-            answer: answer.to_string(),
+    folders.retain(|path| path.join(file).is_file());
+    let mut lines = Vec::new();
+    for path in folders.iter().map(|folder| folder.join(file)) {
+        let text = fs::read_to_string(&path).expect("a file of vectors");
+        for line in text.lines() {
+            let (inputs, answer) = line.split_once(" = ").expect("inputs and an answer");
+            lines.push(Line {
+                inputs: inputs.split(' ').map(str::to_string).collect(),
+                answer: answer.to_string(),
+            });
         }
-    };
-    text.lines().map(line).collect()
+    }
+    lines
 }
 
 /// Bytes in hexadecimal; `-` is no bytes.
@@ -43,11 +45,38 @@ pub fn bytes(hexadecimal: &str) -> Vec<u8> {
     pairs.map(|pair| byte(pair).expect("two digits")).collect()
 }
 
-/// Compares the answers of the plain side with those of the vectors, and answers how many lines
-/// there are.
+fn number(text: &str) -> usize {
+    text.parse().expect("a number")
+}
+
+/// What a maker answers to a line of `make.txt`.
+fn make<S: Search>(maker: &mut Maker<S>, inputs: &[String]) -> String {
+    let mut out = vec![0; number(&inputs[2]).min(MOST_BYTES)];
+    let [tower, book] = [0, 1].map(|i| bytes(&inputs[i]));
+    match maker.make(&tower, &book, &mut out) {
+        Ok(length) => {
+            let byte = |byte: &u8| format!("{byte:02x}");
+            let table: String = out[..length].iter().map(byte).collect();
+            format!("made {table}")
+        }
+        Err(refusal) => Answer::of(Err(refusal)).to_string(),
+    }
+}
+
+/// What a checker answers to a line of `check.txt`.
+fn check<S: Search>(checker: &mut Checker<S>, inputs: &[String]) -> String {
+    let [tower, book, table] = [0, 1, 2].map(|i| bytes(&inputs[i]));
+    match checker.check(&tower, &book, &table) {
+        Ok(()) => "good".to_string(),
+        Err(refusal) => Answer::of(Err(refusal)).to_string(),
+    }
+}
+
+/// Compares the answers of the plain side, and of the tuned maker and checker, with those of the vectors,
+/// and answers how many lines there are.
 pub fn compare() -> usize {
-    let mut maker = Maker::new();
-    let mut checker = Checker::new();
+    let (mut maker, mut tuned_maker) = (Maker::new(), Maker::tuned());
+    let (mut checker, mut tuned_checker) = (Checker::new(), Checker::tuned());
     let mut log_reader = LogReader::new();
     let mut count = 0;
     let mut each = |file: &str, answer: &mut dyn FnMut(&[String]) -> String| {
@@ -57,7 +86,6 @@ pub fn compare() -> usize {
             count += 1;
         }
     };
-    let number = |text: &str| text.parse::<usize>().expect("a number");
     each(
         "book.txt",
         &mut |inputs| match Book::read(number(&inputs[0]), &bytes(&inputs[1])) {
@@ -66,22 +94,18 @@ pub fn compare() -> usize {
         },
     );
     each("make.txt", &mut |inputs| {
-        let mut out = vec![0; number(&inputs[2]).min(MOST_BYTES)];
-        match maker.make(&bytes(&inputs[0]), &bytes(&inputs[1]), &mut out) {
-            Ok(length) => {
-                let byte = |byte: &u8| format!("{byte:02x}");
-                let table: String = out[..length].iter().map(byte).collect();
-                format!("made {table}")
-            }
-            Err(refusal) => Answer::of(Err(refusal)).to_string(),
-        }
+        let answer = make(&mut maker, inputs);
+        assert_eq!(make(&mut tuned_maker, inputs), answer, "tuned: {inputs:?}");
+        answer
     });
     each("check.txt", &mut |inputs| {
-        let [tower, book, table] = [0, 1, 2].map(|i| bytes(&inputs[i]));
-        match checker.check(&tower, &book, &table) {
-            Ok(()) => "good".to_string(),
-            Err(refusal) => Answer::of(Err(refusal)).to_string(),
-        }
+        let answer = check(&mut checker, inputs);
+        assert_eq!(
+            check(&mut tuned_checker, inputs),
+            answer,
+            "tuned: {inputs:?}"
+        );
+        answer
     });
     each("follow.txt", &mut |inputs| match follow(
         &bytes(&inputs[0]),

@@ -21,6 +21,8 @@ static uint8_t nodes[SUCCORYVISE_NODES_LENGTH];
 static uint8_t pairs[SUCCORYVISE_PAIRS_LENGTH];
 static uint8_t index_area[SUCCORYVISE_INDEX_LENGTH];
 static uint8_t graph[SUCCORYVISE_GRAPH_LENGTH];
+static uint8_t sets[SUCCORYVISE_SETS_LENGTH];
+static uint8_t room[SUCCORYVISE_ROOM_LENGTH];
 static uint8_t flags[SUCCORYVISE_FLAGS_LENGTH];
 static uint8_t classes[SUCCORYVISE_CLASSES_LENGTH];
 
@@ -111,7 +113,8 @@ int main(int count, char **words)
 
     answer = succoryvise_make(tower, tower_length, book, book_length, table, sizeof table,
                               nodes, sizeof nodes, pairs, sizeof pairs, index_area, sizeof index_area,
-                              graph, sizeof graph, flags, sizeof flags, classes, sizeof classes);
+                              graph, sizeof graph, sets, sizeof sets, room, sizeof room,
+                              flags, sizeof flags, classes, sizeof classes);
     if (refused(answer))
         return 1;
     table_length = answer.first;
@@ -120,7 +123,7 @@ int main(int count, char **words)
     /* A table is checked before it is used, whoever made it. */
     answer = succoryvise_check(tower, tower_length, book, book_length, table, table_length,
                                nodes, sizeof nodes, pairs, sizeof pairs, index_area, sizeof index_area,
-                               graph, sizeof graph);
+                               graph, sizeof graph, sets, sizeof sets, room, sizeof room);
     if (refused(answer))
         return 1;
     printf("good\n");

@@ -11,10 +11,11 @@ static answer (*const read_book)(size_t, const uint8_t *, size_t, uint8_t *, siz
     succoryvise_read_book;
 static answer (*const make)(const uint8_t *, size_t, const uint8_t *, size_t, uint8_t *, size_t,
                             uint8_t *, size_t, uint8_t *, size_t, uint8_t *, size_t, uint8_t *, size_t,
-                            uint8_t *, size_t, uint8_t *, size_t) = succoryvise_make;
+                            uint8_t *, size_t, uint8_t *, size_t, uint8_t *, size_t, uint8_t *, size_t) =
+    succoryvise_make;
 static answer (*const check)(const uint8_t *, size_t, const uint8_t *, size_t, const uint8_t *, size_t,
-                             uint8_t *, size_t, uint8_t *, size_t, uint8_t *, size_t, uint8_t *,
-                             size_t) = succoryvise_check;
+                             uint8_t *, size_t, uint8_t *, size_t, uint8_t *, size_t, uint8_t *, size_t,
+                             uint8_t *, size_t, uint8_t *, size_t) = succoryvise_check;
 static answer (*const follow)(const uint8_t *, size_t, size_t, size_t) = succoryvise_follow;
 static answer (*const read_log)(const uint8_t *, size_t, const uint8_t *, size_t, const uint8_t *,
                                 size_t) = succoryvise_read_log;
@@ -40,9 +41,11 @@ int main(void)
 
     /* Nothing is lent: 15 from the first three. No bytes are no table: 13; and no tower: 1. */
     return read_book(0, none, 0, none, 0).number != SUCCORYVISE_AREA
-        || make(none, 0, none, 0, none, 0, none, 0, none, 0, none, 0, none, 0, none, 0, none, 0).number
+        || make(none, 0, none, 0, none, 0, none, 0, none, 0, none, 0, none, 0, none, 0, none, 0, none, 0,
+                none, 0).number
             != SUCCORYVISE_AREA
-        || check(none, 0, none, 0, none, 0, none, 0, none, 0, none, 0, none, 0).number != SUCCORYVISE_AREA
+        || check(none, 0, none, 0, none, 0, none, 0, none, 0, none, 0, none, 0, none, 0, none, 0).number
+            != SUCCORYVISE_AREA
         || follow(none, 0, 0, 0).number != SUCCORYVISE_LAYOUT
         || read_log(none, 0, none, 0, none, 0).number != SUCCORYVISE_TOWER_SIZE
         || succoryvise_version() != SUCCORYVISE_VERSION;

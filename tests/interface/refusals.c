@@ -8,11 +8,12 @@
 #include <string.h>
 
 /* The areas of the maker. The checker borrows the first ones of them. */
-#define AREAS 6
-#define CHECKER_AREAS 4
+#define AREAS 8
+#define CHECKER_AREAS 6
 static const size_t least[AREAS] = {
     SUCCORYVISE_NODES_LENGTH, SUCCORYVISE_PAIRS_LENGTH, SUCCORYVISE_INDEX_LENGTH,
-    SUCCORYVISE_GRAPH_LENGTH, SUCCORYVISE_FLAGS_LENGTH, SUCCORYVISE_CLASSES_LENGTH,
+    SUCCORYVISE_GRAPH_LENGTH, SUCCORYVISE_SETS_LENGTH, SUCCORYVISE_ROOM_LENGTH,
+    SUCCORYVISE_FLAGS_LENGTH, SUCCORYVISE_CLASSES_LENGTH,
 };
 
 /* The lengths of the areas that are lent, and whether something is written to them before; if not, a
@@ -31,7 +32,7 @@ struct bytes {
 static int right, wrong;
 
 /* Which numbers have come, up to the last one. */
-#define LAST SUCCORYVISE_LOG
+#define LAST SUCCORYVISE_ALTERNATIVES
 static int came[LAST + 1];
 
 static void count(int holds, const char *what, const char *fact)
@@ -158,7 +159,8 @@ static struct succoryvise_answer make(const char *what, struct bytes tower, stru
     answer = succoryvise_make(tower.at, tower.length, text.at, text.length, out.at, out.length,
                               areas[0].at, areas[0].length, areas[1].at, areas[1].length,
                               areas[2].at, areas[2].length, areas[3].at, areas[3].length,
-                              areas[4].at, areas[4].length, areas[5].at, areas[5].length);
+                              areas[4].at, areas[4].length, areas[5].at, areas[5].length,
+                              areas[6].at, areas[6].length, areas[7].at, areas[7].length);
     count(same(tower, before) && same(text, book), what, "an input has changed");
     count(answer.first <= room && all(out, answer.first, BEFORE), what,
           "the output has changed behind the table");
@@ -181,7 +183,8 @@ static struct succoryvise_answer check(const char *what, struct bytes tower, str
     borrow(areas, CHECKER_AREAS);
     answer = succoryvise_check(tower.at, tower.length, text.at, text.length, table.at, table.length,
                                areas[0].at, areas[0].length, areas[1].at, areas[1].length,
-                               areas[2].at, areas[2].length, areas[3].at, areas[3].length);
+                               areas[2].at, areas[2].length, areas[3].at, areas[3].length,
+                               areas[4].at, areas[4].length, areas[5].at, areas[5].length);
     count(same(tower, before) && same(text, book) && same(table, file), what, "an input has changed");
     give_back(areas, CHECKER_AREAS, answer, what);
     free(before.at);
@@ -434,7 +437,7 @@ static void books(void)
     memcpy(many.at, "start ", 6);
     many.at[many.length - 1] = '\n';
     bad_book("brackets never closed", many, SUCCORYVISE_GRAMMAR, 0);
-    bad_book("start E 1 p0 | E 1 p1", text_of("start E 1 p0 | E 1 p1\n"), SUCCORYVISE_TIMED, 0);
+    bad_book("start U 1 (T, E 1 p0)", text_of("start U 1 (T, E 1 p0)\n"), SUCCORYVISE_TIMED, 0);
 }
 
 /* The ring of 200 states: 1,000 pairs are enough, and one more is 11. */
@@ -458,6 +461,32 @@ static void pairs(void)
     free(most.at);
     free(over.at);
     free(table.at);
+}
+
+/* Two lines of four timed sides each leave 16 alternatives after the first step; one side
+ * more, and it is 20. */
+static void alternatives(void)
+{
+    struct bytes tower = copy_of(small_tower, sizeof small_tower), none = text_of("");
+    struct bytes most = text_of("start E 3 p1 | E 3 p1 | E 3 p1 | E 3 p1\n"
+                                "start E 3 p2 | E 3 p2 | E 3 p2 | E 3 p2\n");
+    struct bytes over = text_of("start E 3 p1 | E 3 p1 | E 3 p1 | E 3 p1 | E 3 p1\n"
+                                "start E 3 p2 | E 3 p2 | E 3 p2 | E 3 p2\n");
+    struct bytes table, other;
+
+    expect("no rules", make("no rules", tower, none, SUCCORYVISE_TABLE_MOST, &table), SUCCORYVISE_DONE, 0, 0);
+    expect("16 alternatives", make("16 alternatives", tower, most, SUCCORYVISE_TABLE_MOST, &other),
+           SUCCORYVISE_DONE, 0, 0);
+    expect("16 alternatives", check("16 alternatives", tower, most, other), SUCCORYVISE_DONE, 0, 0);
+    expect("20 alternatives", make("20 alternatives", tower, over, SUCCORYVISE_TABLE_MOST, NULL),
+           SUCCORYVISE_ALTERNATIVES, 0, 0);
+    expect("20 alternatives", check("20 alternatives", tower, over, table), SUCCORYVISE_ALTERNATIVES, 0, 0);
+    free(tower.at);
+    free(none.at);
+    free(most.at);
+    free(over.at);
+    free(table.at);
+    free(other.at);
 }
 
 static void tables(void)
@@ -610,6 +639,7 @@ int main(void)
             towers();
             books();
             pairs();
+            alternatives();
             tables();
             if (more == 0)
                 areas();

@@ -21,6 +21,7 @@ static uint8_t table[SUCCORYVISE_TABLE_MOST], out[SUCCORYVISE_TABLE_MOST];
 static size_t table_length;
 static uint8_t nodes[SUCCORYVISE_NODES_LENGTH], pairs[SUCCORYVISE_PAIRS_LENGTH];
 static uint8_t index_area[SUCCORYVISE_INDEX_LENGTH], graph[SUCCORYVISE_GRAPH_LENGTH];
+static uint8_t sets[SUCCORYVISE_SETS_LENGTH], room[SUCCORYVISE_ROOM_LENGTH];
 static uint8_t flags[SUCCORYVISE_FLAGS_LENGTH], classes[SUCCORYVISE_CLASSES_LENGTH];
 
 /* One state with one mark, and one action, which is ours. */
@@ -34,15 +35,15 @@ static struct succoryvise_answer read_book(void)
 static struct succoryvise_answer make(void)
 {
     return succoryvise_make(tower, sizeof tower, text, text_length, out, sizeof out, nodes, sizeof nodes,
-                            pairs, sizeof pairs, index_area, sizeof index_area, graph, sizeof graph, flags,
-                            sizeof flags, classes, sizeof classes);
+                            pairs, sizeof pairs, index_area, sizeof index_area, graph, sizeof graph, sets,
+                            sizeof sets, room, sizeof room, flags, sizeof flags, classes, sizeof classes);
 }
 
 static struct succoryvise_answer check(void)
 {
     return succoryvise_check(tower, sizeof tower, text, text_length, table, table_length, nodes,
                              sizeof nodes, pairs, sizeof pairs, index_area, sizeof index_area, graph,
-                             sizeof graph);
+                             sizeof graph, sets, sizeof sets, room, sizeof room);
 }
 
 static struct succoryvise_answer follow(void)
@@ -117,6 +118,7 @@ static const struct shape shapes[] = {
     { "accepted, N of N", "N>0", "p0", "", 59, SUCCORYVISE_DONE },
     { "accepted, A of A", A_0, "p0", "", 59, SUCCORYVISE_DONE },
     { "accepted, A of brackets", A_0 "(", MANY_A "p0", ")", 16, SUCCORYVISE_DONE },
+    { "accepted, A of an or", A_0, "(A 0 p0|A 0 p0)", "", 55, SUCCORYVISE_DONE },
     { "and of and", "T&", "T", "", 0, SUCCORYVISE_LIMIT },
     { "or of or", "T|", "T", "", 0, SUCCORYVISE_LIMIT },
     { "N of N", "N>0", "T", "", 0, SUCCORYVISE_LIMIT },

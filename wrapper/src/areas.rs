@@ -35,7 +35,7 @@ pub struct Checker {
 }
 
 impl Checker {
-    /// A checker with its memory, about 100 KiB.
+    /// A checker with its memory, about 200 KiB.
     pub fn new() -> Self {
         Checker {
             areas: Areas::new(),
@@ -77,7 +77,7 @@ pub struct Maker {
 }
 
 impl Maker {
-    /// A maker with its memory, about 150 KiB.
+    /// A maker with its memory, about 240 KiB.
     pub fn new() -> Self {
         Maker {
             areas: Areas::new(),

@@ -42,7 +42,7 @@
 //! # Stack
 //!
 //! [`follow`] and [`Player`] need less than 1 KiB of stack, [`read_log`] 33 KiB. What reads a rule book
-//! calls itself for every bracket, `N`, `A`, `E` and `U` that a part of a formula stands in: up to 15 KiB
+//! calls itself for every bracket, `N`, `A`, `E` and `U` that a part of a formula stands in: up to 33 KiB
 //! for books that are accepted, and for a text of 4,096 bytes that is not, up to 1.5 MiB if it is all
 //! brackets, and 0.5 MiB if it is all `A` (measured on x86-64; `docs/LINKING.md` has each shape). The
 //! threads of the standard library have 2 MiB if nothing else is asked for. On a thread with too little
@@ -112,7 +112,7 @@ pub fn read_book(marks: usize, text: &[u8]) -> Result<BookCounts, Refusal> {
 /// Makes the table for a tower and a rule book: the smallest table that allows every run that some
 /// good table allows.
 ///
-/// It borrows about 200 KiB from the heap. To make many tables with the same memory, or to give the
+/// It borrows about 290 KiB from the heap. To make many tables with the same memory, or to give the
 /// place of the table, use a [`Maker`]. The refusals are those of the tower (numbers 1 to 5) and the
 /// book (6 to 10), [`Pairs`](Refusal::Pairs), [`Alternatives`](Refusal::Alternatives) and
 /// [`NoTable`](Refusal::NoTable).
@@ -130,11 +130,11 @@ pub fn make(tower: &[u8], text: &[u8]) -> Result<Vec<u8>, Refusal> {
 
 /// Whether a table, whoever made it, is good for a tower and a rule book.
 ///
-/// It borrows about 100 KiB from the heap; to check many tables with the same memory, use a
+/// It borrows about 200 KiB from the heap; to check many tables with the same memory, use a
 /// [`Checker`]. The refusals are those of the tower (numbers 1 to 5) and the book (6 to 10),
 /// [`Layout`](Refusal::Layout), [`NotGood`](Refusal::NotGood) with the first reason, and
-/// [`Pairs`](Refusal::Pairs) and [`Alternatives`](Refusal::Alternatives), which say that the table is too
-/// large to be judged, and not that it is bad.
+/// [`Pairs`](Refusal::Pairs) and [`Alternatives`](Refusal::Alternatives), which say that the table is
+/// too large to be judged, and not that it is bad.
 ///
 /// ```
 /// # let tower = include_bytes!("../../examples/small-tower/tower.bin");

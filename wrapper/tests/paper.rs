@@ -73,7 +73,7 @@ fn books_that_are_not_fit() {
         (lines(&["start p3"]), 8, 0),
         (lines(&["start T"; 61]), 9, 60),
         (vec![b' '; 4_097], 9, 0),
-        (lines(&["start E 1 p0 | E 1 p1"]), 10, 0),
+        (lines(&["start U 1 (T, E 1 p0)"]), 10, 0),
         (b"start T\nstart T".to_vec(), 6, 1),
     ];
     for (book, number, line) in books {
@@ -93,6 +93,16 @@ fn no_table_and_too_many_pairs() {
     assert_eq!(make(&ring, &over), Err(Refusal::Pairs));
     let any = make(&ring, b"").expect("a table for the ring");
     assert_eq!(check(&ring, &over, &any), Err(Refusal::Pairs));
+}
+
+#[test]
+fn either_of_two_promises() {
+    let either = make(&SMALL_TOWER, b"start E 1 p0 | E 1 p1\n").expect("a table");
+    assert_eq!(check(&SMALL_TOWER, b"start E 1 p0 | E 1 p1\n", &either), Ok(()));
+    let over = example("small-tower/book-refused-20.txt");
+    assert_eq!(make(&SMALL_TOWER, &over), Err(Refusal::Alternatives));
+    let any = make(&SMALL_TOWER, b"").expect("a table for the small tower");
+    assert_eq!(check(&SMALL_TOWER, &over, &any), Err(Refusal::Alternatives));
 }
 
 #[test]

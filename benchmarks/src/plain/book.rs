@@ -36,7 +36,7 @@ pub enum Node {
         negated: bool,
     },
     And(u8, u8),
-    /// With an untimed side first.
+    /// With an untimed side first, where there is one.
     Or(u8, u8),
     Next {
         comparison: Comparison,
@@ -123,6 +123,41 @@ impl Book {
         &self.nodes[usize::from(number)]
     }
 
+    /// A bit for each `|` with two timed sides.
+    #[inline(never)]
+    pub fn either(&self) -> u64 {
+        let (mut timed, mut either) = (0u64, 0);
+        for (node, kind) in self.nodes[..self.node_count].iter().enumerate() {
+            let is_timed = match *kind {
+                Node::Constant(_) | Node::Mark { .. } => false,
+                Node::And(first, second) => (timed >> first | timed >> second) & 1 == 1,
+                Node::Or(first, second) => {
+                    either |= (timed >> first & 1) << node;
+                    timed >> second & 1 == 1
+                }
+                _ => true,
+            };
+            timed |= u64::from(is_timed) << node;
+        }
+        either
+    }
+
+    /// A bit for each node that may give more than one alternative: one of those, or one with such a part
+    /// that is progressed with it.
+    pub fn many(&self, either: u64) -> u64 {
+        let mut many = either;
+        for (node, kind) in self.nodes[..self.node_count].iter().enumerate() {
+            let parts = match *kind {
+                Node::And(first, second) | Node::Or(first, second) => 1 << first | 1 << second,
+                Node::Always { part, .. } => 1 << part,
+                Node::Until { first, .. } => 1 << first,
+                _ => 0u64,
+            };
+            many |= u64::from(many & parts != 0) << node;
+        }
+        many
+    }
+
     /// The number that a new node starts with.
     pub fn bound(&self, number: u8) -> u8 {
         match *self.node(number) {
@@ -196,7 +231,6 @@ impl Reader<'_> {
         let mut whole = self.conjunction()?;
         while self.take_token(b'|').is_some() {
             let right = self.conjunction()?;
-            self.faults.timed |= whole.timed && right.timed;
             let node = if whole.timed {
                 Node::Or(right.node, whole.node)
             } else {

@@ -2,7 +2,9 @@
 
 use super::book::Book;
 use super::hash::Fast;
+use super::pairs::Pairs;
 use super::pending::{self, Onward, Pending};
+use super::search::{Search, Tried};
 use super::table::Table;
 use super::tower::Tower;
 use super::{Refusal, MOST_PAIRS};
@@ -15,19 +17,30 @@ struct Item {
     pending: Pending,
 }
 
-/// The room of a checker, kept from call to call.
-pub struct Checker {
+/// The room of a checker, kept from call to call, with a search over pairs of sets: the plain one, or
+/// another.
+pub struct Checker<S = Pairs> {
     known: HashSet<Item, Fast>,
     met: Vec<Item>,
     onward: Onward,
+    /// The rows with what is pending under a book with two timed sides of `|`.
+    with_sets: S,
 }
 
 impl Checker {
     pub fn new() -> Self {
+        Checker::with_room()
+    }
+}
+
+impl<S: Search> Checker<S> {
+    /// With room for the most rows with what is pending.
+    pub fn with_room() -> Self {
         Checker {
             known: HashSet::with_capacity_and_hasher(MOST_PAIRS + 1, Fast::default()),
             met: Vec::with_capacity(MOST_PAIRS + 1),
             onward: Onward::new(),
+            with_sets: S::new(),
         }
     }
 
@@ -36,13 +49,26 @@ impl Checker {
         self.met.len()
     }
 
+    /// How many of them the last call under a book with two timed sides of `|` has met, and how many
+    /// alternatives they have.
+    pub fn met_sets(&self) -> [usize; 2] {
+        self.with_sets.counts()
+    }
+
     /// Whether the table is good for the tower and the book.
     pub fn check(&mut self, tower: &[u8], book: &[u8], table: &[u8]) -> Result<(), Refusal> {
         let tower = Tower::read(tower)?;
         let book = Book::read(tower.marks, book)?;
         let table = Table::read(table)?;
         judge_rows(&tower, &table)?;
-        if self.allows_a_broken_run(&tower, &book, &table)? {
+        let broken = match book.either() {
+            0 => self.allows_a_broken_run(&tower, &book, &table)?,
+            either => {
+                let rules = S::rules(&book, either);
+                self.allows_a_broken_run_of_sets(&tower, &rules, &table)?
+            }
+        };
+        if broken {
             return Err(Refusal::not_good(b'e', 0));
         }
         Ok(())
@@ -90,6 +116,36 @@ impl Checker {
                     self.met.push(reached);
                 }
             }
+        }
+        Ok(broken)
+    }
+
+    /// The same under a book with two timed sides of `|`; 20 after 11, where some row with what is
+    /// pending gives too many alternatives by an allowed action.
+    #[inline(never)]
+    fn allows_a_broken_run_of_sets(
+        &mut self,
+        tower: &Tower,
+        rules: &S::Rules<'_>,
+        table: &Table,
+    ) -> Result<bool, Refusal> {
+        self.with_sets.begin(rules, 0);
+        let (mut broken, mut over_full) = (false, false);
+        let mut next = 0;
+        while let Some(row) = self.with_sets.at(next) {
+            let state = table.state(row);
+            let tried = table.steps(row).map(|step| Tried {
+                action: step.action,
+                length: tower.step_length(state, step.action),
+                target: step.target,
+            });
+            let lead = |_, pair: Option<u16>| broken |= pair.is_none();
+            let marks = tower.mask(state);
+            over_full |= self.with_sets.step(rules, next, marks, tried, lead)?;
+            next += 1;
+        }
+        if over_full {
+            return Err(Refusal::new(20));
         }
         Ok(broken)
     }

@@ -3,10 +3,12 @@
 
 use super::book::Book;
 use super::hash::Fast;
+use super::pairs::Pairs;
 use super::pending::{self, Onward, Pending};
+use super::search::{Number, Search, Tried};
 use super::table::{COUNT, FIRST, HEADER, ROW, STEP};
 use super::tower::Tower;
-use super::{Refusal, MOST_ACTIONS, MOST_PAIRS};
+use super::{Refusal, MOST_ACTIONS, MOST_NODES, MOST_PAIRS};
 use std::collections::HashMap;
 use std::hash::{Hash, Hasher};
 
@@ -20,8 +22,7 @@ struct Pair {
 const NOT_ENABLED: u16 = u16::MAX;
 const BROKEN: u16 = u16::MAX - 1;
 
-/// The number of a pair, as steps and classes have it.
-type Number = u16;
+/// Numbers of pairs or of classes, by actions.
 type Steps = [Number; MOST_ACTIONS];
 
 /// The class of a pair, and the classes that its actions lead to.
@@ -51,8 +52,9 @@ impl Hash for Signature {
     }
 }
 
-/// The room of a maker, kept from call to call.
-pub struct Maker {
+/// The room of a maker, kept from call to call, with a search over pairs of sets: the plain one, or
+/// another.
+pub struct Maker<S = Pairs> {
     numbers: HashMap<Pair, Number, Fast>,
     pairs: Vec<Pair>,
     onward: Onward,
@@ -69,6 +71,8 @@ pub struct Maker {
     signatures: HashMap<Signature, Number, Fast>,
     rows: Vec<Number>,
     row_of_class: Vec<Number>,
+    /// The pairs under a book with two timed sides of `|`.
+    with_sets: S,
 }
 
 /// How large a call was.
@@ -82,6 +86,13 @@ pub struct Size {
 
 impl Maker {
     pub fn new() -> Self {
+        Maker::with_room()
+    }
+}
+
+impl<S: Search> Maker<S> {
+    /// With room for the most pairs.
+    pub fn with_room() -> Self {
         let most = MOST_PAIRS;
         let hasher = Fast::default;
         Maker {
@@ -99,6 +110,7 @@ impl Maker {
             signatures: HashMap::with_capacity_and_hasher(most, hasher()),
             rows: Vec::with_capacity(most),
             row_of_class: Vec::with_capacity(most),
+            with_sets: S::new(),
         }
     }
 
@@ -106,7 +118,10 @@ impl Maker {
     pub fn make(&mut self, tower: &[u8], book: &[u8], out: &mut [u8]) -> Result<usize, Refusal> {
         let tower = Tower::read(tower)?;
         let book = Book::read(tower.marks, book)?;
-        self.explore(&tower, &book)?;
+        match book.either() {
+            0 => self.explore(&tower, &book)?,
+            either => self.explore_sets(&tower, &S::rules(&book, either))?,
+        }
         self.remove(&tower);
         if !self.kept[0] {
             return Err(Refusal::new(12));
@@ -125,6 +140,12 @@ impl Maker {
             removal_passes: self.removal_passes(&tower),
             refinement_passes: self.refine(tower.actions),
         })
+    }
+
+    /// How many pairs the last call under a book with two timed sides of `|` has met, and how many
+    /// alternatives they have.
+    pub fn met_sets(&self) -> [usize; 2] {
+        self.with_sets.counts()
     }
 
     /// How many passes over all pairs find those that are kept. The proved code makes them from the
@@ -200,6 +221,41 @@ impl Maker {
                 steps[action] = number;
             }
             self.steps.push(steps);
+        }
+        Ok(())
+    }
+
+    /// The same under a book with two timed sides of `|`; 20 where some pair gives too many
+    /// alternatives. Nobody asks for what is pending afterwards, so the pairs have their states alone.
+    #[inline(never)]
+    fn explore_sets(&mut self, tower: &Tower, rules: &S::Rules<'_>) -> Result<(), Refusal> {
+        self.pairs.clear();
+        self.steps.clear();
+        self.with_sets.begin(rules, tower.start);
+        let mut over_full = false;
+        while let Some(state) = self.with_sets.at(self.steps.len()) {
+            let mut steps = [NOT_ENABLED; MOST_ACTIONS];
+            let tried = tower.targets(state).enumerate();
+            let tried = tried.filter_map(|(action, target)| {
+                Some(Tried {
+                    action,
+                    length: tower.step_length(state, action),
+                    target: target?,
+                })
+            });
+            let lead = |action: usize, pair: Option<Number>| steps[action] = pair.unwrap_or(BROKEN);
+            let marks = tower.mask(state);
+            over_full |= self
+                .with_sets
+                .step(rules, self.steps.len(), marks, tried, lead)?;
+            self.steps.push(steps);
+            self.pairs.push(Pair {
+                state: state as u8,
+                pending: [0; MOST_NODES],
+            });
+        }
+        if over_full {
+            return Err(Refusal::new(20));
         }
         Ok(())
     }

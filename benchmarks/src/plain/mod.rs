@@ -1,13 +1,16 @@
 //! The five entries in plain Rust, as one would write them for speed and without proofs: what is
 //! read lies in arrays of fixed size, and the room of the searches is kept from call to call.
 
+pub mod alternatives;
 pub mod book;
 pub mod check;
 pub mod follow;
 pub mod hash;
 pub mod log;
 pub mod make;
+pub mod pairs;
 pub mod pending;
+pub mod search;
 pub mod table;
 pub mod tower;
 

@@ -81,7 +81,7 @@ fn after(book: &Book, pending: &Pending, marks: u16, length: u8) -> Option<Pendi
 }
 
 /// Makes a node pending. Where it is so already, A keeps the larger number and U the smaller.
-fn add(book: &Book, pending: &mut Pending, node: u8, left: u8) {
+pub fn add(book: &Book, pending: &mut Pending, node: u8, left: u8) {
     let cell = &mut pending[usize::from(node)];
     let new = left + 1;
     *cell = match (*cell, book.node(node)) {
@@ -92,16 +92,16 @@ fn add(book: &Book, pending: &mut Pending, node: u8, left: u8) {
     };
 }
 
-struct Step<'a> {
-    book: &'a Book,
-    marks: u16,
-    length: u8,
-    next: Pending,
+pub struct Step<'a> {
+    pub book: &'a Book,
+    pub marks: u16,
+    pub length: u8,
+    pub next: Pending,
 }
 
 impl Step<'_> {
     /// Progresses a node with `left` ticks left; false where it breaks.
-    fn progress(&mut self, node: u8, left: u8) -> bool {
+    pub fn progress(&mut self, node: u8, left: u8) -> bool {
         match *self.book.node(node) {
             Node::Constant(_) | Node::Mark { .. } => self.holds(node),
             Node::And(first, second) => self.progress_new(first) && self.progress_new(second),
@@ -141,7 +141,7 @@ impl Step<'_> {
     }
 
     /// Whether an untimed formula holds at the state that is left.
-    fn holds(&self, node: u8) -> bool {
+    pub fn holds(&self, node: u8) -> bool {
         match *self.book.node(node) {
             Node::Constant(value) => value,
             Node::Mark { index, negated } => (self.marks >> index & 1 == 1) != negated,

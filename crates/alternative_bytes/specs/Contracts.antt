@@ -1,8 +1,9 @@
 -- What the functions of this crate promise. Where the nodes matter, the promise is for the formulas that the book's bytes hold.
-use Prim.Native.Nat.{ℕ}
+use Prim.Native.Nat.{ℕ, _+_, _≤_, _<_}
 use mathlib.Core.Path.{_≡_}
 use mathlib.Core.Bool.{Bool}
 use mathlib.Core.List.{List}
+use Rattle.base.specs.Bytes.{byte-at}
 use Rattle.logic.specs.Book.{Formula}
 use Rattle.alternatives.specs.Alternatives.{no-more-cell, asks-no-more, both-cells, both}
 use Rattle.book_progression.specs.PendingBytes.{cell-of}
@@ -17,6 +18,17 @@ pub record CellNoMore (answer : Bool) (bytes : List ℕ) (k cell other : ℕ) : 
 -- The byte says what both cells ask of node k.
 pub record CellBoth (byte : ℕ) (bytes : List ℕ) (k cell other : ℕ) : Type 0 where
   pub says : (f : Formula) → Stored bytes f k → cell-of byte ≡ both-cells f (cell-of cell) (cell-of other)
+
+-- The bytes from number k to r are equal, in the alternatives at p and q.
+pub record EqualTo (n : ℕ) (area : List ℕ) (p q k r : ℕ) : Type 0 where
+  pub least : k ≤ r
+  pub most : r ≤ n
+  pub equal : (j : ℕ) → k ≤ j → j < r → byte-at area (p + j) ≡ byte-at area (q + j)
+
+-- They are, and at r the next two differ, if r is not the end.
+pub record DifferAt (n : ℕ) (area : List ℕ) (p q k r : ℕ) : Type 0 where
+  pub before : EqualTo n area p q k r
+  pub apart : r < n → byte-at area (p + r) ≡ byte-at area (q + r) → ⊥
 
 -- The alternative at p asks no more than that at q.
 pub record NoMore (answer : Bool) (bytes : List ℕ) (n : ℕ) (area : List ℕ) (p q : ℕ) : Type 0 where

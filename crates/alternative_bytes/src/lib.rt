@@ -7,8 +7,10 @@ ghost use Rattle.alternatives.specs.Alternatives.{earlier};
 ghost use Rattle.book_progression.specs.NodeBytes.{IsNode};
 ghost use Rattle.book_progression.specs.Contracts.{HasNodes};
 ghost use Rattle.alternative_bytes.specs.AlternativeBytes.{alternative-in};
-ghost use Rattle.alternative_bytes.specs.Contracts.{CellNoMore, NoMore, CellBoth, BothPut, Copied};
+ghost use Rattle.alternative_bytes.specs.Contracts.{CellNoMore, EqualTo, DifferAt, NoMore, CellBoth, BothPut, Copied};
+use area_bytes::eight_bytes;
 use book_progression::node;
+use book_progression::past_empty;
 use logic::Tick;
 
 // Whether of node k a cell asks no more than another: where the bytes differ, nothing asks least, of A
@@ -36,19 +38,55 @@ fn cell_no_more(book: &[u8], k: usize, cell: u8, other: u8) -> bool
     false
 }
 
-// Whether the alternative at p asks no more than that at q at any node.
+// Passes over equal bytes, eight at a time, in the alternatives at p and q: those from k to the answer
+// are equal.
+fn past_eights(n: usize, area: &[u8], p: usize, q: usize, k: usize) -> usize
+    requires { ⌜ p + n ≤ length (now area) ⌝ }
+    requires { ⌜ q + n ≤ length (now area) ⌝ }
+    requires { ⌜ k ≤ n ⌝ }
+    ensures { λ r. ⌜ EqualTo n (now (area .entry)) p q k r ⌝ }
+{
+    let mut i = k;
+    while 8 <= n - i {
+        if eight_bytes(area, p + i) != eight_bytes(area, q + i) {
+            return i;
+        }
+        i += 8;
+    }
+    i
+}
+
+// Passes over equal bytes to the next two that differ, or to the end.
+fn next_difference(n: usize, area: &[u8], p: usize, q: usize, k: usize) -> usize
+    requires { ⌜ p + n ≤ length (now area) ⌝ }
+    requires { ⌜ q + n ≤ length (now area) ⌝ }
+    requires { ⌜ k ≤ n ⌝ }
+    ensures { λ r. ⌜ DifferAt n (now (area .entry)) p q k r ⌝ }
+{
+    let mut i = past_eights(n, area, p, q, k);
+    while i < n {
+        if area[p + i] != area[q + i] {
+            return i;
+        }
+        i += 1;
+    }
+    i
+}
+
+// Whether the alternative at p asks no more than that at q at any node: where their bytes are equal it
+// does not.
 pub fn asks_no_more(book: &[u8], n: usize, area: &[u8], p: usize, q: usize) -> bool
     requires { ⌜ HasNodes (now book) n ⌝ }
     requires { ⌜ p + n ≤ length (now area) ⌝ }
     requires { ⌜ q + n ≤ length (now area) ⌝ }
     ensures { λ b. ⌜ NoMore b (now (book .entry)) n (now (area .entry)) p q ⌝ }
 {
-    let mut k = 0;
+    let mut k = next_difference(n, area, p, q, 0);
     while k < n {
         if !cell_no_more(book, k, area[p + k], area[q + k]) {
             return false;
         }
-        k += 1;
+        k = next_difference(n, area, p, q, k + 1);
     }
     true
 }
@@ -60,16 +98,11 @@ pub fn comes_earlier(n: usize, area: &[u8], p: usize, q: usize) -> bool
     requires { ⌜ q + n ≤ length (now area) ⌝ }
     ensures { λ b. ⌜ b ≡ earlier (alternative-in (now (area .entry)) n p) (alternative-in (now (area .entry)) n q) ⌝ }
 {
-    let mut k = 0;
-    while k < n {
-        let cell = area[p + k];
-        let other = area[q + k];
-        if cell != other {
-            return cell < other;
-        }
-        k += 1;
+    let k = next_difference(n, area, p, q, 0);
+    if k == n {
+        return false;
     }
-    false
+    area[p + k] < area[q + k]
 }
 
 // What both cells ask of node k.
@@ -84,21 +117,6 @@ fn both_cell(book: &[u8], k: usize, cell: u8, other: u8) -> u8
     (left.0 + 1) as u8
 }
 
-// The alternative at `to` of the room becomes both of those at p and q.
-pub fn put_both(book: &[u8], n: usize, sets: &[u8], p: usize, q: usize, room: &mut [u8], to: usize)
-    requires { ⌜ HasNodes (now book) n ⌝ }
-    requires { ⌜ p + n ≤ length (now sets) ⌝ }
-    requires { ⌜ q + n ≤ length (now sets) ⌝ }
-    requires { ⌜ to + n ≤ length (now room) ⌝ }
-    ensures { λ _. ⌜ BothPut (now (book .entry)) n (now (sets .entry)) p q (now (room .entry)) to (now (room .exit)) ⌝ }
-{
-    let mut k = 0;
-    while k < n {
-        room[to + k] = both_cell(book, k, sets[p + k], sets[q + k]);
-        k += 1;
-    }
-}
-
 // The alternative at `to` of the room becomes that at p of the other area.
 pub fn copy(n: usize, area: &[u8], p: usize, room: &mut [u8], to: usize)
     requires { ⌜ p + n ≤ length (now area) ⌝ }
@@ -109,5 +127,22 @@ pub fn copy(n: usize, area: &[u8], p: usize, room: &mut [u8], to: usize)
     while k < n {
         room[to + k] = area[p + k];
         k += 1;
+    }
+}
+
+// The alternative at `to` of the room becomes both of those at p and q: where the cell at q is empty,
+// both are that at p.
+pub fn put_both(book: &[u8], n: usize, sets: &[u8], p: usize, q: usize, room: &mut [u8], to: usize)
+    requires { ⌜ HasNodes (now book) n ⌝ }
+    requires { ⌜ p + n ≤ length (now sets) ⌝ }
+    requires { ⌜ q + n ≤ length (now sets) ⌝ }
+    requires { ⌜ to + n ≤ length (now room) ⌝ }
+    ensures { λ _. ⌜ BothPut (now (book .entry)) n (now (sets .entry)) p q (now (room .entry)) to (now (room .exit)) ⌝ }
+{
+    copy(n, sets, p, room, to);
+    let mut k = past_empty(sets, q, n, 0);
+    while k < n {
+        room[to + k] = both_cell(book, k, sets[p + k], sets[q + k]);
+        k = past_empty(sets, q, n, k + 1);
     }
 }

@@ -4,42 +4,25 @@ use mathlib.Core.Path.{_≡_, refl, subst}
 use mathlib.Core.Logic.{_⊎_, ⊎-swap, Iff·symm}
 use mathlib.Core.Bool.{Bool, true, false, _&&_, not, and-eq-true-iff, false≢true}
 use mathlib.Core.Option.{none, some}
-use mathlib.Core.List.{List, [], _∷_, List·Memᴰ, List·Memᴰ·head, List·Memᴰ·tail, List·Memᴰ·not-nil}
+use mathlib.Core.List.{List, [], _∷_, List·Memᴰ·head, List·Memᴰ·tail, List·Memᴰ·not-nil}
 use borrow.Author.Tests.{not-true}
 use Rattle.base.specs.Choice.{pick}
 use Rattle.base.specs.Lists.{joined}
 use Rattle.logic.specs.Time.{minus, at-most}
 use Rattle.logic.specs.Tower.{Tower}
-use Rattle.logic.specs.Book.{Formula, constant, proposition, and, or, next, always-for, until, Comparison, compares, timed, parts, size, nodes, first-part, second-part, root, Form, at-start, everywhere, Book}
+use Rattle.logic.specs.Book.{Formula, constant, proposition, and, or, next, always-for, until, Comparison, compares, timed, timed-right, parts, size, nodes, first-part, second-part, root, Form, at-start, everywhere, Book, FitBook}
 use Rattle.logic.specs.Runs.{Moment, Trace, duration, KeptAt}
 use Rattle.logic.specs.declared.Tick.{Tick}
 use Rattle.pending.specs.Pending.{Pending, holds, fresh}
 use Rattle.pending.specs.Asks.{with-left}
 use Rattle.pending.proofs.Kept.{Now, Then, next-step, always-step, until-step}
-use Rattle.pending.proofs.Nodes.{Stand, stand-left, stand-right, Sits, sits-within, sits-node, sits-first, sits-second, sits-only, sits-root, Inherited, AllSit}
+use Rattle.pending.proofs.Nodes.{Stand, stand-left, stand-right, Sits, sits-within, sits-node, sits-first, sits-second, sits-only, sits-root, AllSit, TimedRight}
 use Rattle.pending.proofs.Adds.{with-left-fresh, merge-law}
-use Rattle.pending.proofs.Progress.{start-not-everywhere, Each, each-cons, holds-now, NodesNow, RuleNow}
-use Rattle.alternatives.specs.Sides.{ends-untimed, EndsUntimed}
+use Rattle.pending.proofs.Asked.{start-not-everywhere, Each, each-cons, holds-now, NodesNow, RuleNow}
 use Rattle.alternatives.specs.Alternatives.{Alternatives, combined, joined-with}
 use Rattle.alternatives.specs.Progression.{nothing-pending, alone-pending, if-so, alternatives-of, combined-nodes, combined-rule, combined-rules}
 use Rattle.alternatives.proofs.Meets.{Merging}
 use Rattle.alternatives.proofs.Offers.{Offers, offers-iff, offers-nothing, offers-alone, offers-if, offers-unless, offers-both, offers-either}
-
--- The second part of every U of the formula is untimed; so it is with its parts.
-abbrev pub Untimed : Formula → Type 0
-Untimed f = ends-untimed f ≡ true
-
-pub untimed-inherited : Inherited Untimed
-unfolding ends-untimed
-untimed-inherited =
-    record {
-      and-parts = λ f g h. (and-eq-true-iff (ends-untimed f) (ends-untimed g)) .0 h;
-      or-parts = λ f g h. (and-eq-true-iff (ends-untimed f) (ends-untimed g)) .0 h;
-      next-part = λ c t g h. h;
-      always-part = λ t g h. h;
-      until-parts = λ t f g h. (and-eq-true-iff (ends-untimed f) (ends-untimed g)) .0
-          ((and-eq-true-iff (not (timed g)) (ends-untimed f && ends-untimed g)) .0 h .1);
-    }
 
 module _ (tower : Tower) (m : Moment) (run : Trace) (all : List Formula) where
   -- the formula is kept where the run begins with m, and where its rest begins
@@ -62,10 +45,10 @@ module _ (tower : Tower) (m : Moment) (run : Trace) (all : List Formula) where
 
   -- what is to be shown of a formula
   abbrev Right : Formula → Type 0
-  Right f = (k : ℕ) (r : Tick) → Sits all f k → ends-untimed f ≡ true → Gives (step f k r) (Here (with-left f r))
+  Right f = (k : ℕ) (r : Tick) → Sits all f k → timed-right f ≡ true → Gives (step f k r) (Here (with-left f r))
 
   -- a part that comes up anew
-  anew : (f : Formula) → Right f → (k : ℕ) → Sits all f k → ends-untimed f ≡ true → Gives (step f k (fresh f)) (Here f)
+  anew : (f : Formula) → Right f → (k : ℕ) → Sits all f k → timed-right f ≡ true → Gives (step f k (fresh f)) (Here f)
   anew f ih k sits fit = subst (λ g. Gives (step f k (fresh f)) (Here g)) (with-left-fresh f) (ih k (fresh f) sits fit)
 
   -- a node that becomes pending
@@ -75,17 +58,17 @@ module _ (tower : Tower) (m : Moment) (run : Trace) (all : List Formula) where
       (offers-alone all Ahead k r (sits-within all f k sits))
 
   right-and : (f g : Formula) → Right f → Right g → Right (and f g)
-  unfolding alternatives-of with-left KeptAt ends-untimed parts
+  unfolding alternatives-of with-left KeptAt timed-right parts
   right-and f g left right k r sits fit =
-      let (first, second) = (and-eq-true-iff (ends-untimed f) (ends-untimed g)) .0 fit in
+      let (first, second) = (and-eq-true-iff (timed-right f) (timed-right g)) .0 fit in
       offers-both all Ahead merging (step f (first-part k g) (fresh f)) (step g (second-part k) (fresh g)) (Here f) (Here g)
       (anew f left (first-part k g) (sits-first all (and f g) k sits f g refl) first)
       (anew g right (second-part k) (sits-second all (and f g) k sits f g refl) second)
 
   right-or : (f g : Formula) → Right f → Right g → Right (or f g)
-  unfolding alternatives-of with-left KeptAt ends-untimed parts
+  unfolding alternatives-of with-left KeptAt timed-right parts
   right-or f g left right k r sits fit =
-      let (first, second) = (and-eq-true-iff (ends-untimed f) (ends-untimed g)) .0 fit in
+      let (first, second) = (and-eq-true-iff (timed-right f) (timed-right g)) .0 fit in
       go (timed f) (timed g) refl refl (anew f left (first-part k g) (sits-first all (or f g) k sits f g refl) first)
       (anew g right (second-part k) (sits-second all (or f g) k sits f g refl) second)
     where
@@ -117,7 +100,7 @@ module _ (tower : Tower) (m : Moment) (run : Trace) (all : List Formula) where
       (alone g (second-part k) (fresh g) (sits-only all (next c t g) k sits g refl))))
 
   right-always : (t : Tick) (g : Formula) → Right g → Right (always-for t g)
-  unfolding alternatives-of with-left ends-untimed parts
+  unfolding alternatives-of with-left timed-right parts
   right-always t g part k r sits fit =
       offers-iff all Ahead (step (always-for t g) k r) (Here g × (at-most d r ≡ true → Ahead (always-for (minus r d) g)))
       (Here (always-for r g)) (Iff·symm (always-step tower m run r g))
@@ -142,10 +125,10 @@ module _ (tower : Tower) (m : Moment) (run : Trace) (all : List Formula) where
           (λ h. (h, λ e. absurd (false≢true e)), λ h. h .0) first
 
   right-until : (t : Tick) (f g : Formula) → Right f → Right (until t f g)
-  unfolding alternatives-of with-left ends-untimed parts
+  unfolding alternatives-of with-left timed-right parts
   right-until t f g part k r sits fit =
-      let (end, both) = (and-eq-true-iff (not (timed g)) (ends-untimed f && ends-untimed g)) .0 fit in
-      let (first, second) = (and-eq-true-iff (ends-untimed f) (ends-untimed g)) .0 both in
+      let (end, both) = (and-eq-true-iff (not (timed g)) (timed-right f && timed-right g)) .0 fit in
+      let (first, second) = (and-eq-true-iff (timed-right f) (timed-right g)) .0 both in
       offers-iff all Ahead (step (until t f g) k r) (Here g ⊎ Rest) (Here (until r f g)) (Iff·symm (until-step tower m run r f g))
       (offers-unless all Ahead (holds tower (m .state) g) (if-so (at-most d r) on) (Here g) Rest
       (holds-now tower m run g (not-true (timed g) end))
@@ -182,7 +165,7 @@ module _ (tower : Tower) (m : Moment) (run : Trace) (all : List Formula) where
   offers-node (until t f g) = right-until t f g (offers-node f)
 
   -- Combining every pending node adds what they all ask.
-  pub offers-nodes : (gs : List Formula) (k : ℕ) (cells : Pending) (s : Alternatives) (P : Type 0) → AllSit Untimed all gs k → Gives s P
+  pub offers-nodes : (gs : List Formula) (k : ℕ) (cells : Pending) (s : Alternatives) (P : Type 0) → AllSit TimedRight all gs k → Gives s P
       → Gives (combined-nodes tower all (m .state) (duration tower m) gs k cells s) (P × NodesNow tower m run gs cells)
   unfolding combined-nodes
   offers-nodes [] k cells s P sit o = offers-iff all Ahead s P (P × Unit {0}) (λ h. (h, tt), λ h. h .0) o
@@ -196,7 +179,7 @@ module _ (tower : Tower) (m : Moment) (run : Trace) (all : List Formula) where
       (offers-both all Ahead merging s (step g k r) P (Here (with-left g r)) o (offers-node g k r (sit .0 .0) (sit .0 .1))))
 
   -- one rule: it is kept now if it is an `always` rule
-  offers-rule : (form : Form) (f : Formula) (k : ℕ) (s : Alternatives) (P : Type 0) → Sits all f k → ends-untimed f ≡ true → Gives s P
+  offers-rule : (form : Form) (f : Formula) (k : ℕ) (s : Alternatives) (P : Type 0) → Sits all f k → timed-right f ≡ true → Gives s P
       → Gives (combined-rule tower all (m .state) (duration tower m) form f k s) (P × (form ≡ everywhere → Here f))
   unfolding combined-rule
   offers-rule everywhere f k s P sits fit o =
@@ -207,9 +190,9 @@ module _ (tower : Tower) (m : Moment) (run : Trace) (all : List Formula) where
       offers-iff all Ahead s P (P × (at-start ≡ everywhere → Here f)) (λ h. (h, λ e. absurd (start-not-everywhere e)), λ h. h .0) o
 
   -- Combining every rule adds what the `always` rules ask now.
-  pub offers-rules : (rules : Book) (n : ℕ) (s : Alternatives) (P : Type 0) → Stand all n (nodes rules) → EndsUntimed rules → Gives s P
+  pub offers-rules : (rules : Book) (n : ℕ) (s : Alternatives) (P : Type 0) → Stand all n (nodes rules) → FitBook rules → Gives s P
       → Gives (combined-rules tower all (m .state) (duration tower m) rules n s) (P × Each rules (RuleNow tower m run))
-  unfolding combined-rules nodes joined EndsUntimed size
+  unfolding combined-rules nodes joined FitBook size
   offers-rules [] n s P stand fit o =
       offers-iff all Ahead s P (P × Each [] (RuleNow tower m run))
       (λ h. (h, λ rule listed. absurd (List·Memᴰ·not-nil listed)), λ h. h .0) o

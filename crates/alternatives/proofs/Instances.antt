@@ -8,13 +8,13 @@ use mathlib.Core.List.{List, [], _∷_, map}
 use lib.ListN.{length, replicate, set}
 use lib.Dec.{eqb}
 use Rattle.base.specs.Lists.{some-of, count-from, below}
-use Rattle.logic.specs.Time.{ticks, at-most, same-ticks}
+use Rattle.logic.specs.Time.{ticks, minus, at-most, same-ticks}
 use Rattle.logic.specs.Tower.{Tower}
-use Rattle.logic.specs.Book.{Formula, constant, proposition, or, always-for, until, timed}
-use Rattle.pending.specs.Pending.{Pending, holds}
+use Rattle.logic.specs.Book.{Formula, constant, proposition, or, always-for, until, timed, first-part, second-part}
+use Rattle.pending.specs.Pending.{Pending, holds, fresh}
 use Rattle.alternatives.specs.Least.{without, placed, with-one-more, with-more, least}
-use Rattle.alternatives.specs.Alternatives.{first-cell, later-cells, no-more-ticks, no-more-cell, asks-no-more, cell-number, earlier, set-of, together, Alternatives, over, these, broken, most-alternatives, counted, combined, joined-with}
-use Rattle.alternatives.specs.Progression.{nothing-pending, alternatives-of}
+use Rattle.alternatives.specs.Alternatives.{first-cell, later-cells, no-more-ticks, no-more-cell, asks-no-more, cell-number, earlier, set-of, both-cells, both, together, Alternatives, over, these, broken, most-alternatives, counted, combined, joined-with}
+use Rattle.alternatives.specs.Progression.{nothing-pending, alone-pending, if-so, alternatives-of}
 use Rattle.alternatives.specs.Pairs.{pair-weight}
 
 -- 17 nodes, each `A 9 T`, and the first n alternatives in which one of them is alone pending
@@ -93,6 +93,17 @@ one-state =
 untimed-side-holds : alternatives-of one-state promises 0 (ticks 1) (or (proposition true 0) promise) 3 (ticks 0) ≡ nothing-pending promises
 unfolding opened one-state alternatives-of holds timed
 untimed-side-holds = refl
+
+-- An action that takes all the ticks left leaves A with 0,
+always-to-zero : alternatives-of one-state promises 0 (ticks 1) promise 3 (ticks 1) ≡ alone-pending promises 3 (ticks 0)
+unfolding opened one-state alternatives-of alone-pending nothing-pending holds if-so both both-cells fresh minus second-part
+always-to-zero = refl
+
+-- and U, which is still in time.
+until-to-zero : alternatives-of one-state promises 0 (ticks 1) (until (ticks 9) (constant true) (proposition true 1)) 3 (ticks 1)
+    ≡ alone-pending promises 3 (ticks 0)
+unfolding opened one-state alternatives-of alone-pending nothing-pending holds if-so both both-cells fresh minus first-part
+until-to-zero = refl
 
 -- A pair counts once for each of its alternatives.
 two-count : pair-weight (record { state = 0; pending = alone 0 ∷ alone 1 ∷ [] }) ≡ 2

@@ -15,4 +15,3 @@ pub mod OnePairs
 pub mod Instances
 pub mod Same
 pub mod Weights
-pub mod Sides

@@ -12,12 +12,12 @@ use Rattle.base.proofs.Lists.{and-left, and-right}
 use Rattle.logic.specs.Time.{minus, at-most}
 use Rattle.logic.specs.Tower.{Tower}
 use Rattle.logic.specs.Book.{Formula, constant, proposition, and, or, next, always-for, until, compares, timed, parts, size, nodes, first-part, second-part, root, Form, at-start, everywhere, Book}
+use Rattle.logic.specs.Sides.{one-sided, OneSided}
 use Rattle.logic.specs.declared.Tick.{Tick}
 use Rattle.pending.specs.Pending.{Pending, holds, fresh, put, provided, progress, progress-nodes, progress-rule, progress-rules, none-pending, progressed}
 use Rattle.pending.proofs.Nodes.{Stand, stand-left, stand-right, Sits, sits-first, sits-second, sits-only, sits-root, Inherited, AllSit, book-sits}
 use Rattle.pending.proofs.Asked.{book-stands}
 use Rattle.alternatives.specs.Least.{without, placed, with-one-more, with-more, least}
-use Rattle.alternatives.specs.Sides.{one-sided, OneSided}
 use Rattle.alternatives.specs.Alternatives.{Alternatives, these, broken, set-of, both, together, most-alternatives, counted, combined, joined-with}
 use Rattle.alternatives.specs.Progression.{nothing-pending, alone-pending, if-so, alternatives-of, combined-nodes, combined-rule, combined-rules, alternatives-behind, joined-behind, progressed-set}
 use Rattle.alternatives.specs.OneAlternative.{single}

@@ -11,10 +11,9 @@ use Rattle.base.specs.Search.{new-ones, search-on, search-from}
 use Rattle.base.proofs.Lists.{or-neither, none-of}
 use Rattle.logic.specs.Tower.{Tower}
 use Rattle.logic.specs.Book.{Book}
-use Rattle.pending.specs.Pending.{Pending, same-pending}
+use Rattle.logic.specs.Sides.{OneSided}
+use Rattle.pending.specs.Pending.{Pending, same-pending, progressed}
 use Rattle.pending.specs.Pairs as Old
-use Rattle.pending.proofs.Steps.{then-pending}
-use Rattle.alternatives.specs.Sides.{OneSided}
 use Rattle.alternatives.specs.Progression.{first-set}
 use Rattle.alternatives.specs.Pairs.{Pair, same-pair, pair-weight, most-pairs, first-pair, alternatives-by, pair-at, tried-step, is-over, over-full, pair-step, pair-followers, pairs, over-pairs, over-alternatives}
 use Rattle.alternatives.specs.OneAlternative.{single, one}
@@ -108,6 +107,11 @@ weight-one v = refl
 pub first-one : (tower : Tower) (book : Book) → first-pair tower book ≡ one (Old.first-pair tower book)
 unfolding first-pair Old.first-pair first-set one
 first-one tower book = refl
+
+module _ (tower : Tower) (book : Book) where
+  -- what is pending next of one alternative, as state x is left by action a
+  abbrev pub then-pending : ℕ → Pending → ℕ → Option Pending
+  then-pending x p a = progressed tower book x (tower .step-length x a) p
 
 module _ (tower : Tower) (book : Book) (sided : OneSided book) where
   -- what comes of a pair of one alternative, as its state is left

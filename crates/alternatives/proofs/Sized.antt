@@ -1,23 +1,24 @@
 -- Every alternative that progression gives has a cell for each node, and every set is canonical and has at most 16.
 use Prim.Native.Nat.{ℕ, _≤_}
 use native.Mathlib.Omega.{arith}
-use mathlib.Core.Path.{_≡_, refl, _∙_, ap}
+use mathlib.Core.Path.{_≡_, refl, _∙_, ap, ap₂}
 use mathlib.Core.Bool.{Bool, true, false}
 use mathlib.Core.Option.{Option, none, some}
-use mathlib.Core.List.{List, [], _∷_, _++_, List·Memᴰ, List·Memᴰ·not-nil, List·Memᴰ·eq-of-singleton}
+use mathlib.Core.List.{List, [], _∷_, _++_, List·Memᴰ·head, List·Memᴰ·tail, List·Memᴰ·not-nil, List·Memᴰ·eq-of-singleton}
 use lib.ListN.{length, set, replicate, length-replicate, length-set}
 use lib.Dec.{ltb}
-use borrow.Author.Tests.{ltb-false}
+use borrow.Author.Tests.{ltb-false, le-ltb}
 use Rattle.base.specs.Choice.{pick}
 use Rattle.logic.specs.Tower.{Tower}
 use Rattle.logic.specs.Book.{Formula, nodes, Book}
 use Rattle.logic.specs.declared.Tick.{Tick}
 use Rattle.pending.specs.Pending.{Pending}
-use Rattle.alternatives.specs.Alternatives.{Alternatives, over, these, asks-no-more, earlier, together, set-of, most-alternatives, counted, combined, joined-with}
-use Rattle.alternatives.specs.Progression.{nothing-pending, alone-pending, progressed-set}
+use Rattle.alternatives.specs.Alternatives.{Alternatives, over, these, broken, asks-no-more, earlier, together, set-of, most-alternatives, counted, combined, joined-with}
+use Rattle.alternatives.specs.Progression.{nothing-pending, alone-pending, alternatives-behind, progressed-set}
 use Rattle.alternatives.specs.Canonical.{Canonical}
-use Rattle.alternatives.proofs.Canonical.{AllSized, together-sized, append-sized, set-sized, set-canonical}
-use Rattle.alternatives.proofs.Closed.{Closed, progressed-has}
+use Rattle.alternatives.proofs.Canonical.{AllSized, together-sized, append-sized, set-sized, set-canonical, set-of-canonical}
+use Rattle.alternatives.proofs.Closed.{Closed, behind-has, progressed-has}
+use Rattle.alternatives.proofs.Behind.{blank, both-blank-right}
 
 -- What holds of all that is left after counting.
 counted-by : (Has : Alternatives → Type 0) (ps : List Pending) → Has over → (length ps ≤ most-alternatives → Has (these ps)) → Has (counted ps)
@@ -115,6 +116,54 @@ module _ (fs : List Formula) where
       ordered-either over t h k = tt
       ordered-either (these ps) over h k = tt
       ordered-either (these ps) (these qs) h k = counted-by Ordered (set-of fs (ps ++ qs)) tt (λ few. set-canonical fs (ps ++ qs))
+
+  -- ---- sets that stand
+
+  -- counting leaves at most 16
+  counted-few : (ps : List Pending) → length ps ≤ most-alternatives → counted ps ≡ these ps
+  unfolding counted
+  counted-few ps few = rw (le-ltb most-alternatives (length ps) few) refl
+
+  -- A set in the one form is itself where it is joined with none.
+  pub joined-none : (s : Alternatives) → Ordered s → Few s → joined-with fs broken s ≡ s
+  unfolding joined-with
+  joined-none over ordered few = refl
+  joined-none (these ps) ordered few = rw (set-of-canonical fs ps ordered) (counted-few ps few)
+
+  -- each of some together with the one in which nothing is pending
+  together-nothing : (ps : List Pending) → AllSized fs ps → together fs ps (blank fs ∷ []) ≡ ps
+  unfolding together
+  together-nothing [] sized = refl
+  together-nothing (p ∷ ps) sized =
+      ap₂ _∷_ (both-blank-right fs p (sized p (List·Memᴰ·head refl))) (together-nothing ps (λ q m. sized q (List·Memᴰ·tail m)))
+
+  nothing-kept : (ps : List Pending) → AllSized fs ps → Canonical (asks-no-more fs) earlier ps → length ps ≤ most-alternatives
+      → combined fs (these ps) (nothing-pending fs) ≡ these ps
+  unfolding combined nothing-pending
+  nothing-kept ps sized ordered few = rw (together-nothing ps sized, set-of-canonical fs ps ordered) (counted-few ps few)
+
+  -- What is combined stays where nothing more comes,
+  pub combined-stands : (s t : Alternatives) → combined fs (combined fs s t) (nothing-pending fs) ≡ combined fs s t
+  unfolding combined
+  combined-stands over t = refl
+  combined-stands (these ps) over = refl
+  combined-stands (these ps) (these qs) =
+      counted-by (λ s. combined fs s (nothing-pending fs) ≡ s) (set-of fs (together fs ps qs)) refl
+      (λ few. nothing-kept (set-of fs (together fs ps qs)) (set-sized fs (together fs ps qs) (together-sized fs ps qs))
+      (set-canonical fs (together fs ps qs)) few)
+
+  -- and so does nothing itself.
+  pub nothing-stands : combined fs (nothing-pending fs) (nothing-pending fs) ≡ nothing-pending fs
+  unfolding nothing-pending
+  nothing-stands = nothing-kept (blank fs ∷ []) (sized-closed .nothing) (ordered-closed .nothing) (few-closed .nothing)
+
+module _ (tower : Tower) (book : Book) (x : ℕ) (d : Tick) (p : Pending) where
+  -- What comes of one old alternative is itself where it is joined with none.
+  pub behind-alone : joined-with (nodes book) broken (alternatives-behind tower book x d p) ≡ alternatives-behind tower book x d p
+  behind-alone =
+      joined-none (nodes book) (alternatives-behind tower book x d p)
+      (behind-has tower book (Ordered (nodes book)) (ordered-closed (nodes book)) x d p)
+      (behind-has tower book (Few (nodes book)) (few-closed (nodes book)) x d p)
 
 module _ (tower : Tower) (book : Book) (x : ℕ) (d : Tick) (ps : List Pending) where
   -- A step leaves in every alternative a cell for each node,

@@ -11,22 +11,20 @@ use Rattle.base.specs.Choice.{pick}
 use Rattle.base.specs.Lists.{there-with}
 use Rattle.base.proofs.Lists.{never-both, below-some, some-below, there-with-in, there-with-out, some-one}
 use Rattle.logic.specs.Tower.{Tower, Listed}
-use Rattle.logic.specs.Book.{nodes, Book}
+use Rattle.logic.specs.Book.{nodes, Book, FitBook}
 use Rattle.logic.specs.Runs.{leads, Moment, Trace, trace-from, duration}
 use Rattle.logic.proofs.Leads.{leads-nil, leads-step, leads-out, leads-in, leads-past}
 use Rattle.pending.specs.Pending.{Pending}
 use Rattle.pending.proofs.Kept.{Then}
-use Rattle.pending.proofs.Nodes.{book-sits}
-use Rattle.pending.proofs.Progress.{Each, NodesNow, RuleNow}
-use Rattle.pending.proofs.Asked.{meets-end, book-stands, Asked, AskedLater, meets-now}
-use Rattle.alternatives.specs.Sides.{EndsUntimed}
+use Rattle.pending.proofs.Nodes.{fit-sits}
+use Rattle.pending.proofs.Asked.{Each, NodesNow, RuleNow, meets-end, book-stands, Asked, AskedLater, meets-now}
 use Rattle.alternatives.specs.Alternatives.{Alternatives, over, these, broken, joined-with}
 use Rattle.alternatives.specs.Progression.{nothing-pending, combined-nodes, combined-rules, alternatives-behind, joined-behind, progressed-set}
 use Rattle.alternatives.specs.Pairs.{Pair, alternatives-by, pair-at, tried-step, is-over, over-full, pair-step}
 use Rattle.alternatives.specs.Asks.{FulfilsOne}
 use Rattle.alternatives.proofs.Meets.{met-in, met-out}
 use Rattle.alternatives.proofs.Offers.{OneMet, Offers, offers-iff, offers-nothing, offers-broken, offers-either}
-use Rattle.alternatives.proofs.Exact.{Untimed, untimed-inherited, merging, offers-nodes, offers-rules}
+use Rattle.alternatives.proofs.Exact.{merging, offers-nodes, offers-rules}
 
 -- ---- a step in the words of the logic
 
@@ -45,14 +43,14 @@ one-asked-cons tower book m run p ps = (
       (λ k. inr (record { alternative = one .alternative; listed = k; asked = one .asked })) (List·Memᴰ·cases-cons (one .listed)),
 )
 
-module _ (tower : Tower) (book : Book) (fit : EndsUntimed book) (m : Moment) (run : Trace) where
+module _ (tower : Tower) (book : Book) (fit : FitBook book) (m : Moment) (run : Trace) where
   -- the alternatives offer the claim P on the rest of the run
   abbrev Gives : Alternatives → Type 0 → Type 0
   Gives = Offers (nodes book) (Then tower m run)
 
   -- What comes of one old alternative offers what is asked of it.
   offers-behind : (p : Pending) → Gives (alternatives-behind tower book (m .state) (duration tower m) p) (Asked tower book m run p)
-  unfolding alternatives-behind EndsUntimed
+  unfolding alternatives-behind
   offers-behind p =
       offers-iff (nodes book) (Then tower m run)
       (combined-rules tower (nodes book) (m .state) (duration tower m) book 0 s)
@@ -60,7 +58,7 @@ module _ (tower : Tower) (book : Book) (fit : EndsUntimed book) (m : Moment) (ru
       (λ h. (h .0 .1, h .1), λ h. ((tt, h .0), h .1))
       (offers-rules tower m run (nodes book) book 0 s (Unit {0} × NodesNow tower m run (nodes book) p) (book-stands tower book) fit
       (offers-nodes tower m run (nodes book) (nodes book) 0 p (nothing-pending (nodes book)) (Unit {0})
-      (book-sits Untimed untimed-inherited book fit) (offers-nothing (nodes book) (Then tower m run) (Unit {0}) tt)))
+      (fit-sits book fit) (offers-nothing (nodes book) (Then tower m run) (Unit {0}) tt)))
     where
       s : Alternatives
       s = combined-nodes tower (nodes book) (m .state) (duration tower m) (nodes book) 0 p (nothing-pending (nodes book))
@@ -137,7 +135,7 @@ module _ (tower : Tower) (book : Book) (x a y : ℕ) (u : List ℕ) (enabled : t
   )
 
   -- A run meets a set before a step exactly if its rest meets the set behind it. A broken step leaves none, so it cannot be met.
-  pub meets-step : EndsUntimed book → (ps qs : List Pending) → progressed-set tower book x (tower .step-length x a) ps ≡ these qs
+  pub meets-step : FitBook book → (ps qs : List Pending) → progressed-set tower book x (tower .step-length x a) ps ≡ these qs
       → FulfilsOne tower book x ps (a ∷ u) ↔ FulfilsOne tower book y qs u
   unfolding duration
   meets-step fit ps qs e =
@@ -239,7 +237,7 @@ module _ (tower : Tower) (book : Book) where
       longer : suc (length (t ++ (b ∷ rest))) ≡ 1 → length (t ++ (b ∷ rest)) ≡ length t + length (b ∷ rest) → ⊥
       longer e f = omega arith
 
-  module _ (fit : EndsUntimed book) where
+  module _ (fit : FitBook book) where
     -- one step
     by-step : (v z : Pair) (a : ℕ) (u : List ℕ) → tower .target (v .state) a ≡ some (z .state)
         → alternatives-by tower book v a ≡ these (z .pending)

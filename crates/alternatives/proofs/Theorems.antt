@@ -1,6 +1,6 @@
--- 02, item 3: the progression of sets is exactly the logic, over all books in which the second part of U is untimed. The statements stand here;
--- the files beside this one prove them. `Least` and `Canonical` have the laws of dropping, `Meets` and `Offers` what alternatives ask, `Exact`
--- that a step offers what the formulas ask, `Steps` the pairs along a run, `OnePairs` the books with no two timed sides.
+-- 02, item 3: the progression of sets is exactly the logic, over all fit books. The statements stand here; the files beside this one prove them.
+-- `Least` and `Canonical` have the laws of dropping, `Meets` and `Offers` what alternatives ask, `Exact` that a step offers what the formulas
+-- ask, `Steps` the pairs along a run, `OnePairs` the books with no two timed sides.
 use Prim.Native.Nat.{ℕ}
 use mathlib.Core.Path.{_≡_, refl, subst}
 use mathlib.Core.Logic.{_↔_, Iff·trans}
@@ -8,19 +8,18 @@ use mathlib.Core.Option.{none, some}
 use mathlib.Core.List.{List, _++_, List·Memᴰ·head, List·Memᴰ·eq-of-singleton}
 use Rattle.base.proofs.Lists.{whether-there, none-some}
 use Rattle.logic.specs.Tower.{Tower, Listed}
-use Rattle.logic.specs.Book.{Book}
+use Rattle.logic.specs.Book.{Book, FitBook}
 use Rattle.logic.specs.Runs.{leads, IsRun, Unbroken, Broken}
 use Rattle.pending.specs.Pending.{first-pending}
 use Rattle.pending.specs.Asks.{Fulfils}
 use Rattle.pending.proofs.Asked.{unbroken-meets}
-use Rattle.alternatives.specs.Sides.{EndsUntimed}
 use Rattle.alternatives.specs.Progression.{first-set}
 use Rattle.alternatives.specs.Pairs.{Pair, first-pair, tried-step, pair-step}
 use Rattle.alternatives.specs.Asks.{FulfilsOne}
 use Rattle.alternatives.proofs.Steps as Steps
 use Rattle.alternatives.proofs.Weights.{first-standing}
 
-module _ (tower : Tower) (book : Book) (fit : EndsUntimed book) where
+module _ (tower : Tower) (book : Book) (fit : FitBook book) where
   -- at first there is one alternative
   first-one : (w : List ℕ) → Fulfils tower book (tower .start) (first-pending book) w
       ↔ FulfilsOne tower book (tower .start) (first-set book) w

@@ -1,6 +1,5 @@
 pub mod Least
 pub mod Canonical
-pub mod Sides
 pub mod Alternatives
 pub mod Progression
 pub mod Pairs

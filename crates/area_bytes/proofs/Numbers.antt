@@ -1,6 +1,7 @@
 -- Numbers in files and lent areas: read, written, and read back.
 use Prim.Native.Nat.{ℕ, zero, suc, _+_, _*_, _/_, _%_, _^_, _≤_, _<_}
 use native.Mathlib.Omega.{arith}
+use native.Mathlib.Nat.{add-zero}
 use native.Mathlib.Numerals.{add-one}
 use mathlib.Core.Path.{_≡_, sym, _∙_}
 use mathlib.Core.Logic.{_⊎_, inl, inr}
@@ -84,6 +85,18 @@ zero-bytes (suc width) l p e zero less = let here : p + 0 ≡ p = omega arith in
 zero-bytes (suc width) l p e (suc m) less =
     let place : p + 1 + m ≡ p + suc m = omega arith in
     rw (← place) (zero-bytes width l (p + 1) (omega arith) m (omega arith))
+
+-- Equal numbers have equal bytes.
+pub same-bytes : (width : ℕ) (l : List ℕ) (p q : ℕ) → ((j : ℕ) → Fits w8 (getD l j 0)) → number-at width l p ≡ number-at width l q → (m : ℕ)
+    → m < width → getD l (p + m) 0 ≡ getD l (q + m) 0
+unfolding number-at
+same-bytes zero l p q bytes e m less = absurd (omega arith)
+same-bytes (suc width) l p q bytes e zero less = rw (add-zero p, add-zero q) (omega (arith, bytes p, bytes q))
+same-bytes (suc width) l p q bytes e (suc m) less =
+    let upper : number-at width l (p + 1) ≡ number-at width l (q + 1) = omega (arith, bytes p, bytes q) in
+    let place : p + 1 + m ≡ p + suc m = omega arith in
+    let place′ : q + 1 + m ≡ q + suc m = omega arith in
+    rw (← place, ← place′) (same-bytes width l (p + 1) (q + 1) bytes upper m (omega arith))
 
 -- ---- one byte or two
 

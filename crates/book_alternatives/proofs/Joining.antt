@@ -16,13 +16,14 @@ use Rattle.pending.proofs.Nodes.{Sits, AllSit, TimedRight, fit-sits}
 use Rattle.reading.specs.BookArea.{nodes-in}
 use Rattle.alternatives.specs.Alternatives.{joined-with}
 use Rattle.alternatives.specs.Progression.{combined-nodes, combined-rules, alternatives-behind, joined-behind, progressed-set}
+use Rattle.alternatives.proofs.Sized.{nothing-stands, behind-alone}
 use Rattle.book_progression.specs.NodeBytes.{HeldBook, IsHeld, MarkedState}
 use Rattle.book_progression.specs.Contracts.{HasNodes}
 use Rattle.book_progression.proofs.BookHeld.{held-nodes, has-nodes}
 use Rattle.alternative_bytes.specs.AlternativeBytes.{alternative-in}
 use Rattle.set_bytes.specs.SetBytes.{candidates-size, set-in, answered}
 use Rattle.set_bytes.specs.Contracts.{Candidates, Joins, SetsReady}
-use Rattle.book_alternatives.specs.Offers.{combined-at, joined-at, sets-size, Rooted, StepReady, NodesCombined, LinesCombined, NoneCombined, AlternativeReady, Behind, BehindJoined, Progressed}
+use Rattle.book_alternatives.specs.Offers.{combined-at, joined-at, sets-size, Rooted, StepReady, NodesCombined, LinesCombined, NoneCombined, AlternativeReady, Behind, CombinedCopied, BehindJoined, Progressed}
 use Rattle.book_alternatives.proofs.Sets.{changed-beside, candidates-none, candidates-both, kept-behind, none-answered}
 use Rattle.book_alternatives.proofs.Combining.{leaves-both, still-ready}
 
@@ -53,21 +54,22 @@ module _ (bytes : List ℕ) (n : ℕ) (old : List ℕ) (from : ℕ) (sets room :
   pub nodes-there : HasNodes bytes n
   nodes-there = has-nodes bytes n (ready .all) (ready .held)
 
-  module _ (clean : List ℕ) (empty : NoneCombined n sets clean) where
-    pub nodes-step : StepReady bytes n 1 clean room
+  module _ (mask : ℕ) (clean : List ℕ) (empty : NoneCombined n sets clean) where
+    pub nodes-step : StepReady bytes n mask 1 clean room
     nodes-step =
         record {
           nodes = nodes-there;
           few = none-few;
           most = omega arith;
+          stands = record { says = λ fs are at. rw (empty .says fs (are .all)) (nothing-stands fs) };
           rooted = λ k low. rooted-held bytes (ready .held .book) n k (ready .held .held) (ready .all) low;
           sets-room = omega (arith, ready .sets-room, empty .beside .size);
           candidates-room = ready .candidates-room;
         }
 
-    module _ (mask : ℕ) (d : Tick) (left : ℕ) (mid mid-room : List ℕ) (run : NodesCombined left bytes n mask d old from 1 clean room mid mid-room) where
-      pub lines-step : StepReady bytes n left mid mid-room
-      lines-step = still-ready bytes n 1 clean room left mid mid-room (run .leaves) nodes-step
+    module _ (d : Tick) (left : ℕ) (mid mid-room : List ℕ) (run : NodesCombined left bytes n mask d old from 1 clean room mid mid-room) where
+      pub lines-step : StepReady bytes n mask left mid mid-room
+      lines-step = still-ready bytes n mask 1 clean room left mid mid-room (run .leaves) (run .stands) nodes-step
 
       pub behind-done : (out : ℕ) (after after-room : List ℕ) → LinesCombined out bytes n mask d left mid mid-room after after-room
           → Behind out bytes n mask d old from sets room after after-room
@@ -112,6 +114,22 @@ module _ (bytes : List ℕ) (n : ℕ) (old : List ℕ) (from : ℕ) (sets room :
               join .says (nodes book) (held-nodes bytes book held n (ready .all))
               ∙ ap₂ (joined-with (nodes book)) (kept-behind sets 0 joined-at mid n joined-at count (done .leaves .changed) (omega arith)) (done .says book held at);
         }
+
+    -- Where none stands so far it is copied.
+    pub behind-copied : (count : ℕ) (after : List ℕ) → CombinedCopied next mid after → count ≡ 0
+        → BehindJoined next bytes n mask d old from count sets room after mid-room
+    behind-copied count after copied none-yet =
+        record {
+          most = done .leaves .most;
+          size = copied .size ∙ done .leaves .changed .size;
+          candidates = done .leaves .candidates;
+          says = λ book held at.
+              copied .says n none-few ∙ done .says book held at
+              ∙ sym (rw (none-yet, none-answered sets n joined-at) (behind-alone (at .tower) book (at .state) d (alternative-in old n from)));
+        }
+
+    pub copy-room : sets-size ≤ length mid
+    copy-room = omega (arith, ready .sets-room, done .leaves .changed .size)
 
 -- ---- all of them
 

@@ -4,6 +4,11 @@ pub mod Sets
 pub mod OwnSets
 pub mod Taking
 pub mod Roots
+pub mod Sitting
 pub mod Offering
 pub mod Combining
+pub mod Copying
 pub mod Joining
+pub mod Widths
+pub mod Sides
+pub mod InPlace

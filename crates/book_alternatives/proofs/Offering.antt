@@ -121,7 +121,7 @@ module _ (bytes : List ℕ) (k : ℕ) (r : Tick) (mask : ℕ) (d : Tick) (look p
 
 -- ---- what is left
 
-own-leaves : (out : SetAt) (bytes : List ℕ) (k : ℕ) (sets room after : List ℕ) → OwnSet out k sets after → OfferLeaves out bytes k sets room after room
+pub own-leaves : (out : SetAt) (bytes : List ℕ) (k : ℕ) (sets room after : List ℕ) → OwnSet out k sets after → OfferLeaves out bytes k sets room after room
 own-leaves out bytes k sets room after own =
     record {
       most = omega (arith, own .most);
@@ -180,6 +180,7 @@ module _ (bytes : List ℕ) (n k : ℕ) (r : Tick) (mask : ℕ) (d : Tick) (sets
             few = ready .few;
             node = ready .node;
             left = ready .left;
+            rooted = ready .rooted;
             below = omega (arith, call .leaves .high, low);
             sets-room = omega (arith, ready .sets-room, sets-size-same);
             candidates-room = omega (arith, ready .candidates-room, call .leaves .candidates .size);
@@ -196,7 +197,8 @@ module _ (bytes : List ℕ) (n k : ℕ) (r : Tick) (mask : ℕ) (d : Tick) (sets
               low = λ from root. omega (arith, stayed .low, call .leaves .low from (part-rooted bytes k r mask d look p looked part more from root .0));
               changed = λ from root.
                   changed-both sets (960 * from) (960 * (k + 1)) mid after (changed-part from root)
-                  (changed-beside mid (960 * k) 960 after (960 * from) (960 * (k + 1)) (stayed .beside) (omega (arith, root-low bytes from k root)) (omega arith));
+                  (changed-wider mid (one .at) (960 * (k + 1)) after (960 * from) (960 * (k + 1)) (stayed .changed)
+                  (call .leaves .low from (part-rooted bytes k r mask d look p looked part more from root .0)) (omega arith));
               candidates = candidates-both room mid-room after-room (call .leaves .candidates) (stayed .candidates);
             };
             says = λ f s fs are at.

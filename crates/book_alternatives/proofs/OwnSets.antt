@@ -75,12 +75,12 @@ module _ (test : Bool) (n k : ℕ) (sets : List ℕ) where
 
 -- ---- alone
 
--- a byte of a part is stored
-part-set : (area : List ℕ) (at n p v : ℕ) → p < n → part (set area (at + p) v) at n ≡ set (part area at n) p v
+-- A byte of a part is stored.
+pub part-set : (area : List ℕ) (at n p v : ℕ) → p < n → part (set area (at + p) v) at n ≡ set (part area at n) p v
 unfolding part
 part-set area at n p v low = ap (take n) (drop-set-add at area p v) ∙ take-set-lt n (drop at area) p v low
 
-beside-set : (area : List ℕ) (at n p v : ℕ) → p < n → Beside area at n (set area (at + p) v)
+pub beside-set : (area : List ℕ) (at n p v : ℕ) → p < n → Beside area at n (set area (at + p) v)
 beside-set area at n p v low =
     record {
       size = length-set area (at + p) v;

@@ -12,11 +12,11 @@ use Rattle.book_alternatives.specs.Offers.{Rooted}
 
 -- ---- sizes
 
-two-size : (h f g : Formula) → parts h ≡ parts f ++ (parts g ++ (h ∷ [])) → size h ≡ size f + size g + 1
+pub two-size : (h f g : Formula) → parts h ≡ parts f ++ (parts g ++ (h ∷ [])) → size h ≡ size f + size g + 1
 unfolding size
 two-size h f g e = rw e (omega (arith, length-append (parts f) (parts g ++ (h ∷ [])), length-append (parts g) (h ∷ [])))
 
-one-size : (h g : Formula) → parts h ≡ parts g ++ (h ∷ []) → size h ≡ size g + 1
+pub one-size : (h g : Formula) → parts h ≡ parts g ++ (h ∷ []) → size h ≡ size g + 1
 unfolding size
 one-size h g e = rw e (omega (arith, length-append (parts g) (h ∷ [])))
 

@@ -1,25 +1,38 @@
--- A node takes the sets of its parts, by the ways through `stay` and `of_two`.
+-- A node takes the sets of its parts, by the ways through `put_in`, `stay` and `of_two`.
 use Prim.Native.Nat.{ℕ, _+_, _-_, _*_, _≤_, _<_}
 use native.Mathlib.Omega.{arith}
-use mathlib.Core.Path.{_≡_, refl, _∙_, ap₂}
+use mathlib.Core.Path.{_≡_, refl, sym, _∙_, ap, ap₂}
 use mathlib.Core.Bool.{Bool, true, false, _&&_}
-use mathlib.Core.List.{List}
+use mathlib.Core.Option.{some, bind}
+use mathlib.Core.List.{List, [], _∷_}
+use lib.ListN.{length, getD, set}
 use borrow.Author.Tests.{le-leb, lt-leb}
 use Rattle.logic.specs.Time.{ticks, minus, at-most}
 use Rattle.logic.specs.Book.{Formula}
 use Rattle.logic.specs.declared.Tick.{Tick}
-use Rattle.alternatives.specs.Alternatives.{combined}
+use Rattle.pending.specs.Pending.{Pending, put}
+use Rattle.pending.proofs.Nodes.{Sits}
+use Rattle.alternatives.specs.Alternatives.{these, combined}
+use Rattle.alternatives.specs.Progression.{alone-pending}
+use Rattle.alternatives.specs.OneAlternative.{single}
+use Rattle.alternatives.proofs.Behind.{put-alone, behind-put}
+use Rattle.alternatives.proofs.OneAlternative.{combined-step}
+use Rattle.book_progression.specs.PendingBytes.{pending-of, part}
 use Rattle.book_progression.specs.NodeBytes.{code-of, Stored, IsNode}
-use Rattle.book_progression.specs.Contracts.{HasNodes}
+use Rattle.book_progression.specs.Contracts.{Merged, HasNodes}
 use Rattle.book_progression.proofs.Nodes.{by-kind, by-and}
-use Rattle.book_progression.proofs.Areas.{beside-none, beside-both}
+use Rattle.book_progression.proofs.Areas.{part-at, beside-both}
+use Rattle.book_progression.proofs.Putting.{put-stored}
+use Rattle.alternative_bytes.specs.AlternativeBytes.{alternative-in}
+use Rattle.alternative_bytes.proofs.Laws.{alternative-length}
 use Rattle.set_bytes.specs.SetBytes.{answered}
 use Rattle.set_bytes.specs.Contracts.{Combines, Joins, SetsReady}
 use Rattle.book_alternatives.specs.declared.SetAt.{SetAt}
 use Rattle.book_alternatives.specs.Looking.{stays, staying, of-two}
-use Rattle.book_alternatives.specs.Offers.{OwnReady, Alone, StayReady, Stayed, TwoReady, OfTwo}
-use Rattle.book_alternatives.proofs.Sets.{changed-beside, candidates-none, kept-before}
-use Rattle.book_alternatives.proofs.OwnSets.{set-at}
+use Rattle.book_alternatives.specs.Offers.{OwnReady, Alone, PutIn, StayReady, Stayed, TwoReady, OfTwo}
+use Rattle.book_alternatives.proofs.Sets.{changed-none, changed-beside, candidates-none, kept-before, one-answered}
+use Rattle.book_alternatives.proofs.OwnSets.{set-at, part-set, beside-set}
+use Rattle.book_alternatives.proofs.Sitting.{stored-sits}
 
 -- a test that fails decides
 and-fails : (a : Bool) → (a && false) ≡ false
@@ -33,6 +46,27 @@ always-or-until bytes k f s high =
     by-kind bytes k (λ f. stays f ≡ true) f s
     (λ b s lo. absurd (omega arith)) (λ a b s lo up. absurd (omega arith)) (λ a b s at. absurd (omega arith)) (λ a b s lo up. absurd (omega arith))
     (λ a b c s lo up. absurd (omega arith)) (λ a b s at. refl) (λ a b c s at. refl)
+
+-- one alternative and a node alone are that alternative with the node put there
+combined-put : (fs : List Formula) (f : Formula) (k : ℕ) (r : Tick) (p : Pending) → Sits fs f k → length p ≡ length fs
+    → combined fs (these (p ∷ [])) (alone-pending fs k r) ≡ these (put f k r p ∷ [])
+unfolding single bind alone-pending
+combined-put fs f k r p sits sized =
+    combined-step fs (some p) (λ q. some (put f k r q)) (alone-pending fs k r) sized (behind-put fs f k r sits)
+    (ap (λ q. these (q ∷ [])) (sym (put-alone fs f k r sits)))
+
+-- ---- put_in
+
+pub put-in : (bytes : List ℕ) (k : ℕ) (r : Tick) (at : ℕ) (sets : List ℕ) (left : Tick) → Merged left bytes k r (getD sets (at + k) 0)
+    → PutIn bytes k r at sets (set sets (at + k) (left .0 + 1))
+unfolding alternative-in
+put-in bytes k r at sets left merged =
+    record {
+      beside = beside-set sets at (k + 1) k (left .0 + 1) (omega arith);
+      says = λ f s n low.
+          ap pending-of (part-set sets at n k (left .0 + 1) low)
+          ∙ put-stored bytes k r left (part sets at n) (rw (part-at sets at n k low) merged) .says f s;
+    }
 
 module _ (bytes : List ℕ) (n k : ℕ) (r : Tick) (one : SetAt) (sets room : List ℕ) (ready : StayReady bytes n k r one sets room) where
   -- ---- what is asked
@@ -57,6 +91,9 @@ module _ (bytes : List ℕ) (n k : ℕ) (r : Tick) (one : SetAt) (sets room : Li
         candidates = ready .candidates-room;
       }
 
+  pub put-there : one .at + k < length sets
+  put-there = omega (arith, ready .below, ready .few, ready .node, ready .sets-room)
+
   -- ---- stay
 
   -- It is as it was.
@@ -67,7 +104,7 @@ module _ (bytes : List ℕ) (n k : ℕ) (r : Tick) (one : SetAt) (sets room : Li
         most = λ l. l;
         low = omega arith;
         high = omega (arith, ready .below);
-        beside = beside-none sets (960 * k) 960;
+        changed = changed-none sets (one .at) (960 * (k + 1));
         candidates = candidates-none room;
         says = λ f s fs are. rw (off f s) refl;
       }
@@ -94,12 +131,33 @@ module _ (bytes : List ℕ) (n k : ℕ) (r : Tick) (one : SetAt) (sets room : Li
         most = λ l. comb .leaves .most;
         low = omega (arith, ready .below, alone .own .place);
         high = omega (arith, alone .own .place);
-        beside = beside-both sets (960 * k) 960 mid after (alone .own .beside) (rw (alone .own .place) at (comb .leaves .beside));
+        changed = changed-beside sets (960 * k) 960 after (one .at) (960 * (k + 1))
+            (beside-both sets (960 * k) 960 mid after (alone .own .beside) (rw (alone .own .place) at (comb .leaves .beside)))
+            (omega (arith, ready .below)) (omega arith);
         candidates = comb .leaves .candidates;
         says = λ f s fs are. comb .says fs are ∙ rw (always-or-until bytes k f s (omega (arith, e)), le-leb (d .0) (r .0) early) (ap₂ (combined fs)
             (kept-before sets (960 * k) (960 * k + 960) mid n (one .at) (one .count)
             (changed-beside sets (960 * k) 960 mid (960 * k) (960 * k + 960) (alone .own .beside) (omega arith) (omega arith)) (ready .few) (ready .below))
             (alone .says fs (are .all)));
+      }
+
+  -- So it is put into the one alternative of its part, where that lies.
+  pub stay-put : (d : Tick) (code : ℕ) (after : List ℕ) → PutIn bytes k (ticks (r .0 - d .0)) (one .at) sets after → one .count ≡ 1
+      → code ≡ code-of bytes k → 11 ≤ code → d .0 ≤ r .0 → Stayed one bytes n k r d one sets room after room
+  unfolding staying at-most minus alternative-in
+  stay-put d code after done only e high early =
+      record {
+        most = λ l. l;
+        low = omega arith;
+        high = omega (arith, ready .below);
+        changed = changed-beside sets (one .at) (k + 1) after (one .at) (960 * (k + 1)) (done .beside) (omega arith)
+            (omega (arith, ready .below, ready .few, ready .node));
+        candidates = candidates-none room;
+        says = λ f s fs are. rw (only, always-or-until bytes k f s (omega (arith, e)), le-leb (d .0) (r .0) early)
+            (one-answered after n (one .at) ∙ ap (λ p. these (p ∷ [])) (done .says f s n (ready .node))
+            ∙ sym (ap (λ z. combined fs z (alone-pending fs k (ticks (r .0 - d .0)))) (one-answered sets n (one .at))
+            ∙ combined-put fs f k (ticks (r .0 - d .0)) (alternative-in sets n (one .at)) (stored-sits bytes n fs are f k s (ready .node) (ready .rooted))
+            (alternative-length sets n (one .at) (omega (arith, ready .below, ready .few, ready .node, ready .sets-room)) ∙ sym (are .all))));
       }
 
 -- ---- of two

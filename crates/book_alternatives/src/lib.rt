@@ -7,7 +7,7 @@ ghost use Rattle.reading.specs.BookArea.{nodes-in};
 ghost use Rattle.book_progression.specs.NodeBytes.{IsNode, IsHeld};
 ghost use Rattle.book_progression.specs.Contracts.{IsLine};
 ghost use Rattle.set_bytes.specs.SetBytes.{candidates-size};
-ghost use Rattle.book_alternatives.specs.Offers.{sets-size, TimedAt, OwnReady, Tested, Alone, Looked, LookedPart, StayReady, Stayed, TwoReady, OfTwo, OfferReady, Offered, StepReady, NodeCombined, CellCombined, NodesCombined, LineCombined, LinesCombined, NoneCombined, AlternativeReady, Behind, BehindJoined, Progressed};
+ghost use Rattle.book_alternatives.specs.Offers.{sets-size, TimedAt, TwoSidedAt, OneSidedAt, TwoTimed, OwnReady, Tested, Alone, Looked, LookedPart, PutIn, StayReady, Stayed, TwoReady, OfTwo, OfferReady, Offered, InPlaceReady, OfferedOne, StepReady, CombineReady, NodeCombined, CombinedInPlace, CellCombined, NodesCombined, LineCombined, LinesCombined, NoneCombined, AlternativeReady, Behind, CombinedCopied, BehindJoined, Progressed};
 use book_progression::line;
 use book_progression::node;
 use logic::Tick;
@@ -58,6 +58,57 @@ pub fn is_timed(book: &[u8], k: usize) -> bool
         return true;
     }
     is_timed(book, node::second(book, k))
+}
+
+// Whether node k is an or with two timed sides.
+fn is_two_sided(book: &[u8], k: usize) -> bool
+    requires { ⌜ IsNode (now book) k ⌝ }
+    ensures { λ b. ⌜ TwoSidedAt b (now (book .entry)) k ⌝ }
+{
+    if node::code(book, k) != node::OR_FIRST_TIMED {
+        return false;
+    }
+    is_timed(book, node::second(book, k))
+}
+
+// Whether no or in node k has two timed sides.
+fn is_one_sided(book: &[u8], k: usize) -> bool
+    requires { ⌜ IsNode (now book) k ⌝ }
+    ensures { λ b. ⌜ OneSidedAt b (now (book .entry)) k ⌝ }
+{
+    let code = node::code(book, k);
+    if code <= node::WANTED {
+        return true;
+    }
+    if is_two_sided(book, k) {
+        return false;
+    }
+    if !is_one_sided(book, node::second(book, k)) {
+        return false;
+    }
+    if code < node::NO_MORE {
+        return is_one_sided(book, node::first(book, k));
+    }
+    if code != node::UNTIL {
+        return true;
+    }
+    is_one_sided(book, node::first(book, k))
+}
+
+// Whether some or of the book has two timed sides.
+pub fn two_timed(book: &[u8]) -> bool
+    requires { ⌜ IsHeld (now book) ⌝ }
+    ensures { λ b. ⌜ TwoTimed b (now (book .entry)) ⌝ }
+{
+    let n = book_progression::node_count(book);
+    let mut k = 0;
+    while k < n {
+        if is_two_sided(book, k) {
+            return true;
+        }
+        k += 1;
+    }
+    false
 }
 
 // ---- the set of a node
@@ -150,8 +201,19 @@ fn looked_part(book: &[u8], k: usize, look: u8) -> usize
     node::first(book, k)
 }
 
+// Node k becomes pending with r ticks in the alternative at this place.
+fn put_in(book: &[u8], k: usize, r: Tick, at: usize, sets: &mut [u8])
+    requires { ⌜ IsNode (now book) k ⌝ }
+    requires { ⌜ r .0 ≤ 254 ⌝ }
+    requires { ⌜ at + k < length (now sets) ⌝ }
+    ensures { λ _. ⌜ PutIn (now (book .entry)) k r at (now (sets .entry)) (now (sets .exit)) ⌝ }
+{
+    let left = book_progression::merged(book, k, r, sets[at + k]);
+    sets[at + k] = (left.0 + 1) as u8;
+}
+
 // The set of its part as that of node k, with node k itself if it stays pending: with d ticks fewer
-// than r, if there are as many.
+// than r, if there are as many. If that set has one alternative, node k is put into it where it lies.
 fn stay(
     book: &[u8],
     n: usize,
@@ -171,7 +233,12 @@ fn stay(
     if r.0 < d.0 {
         return one;
     }
-    let own = alone(n, k, k, Tick(r.0 - d.0), sets);
+    let left = Tick(r.0 - d.0);
+    if one.count == 1 {
+        put_in(book, k, left, one.at, sets);
+        return one;
+    }
+    let own = alone(n, k, k, left, sets);
     let count = set_bytes::combine(
         book,
         n,
@@ -228,8 +295,30 @@ fn of_two(
     SetAt { at, count }
 }
 
-// Node k with r ticks left, as a state with these marks is left by a step of length d: the alternatives
-// that come of it.
+// Node k with r ticks left, as a state with these marks is left by a step of length d, where no or in it
+// has two timed sides: the one alternative to which it progresses from nothing, or none where the step
+// is broken.
+fn offer_one(
+    book: &[u8],
+    n: usize,
+    k: usize,
+    r: Tick,
+    mask: usize,
+    d: Tick,
+    sets: &mut [u8],
+) -> SetAt
+    requires { ⌜ InPlaceReady (now book) n k r (now sets) ⌝ }
+    ensures { λ out. ⌜ OfferedOne out (now (book .entry)) n k r mask d (now (sets .entry)) (now (sets .exit)) ⌝ }
+{
+    let at = SET * k;
+    area_bytes::clear(&mut sets[at..at + n]);
+    if book_progression::progress(book, k, r, mask, d, &mut sets[at..at + n]) {
+        return SetAt { at, count: 1 };
+    }
+    SetAt { at, count: 0 }
+}
+
+// The same of any node: the alternatives that come of it.
 pub fn offer(
     book: &[u8],
     n: usize,
@@ -243,6 +332,9 @@ pub fn offer(
     requires { ⌜ OfferReady (now book) n k r (now sets) (now room) ⌝ }
     ensures { λ out. ⌜ Offered out (now (book .entry)) n k r mask d (now (sets .entry)) (now (room .entry)) (now (sets .exit)) (now (room .exit)) ⌝ }
 {
+    if is_one_sided(book, k) {
+        return offer_one(book, n, k, r, mask, d, sets);
+    }
     let look = looks(book, k, r, mask, d);
     if look <= PASSES {
         return tested(look == PASSES, n, k, sets);
@@ -273,7 +365,7 @@ pub fn offer(
 // ---- a step
 
 // The set of node k with r ticks left is combined with what stands so far, of which there are `count`.
-fn combine_node(
+fn combine_general(
     book: &[u8],
     n: usize,
     k: usize,
@@ -301,6 +393,52 @@ fn combine_node(
     )
 }
 
+// The same where one alternative stands so far and no or in node k has two timed sides: the node
+// progresses in that alternative, which is left, or none where the step is broken.
+fn combine_in_place(
+    book: &[u8],
+    n: usize,
+    k: usize,
+    r: Tick,
+    mask: usize,
+    d: Tick,
+    sets: &mut [u8],
+) -> usize
+    requires { ⌜ InPlaceReady (now book) n k r (now sets) ⌝ }
+    ensures { λ out. ⌜ CombinedInPlace out (now (book .entry)) n k r mask d (now (sets .entry)) (now (sets .exit)) ⌝ }
+{
+    if book_progression::progress(book, k, r, mask, d, &mut sets[COMBINED..COMBINED + n]) {
+        return 1;
+    }
+    0
+}
+
+// The same: what stands so far where nothing comes of the node, else in place where it may be.
+fn combine_node(
+    book: &[u8],
+    n: usize,
+    k: usize,
+    r: Tick,
+    mask: usize,
+    d: Tick,
+    count: usize,
+    sets: &mut [u8],
+    room: &mut [u8],
+) -> usize
+    requires { ⌜ CombineReady (now book) n k r mask count (now sets) (now room) ⌝ }
+    ensures { λ out. ⌜ NodeCombined out (now (book .entry)) n k r mask d count (now (sets .entry)) (now (room .entry)) (now (sets .exit)) (now (room .exit)) ⌝ }
+{
+    if looks(book, k, r, mask, d) == PASSES {
+        return count;
+    }
+    if count == 1 {
+        if is_one_sided(book, k) {
+            return combine_in_place(book, n, k, r, mask, d, sets);
+        }
+    }
+    combine_general(book, n, k, r, mask, d, count, sets, room)
+}
+
 // Node k is combined with what stands so far if its cell says that it is pending.
 fn combine_cell(
     book: &[u8],
@@ -313,7 +451,7 @@ fn combine_cell(
     sets: &mut [u8],
     room: &mut [u8],
 ) -> usize
-    requires { ⌜ StepReady (now book) n count (now sets) (now room) ⌝ }
+    requires { ⌜ StepReady (now book) n mask count (now sets) (now room) ⌝ }
     requires { ⌜ k < n ⌝ }
     ensures { λ out. ⌜ CellCombined out (now (book .entry)) n k cell mask d count (now (sets .entry)) (now (room .entry)) (now (sets .exit)) (now (room .exit)) ⌝ }
 {
@@ -333,7 +471,7 @@ fn combine_cell(
     )
 }
 
-// Every pending node of the old alternative is combined with what stands so far.
+// Every pending node of the old alternative is combined with what stands so far. Most cells are empty.
 fn combine_nodes(
     book: &[u8],
     n: usize,
@@ -345,7 +483,7 @@ fn combine_nodes(
     sets: &mut [u8],
     room: &mut [u8],
 ) -> usize
-    requires { ⌜ StepReady (now book) n count (now sets) (now room) ⌝ }
+    requires { ⌜ StepReady (now book) n mask count (now sets) (now room) ⌝ }
     requires { ⌜ from + n ≤ length (now old) ⌝ }
     ensures { λ out. ⌜ NodesCombined out (now (book .entry)) n mask d (now (old .entry)) from count (now (sets .entry)) (now (room .entry)) (now (sets .exit)) (now (room .exit)) ⌝ }
 {
@@ -353,7 +491,7 @@ fn combine_nodes(
     let mut k = 0;
     while k < n {
         left = combine_cell(book, n, k, old[from + k], mask, d, left, sets, room);
-        k += 1;
+        k = book_progression::past_empty(old, from, n, k + 1);
     }
     left
 }
@@ -371,7 +509,7 @@ fn combine_line(
 ) -> usize
     requires { ⌜ IsLine (now book) i ⌝ }
     requires { ⌜ n ≡ nodes-in (now book) ⌝ }
-    requires { ⌜ StepReady (now book) n count (now sets) (now room) ⌝ }
+    requires { ⌜ StepReady (now book) n mask count (now sets) (now room) ⌝ }
     ensures { λ out. ⌜ LineCombined out (now (book .entry)) n i mask d count (now (sets .entry)) (now (room .entry)) (now (sets .exit)) (now (room .exit)) ⌝ }
 {
     if line::form(book, i) != line::ALWAYS {
@@ -393,7 +531,7 @@ fn combine_lines(
 ) -> usize
     requires { ⌜ IsHeld (now book) ⌝ }
     requires { ⌜ n ≡ nodes-in (now book) ⌝ }
-    requires { ⌜ StepReady (now book) n count (now sets) (now room) ⌝ }
+    requires { ⌜ StepReady (now book) n mask count (now sets) (now room) ⌝ }
     ensures { λ out. ⌜ LinesCombined out (now (book .entry)) n mask d count (now (sets .entry)) (now (room .entry)) (now (sets .exit)) (now (room .exit)) ⌝ }
 {
     let lines = line::count(book);
@@ -434,7 +572,23 @@ fn behind(
     combine_lines(book, n, mask, d, left, sets, room)
 }
 
-// It is joined with what stands so far, of which there are `count`.
+// The set that is joined so far becomes that which was combined, if that has at most 16.
+fn copy_combined(next: usize, sets: &mut [u8])
+    requires { ⌜ sets-size ≤ length (now sets) ⌝ }
+    ensures { λ _. ⌜ CombinedCopied next (now (sets .entry)) (now (sets .exit)) ⌝ }
+{
+    if 16 < next {
+        return;
+    }
+    let size = SIZE * next;
+    let mut k = 0;
+    while k < size {
+        sets[JOINED + k] = sets[COMBINED + k];
+        k += 1;
+    }
+}
+
+// It is joined with what stands so far, of which there are `count`; if there are none, it is copied.
 fn join_behind(
     book: &[u8],
     n: usize,
@@ -450,6 +604,10 @@ fn join_behind(
     ensures { λ out. ⌜ BehindJoined out (now (book .entry)) n mask d (now (old .entry)) from count (now (sets .entry)) (now (room .entry)) (now (sets .exit)) (now (room .exit)) ⌝ }
 {
     let next = behind(book, n, mask, d, old, from, sets, room);
+    if count == 0 {
+        copy_combined(next, sets);
+        return next;
+    }
     set_bytes::join(book, n, sets, JOINED, count, COMBINED, next, JOINED, room)
 }
 

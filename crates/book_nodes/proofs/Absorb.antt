@@ -276,14 +276,9 @@ min-last a b c e d x =
     ∙ ap (λ (m : ℕ). min a (min b m)) (min-swap e c (min d x)))
 
 fault-or : (marks room b c : ℕ) (f g : Formula) (x : ℕ)
-    → min (due (timed f && timed g) 10) (min (fault-of marks room c g) (min (fault-of marks room b f) x))
-    ≡ min (fault-of marks room (max b c) (or f g)) x
+    → min (fault-of marks room c g) (min (fault-of marks room b f) x) ≡ min (fault-of marks room (max b c) (or f g)) x
 unfolding fault-of over-number over-mark timed-right
-fault-or marks room b c f g x =
-    ap (λ (m : ℕ). min (due (timed f && timed g) 10) m) (fault-and marks room b c f g x)
-    ∙ min-last (due (over-number f || over-number g) 7) (due (over-mark marks f || over-mark marks g) 8) (due (ltb room (max b c)) 9)
-    (due (timed f && timed g) 10) (due (not (timed-right f && timed-right g)) 10) x
-    ∙ sym (rw (due-not-and (not (timed f && timed g)) (timed-right f && timed-right g) 10 (omega arith), not-not (timed f && timed g)))
+fault-or marks room b c f g x = fault-and marks room b c f g x
 
 fault-bound : (marks room b amount : ℕ) (g : Formula) (x : ℕ)
     → min (due (ltb 254 amount) 7) (min (fault-of marks room b g) x)
@@ -315,34 +310,17 @@ unfolding one-if
 bit-not-zero true = refl
 bit-not-zero false = refl
 
-stored-fault : (bytes : List ℕ) (st : State) → stored bytes st .fault ≡ st .fault
-unfolding stored
-stored-fault bytes st = refl
-
-stored-fields : (bytes : List ℕ) (st : State)
-    → stored bytes st ≡ record { nodes = put-bytes bytes (st .nodes); fault = st .fault; is-timed = st .is-timed; marks = st .marks; usual = st .usual }
-unfolding stored
-stored-fields bytes st = refl
-
-no-fault : (room b c : ℕ) (f g : Formula) (st : State) → timed f ≡ false
-    → min (fault-of (st .marks) room c g) (min (fault-of (st .marks) room b f) (st .fault))
-    ≡ min (due (timed f && timed g) 10) (min (fault-of (st .marks) room c g) (min (fault-of (st .marks) room b f) (st .fault)))
-no-fault room b c f g st e = rw e (omega (arith, due-false 10, fault-at-most (st .marks) room c g))
-
-or-node-timed : (first : ℕ) (st : State) → st .fault ≤ 255
+or-node-timed : (first : ℕ) (st : State)
     → or-node first 1 st
     ≡ record {
       nodes = put-bytes (5 ∷ 0 ∷ first ∷ last-node st ∷ []) (st .nodes);
-      fault = min (due (not (eqb (st .is-timed) 0)) 10) (st .fault);
+      fault = st .fault;
       is-timed = 1;
       marks = st .marks;
       usual = st .usual;
     }
-unfolding or-node told-timed
-or-node-timed first st h =
-    let bytes : List ℕ = 5 ∷ 0 ∷ first ∷ last-node st ∷ [] in
-    let after : State = stored bytes st in
-    rw (noted-as (not (eqb (st .is-timed) 0)) 10 after (rw (stored-fault bytes st) h), stored-fields bytes st)
+unfolding or-node stored told-timed
+or-node-timed first st = refl
 
 or-node-untimed : (first : ℕ) (st : State)
     → or-node first 0 st
@@ -369,10 +347,8 @@ or-first : (room b c : ℕ) (f g : Formula) (st : State) → timed f ≡ true
 unfolding absorb last-node timed one-if node-code
 or-first room b c f g st e =
     ap (λ (t : ℕ). or-node (last-node (absorb room b f st)) t (absorb room c g (absorb room b f st))) (ap one-if e)
-    ∙ or-node-timed (last-node (absorb room b f st)) (absorb room c g (absorb room b f st)) (absorbed-fault room c g (absorb room b f st))
-    ∙ same-state (or-bytes f g (st .nodes) 5 (rw e))
-    (rw (bit-not-zero (timed g), ← ap (λ (t : Bool). due (t && timed g) 10) e) (fault-or (st .marks) room b c f g (st .fault)))
-    (rw e)
+    ∙ or-node-timed (last-node (absorb room b f st)) (absorb room c g (absorb room b f st))
+    ∙ same-state (or-bytes f g (st .nodes) 5 (rw e)) (fault-or (st .marks) room b c f g (st .fault)) (rw e)
 
 or-second : (room b c : ℕ) (f g : Formula) (st : State) → timed f ≡ false
     → or-node (last-node (absorb room b f st)) (absorb room b f st .is-timed) (absorb room c g (absorb room b f st))
@@ -381,9 +357,7 @@ unfolding absorb last-node timed one-if node-code
 or-second room b c f g st e =
     ap (λ (t : ℕ). or-node (last-node (absorb room b f st)) t (absorb room c g (absorb room b f st))) (ap one-if e)
     ∙ or-node-untimed (last-node (absorb room b f st)) (absorb room c g (absorb room b f st))
-    ∙ same-state (or-bytes f g (st .nodes) 6 (rw e))
-    (no-fault room b c f g st e ∙ fault-or (st .marks) room b c f g (st .fault))
-    (rw e)
+    ∙ same-state (or-bytes f g (st .nodes) 6 (rw e)) (fault-or (st .marks) room b c f g (st .fault)) (rw e)
 
 -- `|` of two formulas.
 pub absorb-or : (room b c : ℕ) (f g : Formula) (st : State)

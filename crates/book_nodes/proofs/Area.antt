@@ -179,17 +179,11 @@ pub or-untimed : (a z : List ℕ) (first t second : ℕ) → second ≡ last-nod
 unfolding or-node
 or-untimed a z first t second e g f = rw (g, ← e) f
 
-stored-timed : (bytes : List ℕ) (st : State) → stored bytes st .is-timed ≡ st .is-timed
-unfolding stored
-stored-timed bytes st = refl
-
-pub or-timed : (a x y z : List ℕ) (first t second : ℕ) → second ≡ last-node (state-of a) → (t ≡ 0 → ⊥)
-    → state-of x ≡ stored (5 ∷ 0 ∷ first ∷ second ∷ []) (state-of a)
-    → state-of y ≡ noted-if (not (eqb (state-of x .is-timed) 0)) 10 (state-of x) → state-of z ≡ told-timed 1 (state-of y)
+pub or-timed : (a y z : List ℕ) (first t second : ℕ) → second ≡ last-node (state-of a) → (t ≡ 0 → ⊥)
+    → state-of y ≡ stored (5 ∷ 0 ∷ first ∷ second ∷ []) (state-of a) → state-of z ≡ told-timed 1 (state-of y)
     → state-of z ≡ or-node first t (state-of a)
 unfolding or-node
-or-timed a x y z first t second e n f g h =
-    rw (ne-eqb t 0 n, ← e, h, g, f, stored-timed (5 ∷ 0 ∷ first ∷ second ∷ []) (state-of a))
+or-timed a y z first t second e n f g = rw (ne-eqb t 0 n, ← e) (g ∙ ap (told-timed 1) f)
 
 pub bounded-stored : (a x y z : List ℕ) (code amount first second : ℕ) → second ≡ last-node (state-of a)
     → state-of x ≡ noted-if (ltb 254 amount) 7 (state-of a) → state-of y ≡ stored (code ∷ amount % 256 ∷ first ∷ second ∷ []) (state-of x)

@@ -96,12 +96,12 @@ unfoldable pub and-node : ℕ → ℕ → State → State
 and-node first t st =
     told-timed (pick (eqb t 0) (λ _. st .is-timed) (λ _. 1)) (stored (4 ∷ 0 ∷ first ∷ last-node st ∷ []) st)
 
--- the same of `|`: two timed parts are a fault
+-- the same of `|`, with another code where the first part is timed
 unfoldable pub or-node : ℕ → ℕ → State → State
 or-node first t st =
     pick (eqb t 0)
     (λ _. stored (6 ∷ 0 ∷ first ∷ last-node st ∷ []) st)
-    (λ _. told-timed 1 (noted-if (not (eqb (st .is-timed) 0)) 10 (stored (5 ∷ 0 ∷ first ∷ last-node st ∷ []) st)))
+    (λ _. told-timed 1 (stored (5 ∷ 0 ∷ first ∷ last-node st ∷ []) st))
 
 -- a node with a bound, its last part read last
 unfoldable pub bounded-node : ℕ → ℕ → ℕ → State → State

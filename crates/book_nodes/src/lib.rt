@@ -165,7 +165,7 @@ pub fn and_node(area: &mut [u8], first: u8, timed: u8)
     tell_timed(area, 1);
 }
 
-// The same of `|`: two timed parts are a fault.
+// The same of `|`, with another code where the first part is timed.
 pub fn or_node(area: &mut [u8], first: u8, timed: u8)
     requires { ⌜ 512 ≤ length (now area) ⌝ }
     ensures { λ _. ⌜ State.state-of (now (area .exit)) ≡ State.or-node first timed (State.state-of (now (area .entry))) ⌝ }
@@ -176,7 +176,6 @@ pub fn or_node(area: &mut [u8], first: u8, timed: u8)
         return;
     }
     put(area, OR_FIRST_TIMED, 0, first, second);
-    note_timed(area);
     tell_timed(area, 1);
 }
 

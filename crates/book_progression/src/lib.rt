@@ -243,7 +243,7 @@ fn past_fours(area: &[u8], from: usize, count: usize, k: usize) -> usize
 }
 
 // Passes over empty cells to the next that is not, or to the end.
-fn past_empty(area: &[u8], from: usize, count: usize, k: usize) -> usize
+pub fn past_empty(area: &[u8], from: usize, count: usize, k: usize) -> usize
     requires { ⌜ from + count ≤ length (now area) ⌝ }
     requires { ⌜ k ≤ count ⌝ }
     ensures { λ r. ⌜ EmptyTo (now (area .entry)) from count k r ⌝ }

@@ -11,7 +11,7 @@ use lib.Seq.{sets, sets-eq, length-sets, take-at, take-nil, take-take, take-set-
 use lib.Dec.{ltb}
 use borrow.Author.Tests.{lt-ltb, le-ltb, ltb-true, ltb-false}
 use Rattle.base.specs.Lists.{joined}
-use Rattle.logic.specs.Book.{Formula, and, parts, size, nodes, root, Form, Rule, Book}
+use Rattle.logic.specs.Book.{Formula, parts, size, nodes, root, Form, Rule, Book}
 use Rattle.reading.specs.BookArea.{lines-at, node-count-at, node-code, node-number, node-first, node-second, node-bytes, nodes-bytes, form-code, traits-code, line-bytes, lines-bytes, nodes-in, lines-in, HoldsBook}
 use Rattle.reading.specs.BookReading.{most-nodes}
 use Rattle.book_nodes.specs.State.{Nodes, put-bytes, put-one, put-all}

@@ -33,9 +33,11 @@ fn check(tower: &[u8], text: &[u8], table: &[u8]) -> Verdict
     ensures { λ r. ⌜ r ≡ verdict (checked-file (now (tower .entry)) (now (text .entry)) (now (table .entry))) ⌝ }
 {
     let mut nodes = [0u8; 512];
-    let mut pairs = [0u8; 62062];
+    let mut pairs = [0u8; 64968];
     let mut index = [0u8; 8192];
     let mut graph = [0u8; 34000];
+    let mut sets = [0u8; 59520];
+    let mut room = [0u8; 30752];
     checker::check(
         tower,
         text,
@@ -44,6 +46,8 @@ fn check(tower: &[u8], text: &[u8], table: &[u8]) -> Verdict
         &mut pairs,
         &mut index,
         &mut graph,
+        &mut sets,
+        &mut room,
     )
 }
 

@@ -7,14 +7,14 @@ use mathlib.Core.List.{List}
 use lib.ListN.{length}
 use lib.Dec.{eqb}
 use borrow.Author.Tests.{ne-eqb}
-use Rattle.base.specs.Choice.{pick}
 use Rattle.base.specs.Lists.{some-of, below, count-from}
 use Rattle.base.specs.Bytes.{number-at}
 use Rattle.base.specs.Answers.{_if_else_}
 use Rattle.base.specs.declared.Reason.the-variants as Why
-use Rattle.base.specs.declared.Refusal.the-variants.{Pairs}
+use Rattle.base.specs.declared.Refusal.the-variants.{Pairs, Alternatives}
+use Rattle.base.specs.declared.Verdict.{Verdict}
 use Rattle.base.specs.declared.Verdict.the-variants as Check
-use Rattle.base.proofs.Lists.{same-truth, some-at, some-of-mem, some-below, below-some, mem-getD, mem-index, is-there-in, there-not}
+use Rattle.base.proofs.Lists.{whether, same-truth, some-at, some-of-mem, some-below, below-some, mem-getD, mem-index, is-there-in, there-not}
 use Rattle.logic.specs.Tower.{Tower, tower-of}
 use Rattle.logic.specs.Tables.{rows-tower}
 use Rattle.logic.specs.Book.{Book}
@@ -23,18 +23,17 @@ use Rattle.alternatives.specs.Pairs.{first-pair, pairs, over-pairs, over-altern
 use Rattle.alternatives.proofs.Steps.{pair-step-out}
 use Rattle.outcome.specs.Check.{over-items, broken-step, breaks, some-broken, _found-if_else_, verdict}
 use Rattle.book_progression.specs.NodeBytes.{IsHeld}
-use Rattle.pair_entries.specs.PendingEntries.{TowerWithBook}
 use Rattle.pair_graph.specs.Graph.{Move}
-use Rattle.pair_graph.specs.Steps.{graph-size, cell, move-of, move-at, graph-of}
+use Rattle.pair_graph.specs.Steps.{cell, move-of, move-at, graph-of, HoldsGraph}
 use Rattle.pair_graph.specs.GraphOf.{numbered, SaysStep, says-not-enabled, says-broken, says-to, GraphOf}
 use Rattle.checker_rows.specs.RowVerdict.{RowsJudgeable}
-use Rattle.pair_search.specs.Walked.{walked, Walkable}
-use Rattle.pair_search.specs.Explored.{found, Explored}
+use Rattle.pair_trial.specs.Walked.{walked, TowerWithBook, Walkable}
+use Rattle.pair_search.specs.Explored.{Explored}
 use Rattle.pair_search.specs.declared.Found.{Found}
-use Rattle.pair_search.specs.declared.Found.the-variants.{TooMany, Met}
-use Rattle.pair_search.proofs.Walking.{rows-walkable, walked-actions}
-use Rattle.pair_search.proofs.Bridge.{held-narrow}
-use Rattle.checker.specs.Checking.{runs-answer, RunsChecked, is-broken, broken-at, breaks-at, some-break}
+use Rattle.pair_search.specs.declared.Found.the-variants.{TooMany, TooWide, Met}
+use Rattle.pair_search.proofs.Ended.{FoundSays, ended-says}
+use Rattle.pair_trial.proofs.Walking.{rows-walkable, walked-actions}
+use Rattle.checker.specs.Checking.{runs-answer, RunsChecked, is-broken, broken-at, breaks-at, some-break, steps-verdict}
 
 -- ---- broken_at, breaks, some_break
 
@@ -93,6 +92,27 @@ module _ (tower : Tower) (book : Book) (n : ℕ) (graph : List ℕ) (of : GraphO
           (below-some (broken-at graph i) (tower .actions) a k
           (move-breaks i a inside k ∙ ap (λ z. broken-step tower book z a) g ∙ b))
 
+-- ---- check_steps
+
+module _ (tower : Tower) (graph : List ℕ) (n actions : ℕ) (holds : HoldsGraph n (tower .actions) graph) (at-actions : actions ≡ tower .actions) where
+  -- The graph has room for so many actions.
+  pub steps-actions : actions ≤ 16
+  steps-actions = omega (arith, holds .actions-most)
+
+  module _ (b : Bool) (is-b : b ≡ some-break graph n actions) where
+    told : some-break graph n (tower .actions) ≡ b
+    told = ap (some-break graph n) (sym at-actions) ∙ sym is-b
+
+    -- 14 e.
+    pub steps-broken : b ≡ true → Check.NotGood Why.Broken ≡ steps-verdict tower graph n
+    unfolding steps-verdict
+    steps-broken e = let broke = told ∙ e in sym (rw broke)
+
+    -- Good.
+    pub steps-good : b ≡ false → Check.Good ≡ steps-verdict tower graph n
+    unfolding steps-verdict
+    steps-good e = let whole = told ∙ e in sym (rw whole)
+
 -- ---- check_runs
 
 -- The rows of the table can be searched.
@@ -100,63 +120,46 @@ pub runs-walkable : (tower table nodes : List ℕ) → TowerWithBook tower nodes
     → Walkable tower table true nodes
 runs-walkable tower table nodes world ok = rows-walkable tower table nodes world (ok .layout) (ok .states)
 
--- how the search ends
-found-many : (tower : Tower) (book : Book) → TooMany ≡ found tower book → over-pairs tower book ≡ true
-unfolding found
-found-many tower book e = go (over-pairs tower book) e
-  where
-    go : (b : Bool) → TooMany ≡ pick b (λ _. TooMany) (λ _. Met (length (pairs tower book))) → b ≡ true
-    go true f = refl
-    go false f = let z : _≡_ {A = ℕ} 0 1 = cc in absurd (omega arith)
-
-found-few : (tower : Tower) (book : Book) (n : ℕ) → Met n ≡ found tower book → over-pairs tower book ≡ false
-unfolding found
-found-few tower book n e = go (over-pairs tower book) e
-  where
-    go : (b : Bool) → Met n ≡ pick b (λ _. TooMany) (λ _. Met (length (pairs tower book))) → b ≡ false
-    go true f = let z : _≡_ {A = ℕ} 0 1 = cc in absurd (omega arith)
-    go false f = refl
-
 module _ (tower table nodes graph : List ℕ) (r : Found)
     (explored : Explored r (walked tower table true) nodes graph) where
+  -- the table as a tower
+  abbrev rows : Tower
+  rows = rows-tower (tower-of tower) (table-of table)
+
+  said : (s : Found) → r ≡ s → (h : IsHeld nodes) → FoundSays rows (h .book) s
+  unfolding walked
+  said s e h = ended-says (walked tower table true) nodes graph r s explored e h
+
   -- 11.
   pub runs-many : r ≡ TooMany → RunsChecked (Check.Refused Pairs) tower table nodes
-  unfolding runs-answer over-items walked verdict _if_else_
-  runs-many e = record { says = λ h. sym (rw (many h)) }
+  unfolding runs-answer over-items verdict _if_else_
+  runs-many e = record { says = λ h. let many = said TooMany e h in sym (rw many) }
+
+  -- 20.
+  pub runs-wide : r ≡ TooWide → RunsChecked (Check.Refused Alternatives) tower table nodes
+  unfolding runs-answer over-items verdict _if_else_
+  runs-wide e = record { says = λ h. by h (said TooWide e h) }
     where
-      many : (h : IsHeld nodes) → over-pairs (rows-tower (tower-of tower) (table-of table)) (h .book) ≡ true
-      many h = found-many (rows-tower (tower-of tower) (table-of table)) (h .book) (sym e ∙ unfold walked in (explored .says h))
+      by : (h : IsHeld nodes) → (over-pairs rows (h .book) ≡ false) × (over-alternatives rows (h .book) ≡ true)
+          → Check.Refused Alternatives ≡ verdict (runs-answer (tower-of tower) (h .book) (table-of table))
+      by h (few, wide) = sym (rw (few, wide))
 
-  module _ (n actions : ℕ) (is : r ≡ Met n) where
+  module _ (n : ℕ) (is : r ≡ Met n) where
     -- The graph holds n pairs, with the tower's actions.
-    pub runs-room : graph-size ≤ length graph
-    runs-room = explored .pairs-held n is .holds .room
+    pub runs-held : HoldsGraph n (tower-of tower .actions) graph
+    runs-held = subst (λ m. HoldsGraph n m graph) (walked-actions tower table true) (explored .pairs-held n is .holds)
 
-    pub runs-pairs : n ≤ 1000
-    runs-pairs = explored .pairs-held n is .holds .pairs-most
+    breaks-so : (h : IsHeld nodes) → some-break graph n (tower-of tower .actions) ≡ some-broken rows (h .book)
+    unfolding walked rows-tower
+    breaks-so h = break-found (walked tower table true) (h .book) n graph (explored .pairs-held n is .pairs-graph h)
 
-    pub runs-actions : actions ≡ tower-of tower .actions → actions ≤ 16
-    runs-actions e = omega (arith, walked-actions tower table true, explored .pairs-held n is .holds .actions-most)
+    runs-by : (h : IsHeld nodes) → (over-pairs rows (h .book) ≡ false) × (over-alternatives rows (h .book) ≡ false)
+        → steps-verdict (tower-of tower) graph n ≡ verdict (runs-answer (tower-of tower) (h .book) (table-of table))
+    unfolding steps-verdict runs-answer over-items verdict _if_else_ _found-if_else_
+    runs-by h (few, narrow) =
+        let same = breaks-so h in
+        whether (some-broken rows (h .book)) (λ broke. rw (same, few, narrow, broke)) (λ whole. rw (same, few, narrow, whole))
 
-    few : (h : IsHeld nodes) → over-pairs (rows-tower (tower-of tower) (table-of table)) (h .book) ≡ false
-    few h = found-few (rows-tower (tower-of tower) (table-of table)) (h .book) n (sym is ∙ unfold walked in (explored .says h))
-
-    narrow : (h : IsHeld nodes) → over-alternatives (rows-tower (tower-of tower) (table-of table)) (h .book) ≡ false
-    narrow h = held-narrow (rows-tower (tower-of tower) (table-of table)) nodes h
-
-    module _ (at-actions : actions ≡ tower-of tower .actions) (b : Bool) (is-b : b ≡ some-break graph n actions) where
-      breaks-so : (h : IsHeld nodes) → some-broken (rows-tower (tower-of tower) (table-of table)) (h .book) ≡ b
-      unfolding walked rows-tower
-      breaks-so h =
-          sym (is-b ∙ ap (some-break graph n) at-actions
-          ∙ break-found (walked tower table true) (h .book) n graph (explored .pairs-held n is .pairs-graph h))
-
-      -- 14 e.
-      pub runs-broken : b ≡ true → RunsChecked (Check.NotGood Why.Broken) tower table nodes
-      unfolding runs-answer over-items verdict _if_else_ _found-if_else_
-      runs-broken e = record { says = λ h. let broke = breaks-so h ∙ e in let not-many = few h in let not-wide = narrow h in sym (rw (not-many, not-wide, broke)) }
-
-      -- Good.
-      pub runs-good : b ≡ false → RunsChecked Check.Good tower table nodes
-      unfolding runs-answer over-items verdict _if_else_ _found-if_else_
-      runs-good e = record { says = λ h. let whole = breaks-so h ∙ e in let not-many = few h in let not-wide = narrow h in sym (rw (not-many, not-wide, whole)) }
+    -- 14 e, or good.
+    pub runs-few : (v : Verdict) → v ≡ steps-verdict (tower-of tower) graph n → RunsChecked v tower table nodes
+    runs-few v steps = record { says = λ h. steps ∙ runs-by h (said (Met n) is h) }

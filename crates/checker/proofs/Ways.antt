@@ -1,18 +1,15 @@
 -- A law for each way through the checker's code: from what is known there, the verdict is what the definitions say.
-use Prim.Native.Nat.{ℕ, _≤_, _<_}
+use Prim.Native.Nat.{ℕ}
 use mathlib.Core.Path.{_≡_, refl, sym, _∙_, ap}
-use mathlib.Core.Bool.{Bool, true, false, _&&_, and-true}
+use mathlib.Core.Bool.{Bool, true, false}
 use mathlib.Core.List.{List, [], _∷_}
 use lib.ListN.{length}
-use lib.Dec.{leb}
-use borrow.Author.Tests.{leb-true, le-leb, lt-leb}
 use Rattle.base.specs.Answers.{verdict-said, Answer, refuse, give, _then_}
 use Rattle.base.specs.declared.Reason.{Reason}
 use Rattle.base.specs.declared.Refusal.{Refusal}
 use Rattle.base.specs.declared.Refusal.the-variants.{Area}
 use Rattle.base.specs.declared.Verdict.{Verdict}
 use Rattle.base.specs.declared.Verdict.the-variants as Check
-use Rattle.base.proofs.Lists.{and-left, and-right}
 use Rattle.logic.specs.Tower.{Tower, FitTower, tower-of}
 use Rattle.reading.specs.TableReading.{read-table}
 use Rattle.outcome.specs.Check.{rows-judged, judge, verdict}
@@ -27,7 +24,7 @@ use Rattle.base.specs.declared.BookAnswer.the-variants as Reads
 use Rattle.logic.specs.Book.{Book}
 use Rattle.reading.specs.TowerReading.{read-tower}
 use Rattle.reading.specs.BookReading.{read-book}
-use Rattle.outcome.specs.Areas.{book-area, pairs-area, index-area, graph-area, check-areas}
+use Rattle.outcome.specs.Areas.{check-areas}
 use Rattle.outcome.specs.ReadBook.{book-answer}
 use Rattle.outcome.specs.Check.{checked-file, check-outcome}
 use Rattle.file_tower.specs.TowerRead.{tower-read}
@@ -36,7 +33,8 @@ use Rattle.file_tower.specs.declared.TowerRead.the-variants as Fits
 use Rattle.file_tower.proofs.Laws.{fit-of, fit-gives, refused-of}
 use Rattle.book_reader.specs.Lines.{Answers}
 use Rattle.book_reader.proofs.BookHeld.{BookHeld}
-use Rattle.checker.specs.Checking.{checked-table, checked-book, TableChecked, runs-answer, RunsChecked, Room, AllCleared, Checks}
+use Rattle.search_areas.specs.Lent.{LentCleared}
+use Rattle.checker.specs.Checking.{checked-table, checked-book, TableChecked, runs-answer, RunsChecked, Checks}
 
 -- ---- check_table
 
@@ -67,33 +65,6 @@ module _ (tower table nodes : List ℕ) (t : Tested) (told : TableTested t tower
   pub rows-right : (r : Verdict) → t ≡ Tests.Sound → RunsChecked r tower table nodes → TableChecked r tower table nodes
   rows-right r e runs =
       record { says = λ h. runs .says h ∙ sym (ap verdict (checked-is (tower-of tower) (h .book) table ∙ table-sound tower table t told (runs-answer (tower-of tower) (h .book)) e)) }
-
--- ---- long_enough
-
-module _ (n p i g : List ℕ) where
-  -- what is asked of the four areas
-  abbrev enough : Bool
-  enough = long-enough check-areas (n ∷ p ∷ i ∷ g ∷ [])
-
-  pub short-nodes : length n < book-area → false ≡ enough
-  unfolding long-enough check-areas
-  short-nodes l = rw (lt-leb book-area (length n) l)
-
-  module _ (ln : book-area ≤ length n) where
-    pub short-pairs : length p < pairs-area → false ≡ enough
-    unfolding long-enough check-areas
-    short-pairs l = rw (le-leb book-area (length n) ln, lt-leb pairs-area (length p) l)
-
-    module _ (lp : pairs-area ≤ length p) where
-      pub short-index : length i < index-area → false ≡ enough
-      unfolding long-enough check-areas
-      short-index l = rw (le-leb book-area (length n) ln, le-leb pairs-area (length p) lp, lt-leb index-area (length i) l)
-
-      pub graph-decides : index-area ≤ length i → leb graph-area (length g) ≡ enough
-      unfolding long-enough check-areas
-      graph-decides l =
-          rw (le-leb book-area (length n) ln, le-leb pairs-area (length p) lp, le-leb index-area (length i) l)
-          (sym (and-true (leb graph-area (length g))))
 
 -- ---- check_book
 
@@ -144,44 +115,28 @@ module _ (tower text table : List ℕ) (t : TowerRead) (is-t : t ≡ tower-read 
 
 -- ---- check
 
--- The areas are long enough.
-pub room : (nodes pairs index graph : List ℕ) (b : Bool) → b ≡ long-enough check-areas (nodes ∷ pairs ∷ index ∷ graph ∷ []) → b ≡ true
-    → Room nodes pairs index graph
-unfolding long-enough check-areas
-room nodes pairs index graph b is-b e =
-    let all = sym is-b ∙ e in
-    let g = leb graph-area (length graph) && true in
-    let i = leb index-area (length index) && g in
-    let p = leb pairs-area (length pairs) && i in
-    let from-p = and-right (leb book-area (length nodes)) p all in
-    let from-i = and-right (leb pairs-area (length pairs)) i from-p in
-    let from-g = and-right (leb index-area (length index)) g from-i in
-    record {
-      nodes-room = leb-true book-area (length nodes) (and-left (leb book-area (length nodes)) p all);
-      pairs-room = leb-true pairs-area (length pairs) (and-left (leb pairs-area (length pairs)) i from-p);
-      index-room = leb-true index-area (length index) (and-left (leb index-area (length index)) g from-i);
-      graph-room = leb-true graph-area (length graph) (and-left (leb graph-area (length graph)) true from-g);
-    }
-
-module _ (tower text table nodes pairs index graph : List ℕ) (b : Bool)
-    (is-b : b ≡ long-enough check-areas (nodes ∷ pairs ∷ index ∷ graph ∷ [])) where
+module _ (tower text table nodes pairs index graph sets room : List ℕ) (b : Bool)
+    (is-b : b ≡ long-enough check-areas (nodes ∷ pairs ∷ index ∷ graph ∷ sets ∷ room ∷ [])) where
   -- 15 changes nothing.
-  pub too-short : b ≡ false → Checks (Check.Refused Area) tower text table nodes pairs index graph nodes pairs index graph
+  pub too-short : b ≡ false
+      → Checks (Check.Refused Area) tower text table nodes pairs index graph sets room nodes pairs index graph sets room
   unfolding check-outcome verdict
   too-short e =
       let short = sym is-b ∙ e in
       record { answer = rw short; said = rw short; areas = rw short }
 
   -- Every other answer leaves zeros.
-  pub checked-all : (r : Verdict) (n p k g n₁ p₁ k₁ g₁ : List ℕ) → b ≡ true → r ≡ verdict (checked-file tower text table)
-      → AllCleared n₁ p₁ k₁ g₁ n p k g
+  pub checked-all : (r : Verdict) (n p k g s m n₁ p₁ k₁ g₁ s₁ m₁ : List ℕ) → b ≡ true → r ≡ verdict (checked-file tower text table)
+      → LentCleared n₁ p₁ k₁ g₁ s₁ m₁ n p k g s m
       → length n₁ ≡ length nodes → length p₁ ≡ length pairs → length k₁ ≡ length index → length g₁ ≡ length graph
-      → Checks r tower text table nodes pairs index graph n p k g
+      → length s₁ ≡ length sets → length m₁ ≡ length room
+      → Checks r tower text table nodes pairs index graph sets room n p k g s m
   unfolding check-outcome cleared
-  checked-all r n p k g n₁ p₁ k₁ g₁ e f zero nl pl kl gl =
+  checked-all r n p k g s m n₁ p₁ k₁ g₁ s₁ m₁ e f zero nl pl kl gl sl ml =
       let enough = sym is-b ∙ e in
       record {
         answer = rw enough f;
         said = rw enough (ap verdict-said f);
-        areas = rw (enough, zero .nodes-zero, zero .pairs-zero, zero .index-zero, zero .graph-zero, nl, pl, kl, gl);
+        areas =
+            rw (enough, zero .nodes-zero, zero .pairs-zero, zero .index-zero, zero .graph-zero, zero .sets-zero, zero .room-zero, nl, pl, kl, gl, sl, ml);
       }

@@ -1,21 +1,21 @@
 -- What the functions of the checker promise, from the table on back to the whole outcome.
-use Prim.Native.Nat.{ℕ, _≤_}
+use Prim.Native.Nat.{ℕ}
 use mathlib.Core.Path.{_≡_}
 use mathlib.Core.Bool.{Bool, true, false}
 use mathlib.Core.List.{List, [], _∷_}
-use lib.ListN.{length, replicate}
+use Rattle.base.specs.Choice.{pick}
 use Rattle.base.specs.Lists.{some-of, below}
 use Rattle.base.specs.Answers.{verdict-said, Answer, give, _if_else_, _then_}
 use Rattle.base.specs.declared.Reason.the-variants.{Broken}
 use Rattle.base.specs.declared.Refusal.the-variants.{Pairs, Alternatives}
 use Rattle.base.specs.declared.Verdict.{Verdict}
+use Rattle.base.specs.declared.Verdict.the-variants as Check
 use Rattle.logic.specs.Tower.{Tower, tower-of}
 use Rattle.logic.specs.Book.{Book}
 use Rattle.logic.specs.Tables.{Table, rows-tower}
 use Rattle.reading.specs.BookReading.{read-book}
 use Rattle.reading.specs.TableReading.{read-table, table-of}
 use Rattle.alternatives.specs.Pairs.{over-alternatives}
-use Rattle.outcome.specs.Areas.{book-area, pairs-area, index-area, graph-area}
 use Rattle.outcome.specs.Check.{Finding, good-table, _found-if_else_, over-items, some-broken, judge, verdict, check-outcome}
 use Rattle.book_progression.specs.NodeBytes.{IsHeld}
 use Rattle.pair_graph.specs.Graph.{Move, not-enabled, broken, to}
@@ -65,25 +65,15 @@ breaks-at graph actions i = some-of (broken-at graph i) (below actions)
 unfoldable pub some-break : List ℕ → ℕ → ℕ → Bool
 some-break graph n actions = some-of (breaks-at graph actions) (below n)
 
--- ---- the areas
+-- the answer for n pairs whose graph is there: e, or good
+unfoldable pub steps-verdict : Tower → List ℕ → ℕ → Verdict
+steps-verdict tower graph n = pick (some-break graph n (tower .actions)) (λ _. Check.NotGood Broken) (λ _. Check.Good)
 
--- The areas are long enough.
-pub record Room (nodes pairs index graph : List ℕ) : Type 0 where
-  pub nodes-room : book-area ≤ length nodes
-  pub pairs-room : pairs-area ≤ length pairs
-  pub index-room : index-area ≤ length index
-  pub graph-room : graph-area ≤ length graph
+-- ---- the whole outcome
 
--- The areas hold zeros.
-pub record AllCleared (nodes pairs index graph nodes-after pairs-after index-after graph-after : List ℕ) : Type 0 where
-  pub nodes-zero : nodes-after ≡ replicate (length nodes) 0
-  pub pairs-zero : pairs-after ≡ replicate (length pairs) 0
-  pub index-zero : index-after ≡ replicate (length index) 0
-  pub graph-zero : graph-after ≡ replicate (length graph) 0
-
--- The whole outcome: the answer, and what the four areas hold at the end.
-pub record Checks (r : Verdict) (tower text table nodes pairs index graph nodes-after pairs-after index-after graph-after : List ℕ) : Type 0 where
-  pub answer : r ≡ check-outcome tower text table (nodes ∷ pairs ∷ index ∷ graph ∷ []) .answer
-  pub said : verdict-said r ≡ verdict-said (check-outcome tower text table (nodes ∷ pairs ∷ index ∷ graph ∷ []) .answer)
-  pub areas : nodes-after ∷ pairs-after ∷ index-after ∷ graph-after ∷ []
-      ≡ check-outcome tower text table (nodes ∷ pairs ∷ index ∷ graph ∷ []) .areas
+-- The whole outcome: the answer, and what the six areas hold at the end.
+pub record Checks (r : Verdict) (tower text table nodes pairs index graph sets room nodes-after pairs-after index-after graph-after sets-after room-after : List ℕ) : Type 0 where
+  pub answer : r ≡ check-outcome tower text table (nodes ∷ pairs ∷ index ∷ graph ∷ sets ∷ room ∷ []) .answer
+  pub said : verdict-said r ≡ verdict-said (check-outcome tower text table (nodes ∷ pairs ∷ index ∷ graph ∷ sets ∷ room ∷ []) .answer)
+  pub areas : nodes-after ∷ pairs-after ∷ index-after ∷ graph-after ∷ sets-after ∷ room-after ∷ []
+      ≡ check-outcome tower text table (nodes ∷ pairs ∷ index ∷ graph ∷ sets ∷ room ∷ []) .areas

@@ -4,3 +4,4 @@ pub mod Layouts
 pub mod TableFile
 pub mod TowerFile
 pub mod ActionKinds
+pub mod TimedParts

@@ -60,12 +60,12 @@ timed (next c t g) = true
 timed (always-for t g) = true
 timed (until t f g) = true
 
--- At most one side of `|` is timed, and the second part of U is not.
+-- The second part of U is not timed (02, item 3).
 unfoldable pub timed-right : Formula → Bool
 timed-right (constant b) = true
 timed-right (proposition w k) = true
 timed-right (and f g) = timed-right f && timed-right g
-timed-right (or f g) = not (timed f && timed g) && (timed-right f && timed-right g)
+timed-right (or f g) = timed-right f && timed-right g
 timed-right (next c t g) = timed-right g
 timed-right (always-for t g) = timed-right g
 timed-right (until t f g) = not (timed g) && (timed-right f && timed-right g)

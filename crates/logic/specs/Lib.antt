@@ -1,6 +1,7 @@
 pub mod Time
 pub mod Tower
 pub mod Book
+pub mod Sides
 pub mod Runs
 pub mod Tables
 pub mod TableFile

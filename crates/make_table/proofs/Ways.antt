@@ -12,7 +12,7 @@ use Rattle.base.specs.Answers.{Answer, refuse, give, _if_else_, _then_}
 use Rattle.base.specs.declared.MakeAnswer.{MakeAnswer}
 use Rattle.base.specs.declared.MakeAnswer.the-variants.{Made}
 use Rattle.reading.specs.TableReading.{laid-out}
-use Rattle.outcome.specs.Areas.{make-areas, book-area, pairs-area, index-area, graph-area, flags-area, classes-area}
+use Rattle.outcome.specs.Areas.{make-areas, book-area, pairs-area, index-area, graph-area, sets-area, room-area, flags-area, classes-area}
 use Rattle.outcome.specs.Make.{made-file, fitting, written, make-outcome}
 use Rattle.maker.specs.Making.{Makes}
 use Rattle.make_table.specs.Files.{made-answer, MadeFile}
@@ -30,17 +30,20 @@ room tower text most e = go (made-file tower text) refl
     go (give file) f = rw (le-ltb most (length file) (omega (arith, made-known tower text file f .short)))
 
 -- The areas are long enough.
-enough : (a b c d e f : List ℕ) → length a ≡ book-area → length b ≡ pairs-area → length c ≡ index-area → length d ≡ graph-area → length e ≡ flags-area → length f ≡ classes-area
-    → long-enough make-areas (a ∷ b ∷ c ∷ d ∷ e ∷ f ∷ []) ≡ true
+enough : (a b c d e f g h : List ℕ) → length a ≡ book-area → length b ≡ pairs-area → length c ≡ index-area → length d ≡ graph-area
+    → length e ≡ sets-area → length f ≡ room-area → length g ≡ flags-area → length h ≡ classes-area
+    → long-enough make-areas (a ∷ b ∷ c ∷ d ∷ e ∷ f ∷ g ∷ h ∷ []) ≡ true
 unfolding long-enough make-areas
-enough a b c d e f p q r s t u =
+enough a b c d e f g h p q r s t u v w =
     rw (
       le-leb book-area (length a) (omega arith),
       le-leb pairs-area (length b) (omega arith),
       le-leb index-area (length c) (omega arith),
       le-leb graph-area (length d) (omega arith),
-      le-leb flags-area (length e) (omega arith),
-      le-leb classes-area (length f) (omega arith),
+      le-leb sets-area (length e) (omega arith),
+      le-leb room-area (length f) (omega arith),
+      le-leb flags-area (length g) (omega arith),
+      le-leb classes-area (length h) (omega arith),
     )
 
 -- What is answered for a file.
@@ -62,18 +65,19 @@ outcome-is : (tower text out : List ℕ) (areas : List (List ℕ)) → long-enou
 unfolding make-outcome
 outcome-is tower text out areas e f = rw (e, room tower text (length out) f)
 
-pub made-way : (r : MakeAnswer) (tower text out a b c d e f after a′ b′ c′ d′ e′ f′ : List ℕ)
-    → Makes r tower text out a b c d e f after a′ b′ c′ d′ e′ f′ → length out ≡ 52012
-    → length a ≡ book-area → length b ≡ pairs-area → length c ≡ index-area → length d ≡ graph-area → length e ≡ flags-area → length f ≡ classes-area
+pub made-way : (r : MakeAnswer) (tower text out a b c d e f g h after a′ b′ c′ d′ e′ f′ g′ h′ : List ℕ)
+    → Makes r tower text out a b c d e f g h after a′ b′ c′ d′ e′ f′ g′ h′ → length out ≡ 52012
+    → length a ≡ book-area → length b ≡ pairs-area → length c ≡ index-area → length d ≡ graph-area
+    → length e ≡ sets-area → length f ≡ room-area → length g ≡ flags-area → length h ≡ classes-area
     → MadeFile r tower text after
-made-way r tower text out a b c d e f after a′ b′ c′ d′ e′ f′ makes size p q s t u v =
-    let areas = a ∷ b ∷ c ∷ d ∷ e ∷ f ∷ [] in
-    let is = outcome-is tower text out areas (enough a b c d e f p q s t u v) size in
+made-way r tower text out a b c d e f g h after a′ b′ c′ d′ e′ f′ g′ h′ makes size p q s t u v w x =
+    let areas = a ∷ b ∷ c ∷ d ∷ e ∷ f ∷ g ∷ h ∷ [] in
+    let is = outcome-is tower text out areas (enough a b c d e f g h p q s t u v w x) size in
     record {
       answered = makes .answer ∙ ap (λ o. o .answer) is ∙ answer-is (made-file tower text) out (cleared areas);
-      begins = λ file g.
+      begins = λ file given.
           ap (take (length file)) (makes .output ∙ ap (λ o. o .output) is)
-          ∙ output-begins (made-file tower text) file out (cleared areas) g (omega (arith, made-known tower text file g .short));
+          ∙ output-begins (made-file tower text) file out (cleared areas) given (omega (arith, made-known tower text file given .short));
     }
 
 -- ---- make_from

@@ -62,9 +62,11 @@ fn make(tower: &[u8], text: &[u8], out: &mut [u8; LONGEST_TABLE]) -> MakeAnswer
     ensures { λ r. ⌜ MadeFile r (now (tower .entry)) (now (text .entry)) (now (out .exit)) ⌝ }
 {
     let mut nodes = [0u8; 512];
-    let mut pairs = [0u8; 62062];
+    let mut pairs = [0u8; 64968];
     let mut index = [0u8; 8192];
     let mut graph = [0u8; 34000];
+    let mut sets = [0u8; 59520];
+    let mut room = [0u8; 30752];
     let mut flags = [0u8; 37000];
     let mut classes = [0u8; 8192];
     maker::make(
@@ -75,6 +77,8 @@ fn make(tower: &[u8], text: &[u8], out: &mut [u8; LONGEST_TABLE]) -> MakeAnswer
         &mut pairs,
         &mut index,
         &mut graph,
+        &mut sets,
+        &mut room,
         &mut flags,
         &mut classes,
     )

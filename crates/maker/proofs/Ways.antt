@@ -2,7 +2,7 @@
 use Prim.Native.Nat.{ℕ, _≤_, _<_}
 use native.Mathlib.Omega.{arith}
 use mathlib.Core.Path.{_≡_, refl, sym, _∙_, ap, subst}
-use mathlib.Core.Bool.{Bool, true, false, _&&_, and-true}
+use mathlib.Core.Bool.{Bool, true, false, _&&_, and-true, and-false}
 use mathlib.Core.List.{List, [], _∷_}
 use lib.ListN.{length}
 use lib.Seq.{sets}
@@ -12,21 +12,21 @@ use Rattle.base.specs.Choice.{pick}
 use Rattle.base.specs.Bytes.{long-enough, cleared}
 use Rattle.base.specs.Answers.{make-said, Answer, refuse, give, _if_else_, _then_}
 use Rattle.base.specs.declared.Refusal.{Refusal}
-use Rattle.base.specs.declared.Refusal.the-variants.{Pairs, NoTable, Area, Output}
+use Rattle.base.specs.declared.Refusal.the-variants.{Pairs, NoTable, Area, Output, Alternatives}
 use Rattle.base.specs.declared.BookAnswer.{BookAnswer}
 use Rattle.base.specs.declared.BookAnswer.the-variants as Reads
 use Rattle.base.specs.declared.MakeAnswer.{MakeAnswer}
 use Rattle.base.specs.declared.MakeAnswer.the-variants as Make
 use Rattle.base.proofs.Lists.{and-left, and-right}
-use Rattle.logic.specs.Tower.{Tower, FitTower, tower-of, layout-of}
+use Rattle.logic.specs.Tower.{FitTower, tower-of, layout-of}
 use Rattle.logic.specs.declared.FileLayout.{FileLayout}
 use Rattle.logic.specs.Book.{Book}
 use Rattle.logic.specs.TableFile.{table-file}
 use Rattle.logic.proofs.Layouts.{file-layout-fits}
 use Rattle.reading.specs.TowerReading.{read-tower}
 use Rattle.reading.specs.BookReading.{read-book}
-use Rattle.alternatives.specs.Pairs.{pairs, over-pairs}
-use Rattle.outcome.specs.Areas.{make-areas, book-area, pairs-area, index-area, graph-area, flags-area, classes-area}
+use Rattle.alternatives.specs.Pairs.{over-pairs, over-alternatives}
+use Rattle.outcome.specs.Areas.{check-areas, make-areas, flags-area, classes-area}
 use Rattle.outcome.specs.ReadBook.{book-answer}
 use Rattle.outcome.specs.Make.{table-for, made-file, fitting, written, make-outcome}
 use Rattle.file_tower.specs.TowerRead.{tower-read}
@@ -38,13 +38,14 @@ use Rattle.book_reader.proofs.BookHeld.{BookHeld}
 use Rattle.pair_graph.specs.Graph.{Classes}
 use Rattle.pair_graph.specs.Steps.{graph-of, graph-with, safe-in, class-in, HoldsGraph, FlaggedGraph}
 use Rattle.pair_graph.specs.GraphTable.{graph-table}
-use Rattle.pair_entries.specs.PendingEntries.{TowerWithBook}
 use Rattle.book_progression.specs.NodeBytes.{IsHeld}
-use Rattle.pair_search.specs.Explored.{found, HoldsPairs, Explored}
-use Rattle.pair_search.specs.Walked.{walked}
+use Rattle.pair_search.specs.Explored.{HoldsPairs, Explored}
+use Rattle.pair_trial.specs.Walked.{walked, TowerWithBook}
 use Rattle.pair_search.specs.declared.Found.{Found}
-use Rattle.pair_search.specs.declared.Found.the-variants.{TooMany, Met}
-use Rattle.pair_search.proofs.Bridge.{held-narrow}
+use Rattle.pair_search.specs.declared.Found.the-variants.{TooMany, TooWide, Met}
+use Rattle.pair_search.proofs.Ended.{FoundSays, ended-says}
+use Rattle.search_areas.proofs.Laws as Lent
+use Rattle.search_areas.proofs.Laws.{eight-areas}
 use Rattle.maker_removal.specs.Removal.{removal-size, Removed}
 use Rattle.maker_classes.specs.Passes.{ReadyForPass, Classified}
 use Rattle.maker_file.specs.Writing.{ShortNumbers, table-in, Writable, WritesTable}
@@ -76,24 +77,16 @@ ends-along : (file other : Answer (List ℕ)) (out : List ℕ) (r : MakeAnswer) 
     → Ends other out r after
 ends-along file other out r after e ends = subst (λ f. Ends f out r after) (sym e) ends
 
--- ---- how the exploration ends
+-- ---- how the search ends
 
-refused-many : (tower : List ℕ) (book : Book) → TooMany ≡ found (tower-of tower) book → made-table-file tower book ≡ refuse Pairs
-unfolding found made-table-file table-for _if_else_ _then_
-refused-many tower book e = go (over-pairs (tower-of tower) book) refl e
-  where
-    go : (b : Bool) → over-pairs (tower-of tower) book ≡ b → TooMany ≡ pick b (λ _. TooMany) (λ _. Met (length (pairs (tower-of tower) book)))
-        → made-table-file tower book ≡ refuse Pairs
-    go true p f = rw p
-    go false p f = absurd (let z : _≡_ {A = ℕ} 0 1 = cc in omega arith)
+refused-many : (tower : List ℕ) (book : Book) → over-pairs (tower-of tower) book ≡ true → made-table-file tower book ≡ refuse Pairs
+unfolding made-table-file table-for _if_else_ _then_
+refused-many tower book many = rw many
 
-not-many : (tower : Tower) (book : Book) (n : ℕ) → Met n ≡ found tower book → over-pairs tower book ≡ false
-unfolding found
-not-many tower book n e = go (over-pairs tower book) e
-  where
-    go : (b : Bool) → Met n ≡ pick b (λ _. TooMany) (λ _. Met (length (pairs tower book))) → b ≡ false
-    go true f = absurd (let z : _≡_ {A = ℕ} 0 1 = cc in omega arith)
-    go false f = refl
+refused-wide : (tower : List ℕ) (book : Book) → (over-pairs (tower-of tower) book ≡ false) × (over-alternatives (tower-of tower) book ≡ true)
+    → made-table-file tower book ≡ refuse Alternatives
+unfolding made-table-file table-for _if_else_ _then_
+refused-wide tower book (few, wide) = rw (few, wide)
 
 -- ---- write_safe
 
@@ -208,16 +201,22 @@ module _ (tower graph before flags classes : List ℕ) (n : ℕ) (b : Bool) (met
 
 module _ (tower table nodes graph : List ℕ) (r : Found)
     (explored : Explored r (walked tower table false) nodes graph) where
-  says : (h : IsHeld nodes) → r ≡ found (tower-of tower) (h .book)
+  said-of : (s : Found) → r ≡ s → (h : IsHeld nodes) → FoundSays (tower-of tower) (h .book) s
   unfolding walked
-  says h = explored .says h
+  said-of s e h = ended-says (walked tower table false) nodes graph r s explored e h
 
   -- 11.
   pub too-many : (out : List ℕ) → r ≡ TooMany → TableMade (Make.Refused Pairs) tower nodes out out
   too-many out e =
       record {
-        says =
-            λ h. refused-ends (made-table-file tower (h .book)) Pairs out (refused-many tower (h .book) (sym e ∙ says h));
+        says = λ h. refused-ends (made-table-file tower (h .book)) Pairs out (refused-many tower (h .book) (said-of TooMany e h));
+      }
+
+  -- 20.
+  pub too-wide : (out : List ℕ) → r ≡ TooWide → TableMade (Make.Refused Alternatives) tower nodes out out
+  too-wide out e =
+      record {
+        says = λ h. refused-ends (made-table-file tower (h .book)) Alternatives out (refused-wide tower (h .book) (said-of TooWide e h));
       }
 
   module _ (n : ℕ) (is : r ≡ Met n) where
@@ -226,9 +225,9 @@ module _ (tower table nodes graph : List ℕ) (r : Found)
     pairs-held = explored .pairs-held n is
 
     -- The area holds the pairs.
-    pub pairs-met : (nodes₁ pairs₁ index₁ graph₁ flags classes : List ℕ) → TowerWithBook tower nodes
-        → Room nodes₁ pairs₁ index₁ graph₁ flags classes → PairsMet tower graph flags classes n
-    pairs-met nodes₁ pairs₁ index₁ graph₁ flags classes world room =
+    pub pairs-met : (nodes₁ pairs₁ index₁ graph₁ sets₁ room₁ flags classes : List ℕ) → TowerWithBook tower nodes
+        → Room nodes₁ pairs₁ index₁ graph₁ sets₁ room₁ flags classes → PairsMet tower graph flags classes n
+    pairs-met nodes₁ pairs₁ index₁ graph₁ sets₁ room₁ flags classes world room =
         record {
           fit = world .fit;
           least = pairs-held .least;
@@ -240,12 +239,11 @@ module _ (tower table nodes graph : List ℕ) (r : Found)
     -- The rows decide.
     pub few-enough : (out after : List ℕ) (a : MakeAnswer) → RowsMade a tower graph n out after
         → TableMade a tower nodes out after
-    few-enough out after a rows =
-        record {
-          says = λ h.
-              rows .says (h .book) (not-many (tower-of tower) (h .book) n (sym is ∙ says h)) (held-narrow (tower-of tower) nodes h)
-              (pairs-held .pairs-graph h);
-        }
+    few-enough out after a rows = record { says = λ h. by h (said-of (Met n) is h) }
+      where
+        by : (h : IsHeld nodes) → (over-pairs (tower-of tower) (h .book) ≡ false) × (over-alternatives (tower-of tower) (h .book) ≡ false)
+            → Ends (made-table-file tower (h .book)) out a after
+        by h (few, narrow) = rows .says (h .book) few narrow (pairs-held .pairs-graph h)
 
 -- ---- make_book
 
@@ -300,56 +298,27 @@ module _ (tower text out : List ℕ) (t : TowerRead) (is-t : t ≡ tower-read (r
 
 -- ---- long_enough
 
-module _ (n p i g f c : List ℕ) where
-  -- what is asked of the six areas
+module _ (n p i g s m f c : List ℕ) where
+  -- what is asked of the eight areas
   abbrev enough : Bool
-  enough = long-enough make-areas (n ∷ p ∷ i ∷ g ∷ f ∷ c ∷ [])
+  enough = long-enough make-areas (n ∷ p ∷ i ∷ g ∷ s ∷ m ∷ f ∷ c ∷ [])
 
-  pub short-nodes : length n < book-area → false ≡ enough
-  unfolding long-enough make-areas
-  short-nodes l = rw (lt-leb book-area (length n) l)
+  pub short-flags : length f < flags-area → false ≡ enough
+  short-flags l = sym (rw (eight-areas n p i g s m f c, lt-leb flags-area (length f) l, and-false))
 
-  module _ (ln : book-area ≤ length n) where
-    pub short-pairs : length p < pairs-area → false ≡ enough
-    unfolding long-enough make-areas
-    short-pairs l = rw (le-leb book-area (length n) ln, lt-leb pairs-area (length p) l)
+  module _ (b : Bool) (is-b : b ≡ long-enough check-areas (n ∷ p ∷ i ∷ g ∷ s ∷ m ∷ [])) where
+    pub short-lent : b ≡ false → false ≡ enough
+    short-lent e = sym (rw (eight-areas n p i g s m f c, ← is-b, e))
 
-    module _ (lp : pairs-area ≤ length p) where
-      pub short-index : length i < index-area → false ≡ enough
-      unfolding long-enough make-areas
-      short-index l = rw (le-leb book-area (length n) ln, le-leb pairs-area (length p) lp, lt-leb index-area (length i) l)
-
-      module _ (li : index-area ≤ length i) where
-        pub short-graph : length g < graph-area → false ≡ enough
-        unfolding long-enough make-areas
-        short-graph l =
-            rw (le-leb book-area (length n) ln, le-leb pairs-area (length p) lp, le-leb index-area (length i) li, lt-leb graph-area (length g) l)
-
-        module _ (lg : graph-area ≤ length g) where
-          pub short-flags : length f < flags-area → false ≡ enough
-          unfolding long-enough make-areas
-          short-flags l =
-              rw (
-                le-leb book-area (length n) ln,
-                le-leb pairs-area (length p) lp,
-                le-leb index-area (length i) li,
-                le-leb graph-area (length g) lg,
-                lt-leb flags-area (length f) l,
-              )
-
-          pub classes-decide : flags-area ≤ length f → leb classes-area (length c) ≡ enough
-          unfolding long-enough make-areas
-          classes-decide l =
-              rw (
-                le-leb book-area (length n) ln,
-                le-leb pairs-area (length p) lp,
-                le-leb index-area (length i) li,
-                le-leb graph-area (length g) lg,
-                le-leb flags-area (length f) l,
-              )
-              (sym (and-true (leb classes-area (length c))))
+    pub classes-decide : b ≡ true → flags-area ≤ length f → leb classes-area (length c) ≡ enough
+    classes-decide e l =
+        sym (rw (eight-areas n p i g s m f c, ← is-b, e, le-leb flags-area (length f) l) (and-true (leb classes-area (length c))))
 
 -- ---- make
+
+-- Two calls, one after the other, leave an area as long as it was.
+pub kept-on : (first next last : List ℕ) → length last ≡ length next → length next ≡ length first → length last ≡ length first
+kept-on first next last e f = e ∙ f
 
 -- the areas do not change what is answered and written
 written-answer : (o : Answer (List ℕ)) (out : List ℕ) (areas : List (List ℕ)) → written o out [] .answer ≡ written o out areas .answer
@@ -367,54 +336,46 @@ unfolding written
 written-areas (refuse r) out areas = refl
 written-areas (give file) out areas = refl
 
-module _ (nodes pairs index graph flags classes : List ℕ) (b : Bool)
-    (is-b : b ≡ long-enough make-areas (nodes ∷ pairs ∷ index ∷ graph ∷ flags ∷ classes ∷ [])) where
+module _ (nodes pairs index graph sets room flags classes : List ℕ) (b : Bool)
+    (is-b : b ≡ long-enough make-areas (nodes ∷ pairs ∷ index ∷ graph ∷ sets ∷ room ∷ flags ∷ classes ∷ [])) where
   -- The areas are long enough.
-  pub room : b ≡ true → Room nodes pairs index graph flags classes
-  unfolding long-enough make-areas
-  room e =
-      let all = sym is-b ∙ e in
+  pub room-there : b ≡ true → Room nodes pairs index graph sets room flags classes
+  room-there e =
       let c = leb classes-area (length classes) && true in
       let f = leb flags-area (length flags) && c in
-      let g = leb graph-area (length graph) && f in
-      let i = leb index-area (length index) && g in
-      let p = leb pairs-area (length pairs) && i in
-      let from-p = and-right (leb book-area (length nodes)) p all in
-      let from-i = and-right (leb pairs-area (length pairs)) i from-p in
-      let from-g = and-right (leb index-area (length index)) g from-i in
-      let from-f = and-right (leb graph-area (length graph)) f from-g in
+      let six = long-enough check-areas (nodes ∷ pairs ∷ index ∷ graph ∷ sets ∷ room ∷ []) in
+      let all = sym (eight-areas nodes pairs index graph sets room flags classes) ∙ sym is-b ∙ e in
+      let from-f = and-right six f all in
       let from-c = and-right (leb flags-area (length flags)) c from-f in
       record {
-        nodes-room = leb-true book-area (length nodes) (and-left (leb book-area (length nodes)) p all);
-        pairs-room = leb-true pairs-area (length pairs) (and-left (leb pairs-area (length pairs)) i from-p);
-        index-room = leb-true index-area (length index) (and-left (leb index-area (length index)) g from-i);
-        graph-room = leb-true graph-area (length graph) (and-left (leb graph-area (length graph)) f from-g);
+        lent = Lent.room-there nodes pairs index graph sets room six refl (and-left six f all);
         flags-room = leb-true flags-area (length flags) (and-left (leb flags-area (length flags)) c from-f);
         classes-room = leb-true classes-area (length classes) (and-left (leb classes-area (length classes)) true from-c);
       }
 
   abbrev areas : List (List ℕ)
-  areas = nodes ∷ pairs ∷ index ∷ graph ∷ flags ∷ classes ∷ []
+  areas = nodes ∷ pairs ∷ index ∷ graph ∷ sets ∷ room ∷ flags ∷ classes ∷ []
 
   long : long-enough make-areas areas ≡ b
   long = sym is-b
 
   module _ (tower text out : List ℕ) where
     -- 15 changes nothing.
-    pub too-short : b ≡ false → Makes (Make.Refused Area) tower text out nodes pairs index graph flags classes out nodes pairs index graph flags classes
+    pub too-short : b ≡ false
+        → Makes (Make.Refused Area) tower text out nodes pairs index graph sets room flags classes out nodes pairs index graph sets room flags classes
     unfolding make-outcome written
     too-short e =
         let short = long ∙ e in
         record { answer = rw short; said = rw short; output = rw short; areas = rw short }
 
     -- Every other answer leaves zeros.
-    pub made-all : (r : MakeAnswer) (after n p i s f c n₁ p₁ i₁ s₁ f₁ c₁ : List ℕ) → b ≡ true → Ends (made-file tower text) out r after
-        → AllCleared n₁ p₁ i₁ s₁ f₁ c₁ n p i s f c
-        → length n₁ ≡ length nodes → length p₁ ≡ length pairs → length i₁ ≡ length index → length s₁ ≡ length graph
-        → length f₁ ≡ length flags → length c₁ ≡ length classes
-        → Makes r tower text out nodes pairs index graph flags classes after n p i s f c
+    pub made-all : (r : MakeAnswer) (after n p i g s m f c n₁ p₁ i₁ g₁ s₁ m₁ f₁ c₁ : List ℕ) → b ≡ true → Ends (made-file tower text) out r after
+        → AllCleared n₁ p₁ i₁ g₁ s₁ m₁ f₁ c₁ n p i g s m f c
+        → length n₁ ≡ length nodes → length p₁ ≡ length pairs → length i₁ ≡ length index → length g₁ ≡ length graph
+        → length s₁ ≡ length sets → length m₁ ≡ length room → length f₁ ≡ length flags → length c₁ ≡ length classes
+        → Makes r tower text out nodes pairs index graph sets room flags classes after n p i g s m f c
     unfolding make-outcome ending cleared
-    made-all r after n p i s f c n₁ p₁ i₁ s₁ f₁ c₁ e ends zero en ep ei es ef ec =
+    made-all r after n p i g s m f c n₁ p₁ i₁ g₁ s₁ m₁ f₁ c₁ e ends zero en ep ei eg es em ef ec =
         let enough = long ∙ e in
         let o = made-file tower text then λ file. fitting (length out) file in
         record {
@@ -423,6 +384,23 @@ module _ (nodes pairs index graph flags classes : List ℕ) (b : Bool)
           output = rw enough (ends .output ∙ written-output o out (cleared areas));
           areas =
               rw enough
-              (rw (zero .nodes-zero, zero .pairs-zero, zero .index-zero, zero .graph-zero, zero .flags-zero, zero .classes-zero, en, ep, ei, es, ef, ec)
+              (rw (
+                zero .lent .nodes-zero,
+                zero .lent .pairs-zero,
+                zero .lent .index-zero,
+                zero .lent .graph-zero,
+                zero .lent .sets-zero,
+                zero .lent .room-zero,
+                zero .flags-zero,
+                zero .classes-zero,
+                en,
+                ep,
+                ei,
+                eg,
+                es,
+                em,
+                ef,
+                ec,
+              )
               (written-areas o out (cleared areas)));
         }

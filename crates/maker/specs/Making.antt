@@ -11,13 +11,15 @@ use Rattle.logic.specs.Book.{Book}
 use Rattle.logic.specs.TableFile.{table-file}
 use Rattle.reading.specs.BookReading.{read-book}
 use Rattle.alternatives.specs.Pairs.{over-pairs, over-alternatives}
-use Rattle.outcome.specs.Areas.{book-area, pairs-area, index-area, graph-area, flags-area, classes-area}
+use Rattle.outcome.specs.Areas.{flags-area, classes-area}
 use Rattle.outcome.specs.Make.{table-for, fitting, written, MakeOutcome, make-outcome}
 use Rattle.book_progression.specs.NodeBytes.{IsHeld}
 use Rattle.pair_graph.specs.Graph.{Graph, Classes}
 use Rattle.pair_graph.specs.Steps.{graph-of, HoldsGraph, safe-in}
 use Rattle.pair_graph.specs.GraphTable.{graph-table}
 use Rattle.pair_graph.specs.GraphOf.{GraphOf}
+use Rattle.search_areas.specs.Lent as Lent
+use Rattle.search_areas.specs.Lent.{LentCleared}
 
 -- ---- the file
 
@@ -66,34 +68,28 @@ pub record RowsMade (r : MakeAnswer) (tower graph : List ℕ) (n : ℕ) (out aft
 
 -- ---- the book
 
--- The same for the book that the area holds, or its pairs are too many.
+-- The same for the book that the area holds, or its pairs are too many, or one is over-full.
 pub record TableMade (r : MakeAnswer) (tower nodes out after : List ℕ) : Type 0 where
   pub says : (h : IsHeld nodes) → Ends (made-table-file tower (h .book)) out r after
 
 -- ---- the areas
 
 -- The areas are long enough.
-pub record Room (nodes pairs index graph flags classes : List ℕ) : Type 0 where
-  pub nodes-room : book-area ≤ length nodes
-  pub pairs-room : pairs-area ≤ length pairs
-  pub index-room : index-area ≤ length index
-  pub graph-room : graph-area ≤ length graph
+pub record Room (nodes pairs index graph sets room flags classes : List ℕ) : Type 0 where
+  pub lent : Lent.Room nodes pairs index graph sets room
   pub flags-room : flags-area ≤ length flags
   pub classes-room : classes-area ≤ length classes
 
 -- Every area is zero over its whole length.
-pub record AllCleared (nodes pairs index graph flags classes nodes-after pairs-after index-after graph-after flags-after classes-after : List ℕ) : Type 0 where
-  pub nodes-zero : nodes-after ≡ replicate (length nodes) 0
-  pub pairs-zero : pairs-after ≡ replicate (length pairs) 0
-  pub index-zero : index-after ≡ replicate (length index) 0
-  pub graph-zero : graph-after ≡ replicate (length graph) 0
+pub record AllCleared (nodes pairs index graph sets room flags classes nodes-after pairs-after index-after graph-after sets-after room-after flags-after classes-after : List ℕ) : Type 0 where
+  pub lent : LentCleared nodes pairs index graph sets room nodes-after pairs-after index-after graph-after sets-after room-after
   pub flags-zero : flags-after ≡ replicate (length flags) 0
   pub classes-zero : classes-after ≡ replicate (length classes) 0
 
--- The whole outcome: the answer, and what the output and the six areas hold at the end.
-pub record Makes (r : MakeAnswer) (tower text out nodes pairs index graph flags classes out-after nodes-after pairs-after index-after graph-after flags-after classes-after : List ℕ) : Type 0 where
-  pub answer : r ≡ make-outcome tower text out (nodes ∷ pairs ∷ index ∷ graph ∷ flags ∷ classes ∷ []) .answer
-  pub said : make-said r ≡ make-said (make-outcome tower text out (nodes ∷ pairs ∷ index ∷ graph ∷ flags ∷ classes ∷ []) .answer)
-  pub output : out-after ≡ make-outcome tower text out (nodes ∷ pairs ∷ index ∷ graph ∷ flags ∷ classes ∷ []) .output
-  pub areas : nodes-after ∷ pairs-after ∷ index-after ∷ graph-after ∷ flags-after ∷ classes-after ∷ []
-      ≡ make-outcome tower text out (nodes ∷ pairs ∷ index ∷ graph ∷ flags ∷ classes ∷ []) .areas
+-- The whole outcome: the answer, and what the output and the eight areas hold at the end.
+pub record Makes (r : MakeAnswer) (tower text out nodes pairs index graph sets room flags classes out-after nodes-after pairs-after index-after graph-after sets-after room-after flags-after classes-after : List ℕ) : Type 0 where
+  pub answer : r ≡ make-outcome tower text out (nodes ∷ pairs ∷ index ∷ graph ∷ sets ∷ room ∷ flags ∷ classes ∷ []) .answer
+  pub said : make-said r ≡ make-said (make-outcome tower text out (nodes ∷ pairs ∷ index ∷ graph ∷ sets ∷ room ∷ flags ∷ classes ∷ []) .answer)
+  pub output : out-after ≡ make-outcome tower text out (nodes ∷ pairs ∷ index ∷ graph ∷ sets ∷ room ∷ flags ∷ classes ∷ []) .output
+  pub areas : nodes-after ∷ pairs-after ∷ index-after ∷ graph-after ∷ sets-after ∷ room-after ∷ flags-after ∷ classes-after ∷ []
+      ≡ make-outcome tower text out (nodes ∷ pairs ∷ index ∷ graph ∷ sets ∷ room ∷ flags ∷ classes ∷ []) .areas

@@ -1,5 +1,6 @@
 // The maker (01, 'Good tables' and 'Why a call is turned down'): the made table for a tower and a
-// book, written to the output, or the first reason why there is none, in the order 15, tower, book, 11, 12, 16.
+// book, written to the output, or the first reason why there is none, in the order 15, tower, book, 11,
+// 20, 12, 16.
 ghost use Prim.Native.Nat.{_<_};
 ghost use mathlib.Core.Path.{_≡_};
 ghost use mathlib.Core.List.{[], _∷_};
@@ -9,7 +10,7 @@ ghost use Rattle.base.specs.Bytes.{long-enough};
 ghost use Rattle.outcome.specs.Areas.{make-areas};
 ghost use Rattle.outcome.specs.Make.{made-file};
 ghost use Rattle.pair_graph.specs.Steps.{safe-in};
-ghost use Rattle.pair_entries.specs.PendingEntries.{TowerWithBook};
+ghost use Rattle.pair_trial.specs.Walked.{TowerWithBook};
 ghost use Rattle.maker.specs.Making.{made-book, Ends, Room, PairsMet, SafeWritten, RowsMade, TableMade, AllCleared, Makes};
 use base::BookAnswer;
 use base::MakeAnswer;
@@ -18,16 +19,8 @@ use file_tower::TowerRead;
 use maker_file::Written;
 use pair_search::Found;
 
-// The lengths of the six work areas: the book's nodes and lines, the pairs, their index, where actions
-// lead, the flags of removal, and the classes and rows.
-const NODES_AREA: usize = 512;
-
-const PAIRS_AREA: usize = 62062;
-
-const INDEX_AREA: usize = 8192;
-
-const GRAPH_AREA: usize = 34000;
-
+// The lengths of the two work areas that are the maker's own: the flags of removal, and the classes
+// and rows.
 const FLAGS_AREA: usize = 37000;
 
 const CLASSES_AREA: usize = 8192;
@@ -85,7 +78,7 @@ fn make_rows(
     write_safe(tower, out, graph, flags, classes, n)
 }
 
-// The table, where tower and book are read: 11, 12, 16, or made.
+// The table, where tower and book are read: 11, 20, 12, 16, or made.
 fn make_table(
     tower: &[u8],
     nodes: &[u8],
@@ -93,16 +86,19 @@ fn make_table(
     pairs: &mut [u8],
     index: &mut [u8],
     graph: &mut [u8],
+    sets: &mut [u8],
+    room: &mut [u8],
     flags: &mut [u8],
     classes: &mut [u8],
 ) -> MakeAnswer
     requires { ⌜ TowerWithBook (now tower) (now nodes) ⌝ }
-    requires { ⌜ Room (now nodes) (now pairs) (now index) (now graph) (now flags) (now classes) ⌝ }
+    requires { ⌜ Room (now nodes) (now pairs) (now index) (now graph) (now sets) (now room) (now flags) (now classes) ⌝ }
     ensures { λ r. ⌜ TableMade r (now (tower .entry)) (now (nodes .entry)) (now (out .entry)) (now (out .exit)) ⌝ }
 {
-    let found = pair_search::explore(tower, tower, ROWS, nodes, pairs, index, graph);
+    let found = pair_search::explore(tower, tower, ROWS, nodes, pairs, index, graph, sets, room);
     match found {
         Found::TooMany => MakeAnswer::Refused(Refusal::Pairs),
+        Found::TooWide => MakeAnswer::Refused(Refusal::Alternatives),
         Found::Met(n) => make_rows(tower, out, graph, flags, classes, n),
     }
 }
@@ -116,11 +112,13 @@ fn make_book(
     pairs: &mut [u8],
     index: &mut [u8],
     graph: &mut [u8],
+    sets: &mut [u8],
+    room: &mut [u8],
     flags: &mut [u8],
     classes: &mut [u8],
 ) -> MakeAnswer
     requires { ⌜ FitTower (now tower) ⌝ }
-    requires { ⌜ Room (now nodes) (now pairs) (now index) (now graph) (now flags) (now classes) ⌝ }
+    requires { ⌜ Room (now nodes) (now pairs) (now index) (now graph) (now sets) (now room) (now flags) (now classes) ⌝ }
     ensures { λ r. ⌜ Ends (made-book (now (tower .entry)) (now (text .entry))) (now (out .entry)) r (now (out .exit)) ⌝ }
 {
     let book = book_reader::read_lines(file_tower::marks(tower), text, nodes);
@@ -133,6 +131,8 @@ fn make_book(
             pairs,
             index,
             graph,
+            sets,
+            room,
             flags,
             classes,
         ),
@@ -148,17 +148,31 @@ fn make_files(
     pairs: &mut [u8],
     index: &mut [u8],
     graph: &mut [u8],
+    sets: &mut [u8],
+    room: &mut [u8],
     flags: &mut [u8],
     classes: &mut [u8],
 ) -> MakeAnswer
-    requires { ⌜ Room (now nodes) (now pairs) (now index) (now graph) (now flags) (now classes) ⌝ }
+    requires { ⌜ Room (now nodes) (now pairs) (now index) (now graph) (now sets) (now room) (now flags) (now classes) ⌝ }
     ensures { λ r. ⌜ Ends (made-file (now (tower .entry)) (now (text .entry))) (now (out .entry)) r (now (out .exit)) ⌝ }
 {
     let read = file_tower::read_tower(tower);
     if let TowerRead::Refused(why) = read {
         return MakeAnswer::Refused(why);
     }
-    make_book(tower, text, out, nodes, pairs, index, graph, flags, classes)
+    make_book(
+        tower,
+        text,
+        out,
+        nodes,
+        pairs,
+        index,
+        graph,
+        sets,
+        room,
+        flags,
+        classes,
+    )
 }
 
 // The areas are long enough.
@@ -167,21 +181,14 @@ fn long_enough(
     pairs: &[u8],
     index: &[u8],
     graph: &[u8],
+    sets: &[u8],
+    room: &[u8],
     flags: &[u8],
     classes: &[u8],
 ) -> bool
-    ensures { λ b. ⌜ b ≡ long-enough make-areas (now (nodes .entry) ∷ now (pairs .entry) ∷ now (index .entry) ∷ now (graph .entry) ∷ now (flags .entry) ∷ now (classes .entry) ∷ []) ⌝ }
+    ensures { λ b. ⌜ b ≡ long-enough make-areas (now (nodes .entry) ∷ now (pairs .entry) ∷ now (index .entry) ∷ now (graph .entry) ∷ now (sets .entry) ∷ now (room .entry) ∷ now (flags .entry) ∷ now (classes .entry) ∷ []) ⌝ }
 {
-    if nodes.len() < NODES_AREA {
-        return false;
-    }
-    if pairs.len() < PAIRS_AREA {
-        return false;
-    }
-    if index.len() < INDEX_AREA {
-        return false;
-    }
-    if graph.len() < GRAPH_AREA {
+    if !search_areas::long_enough(nodes, pairs, index, graph, sets, room) {
         return false;
     }
     if flags.len() < FLAGS_AREA {
@@ -196,21 +203,20 @@ fn clear_all(
     pairs: &mut [u8],
     index: &mut [u8],
     graph: &mut [u8],
+    sets: &mut [u8],
+    room: &mut [u8],
     flags: &mut [u8],
     classes: &mut [u8],
 )
-    ensures { λ _. ⌜ AllCleared (now (nodes .entry)) (now (pairs .entry)) (now (index .entry)) (now (graph .entry)) (now (flags .entry)) (now (classes .entry)) (now (nodes .exit)) (now (pairs .exit)) (now (index .exit)) (now (graph .exit)) (now (flags .exit)) (now (classes .exit)) ⌝ }
+    ensures { λ _. ⌜ AllCleared (now (nodes .entry)) (now (pairs .entry)) (now (index .entry)) (now (graph .entry)) (now (sets .entry)) (now (room .entry)) (now (flags .entry)) (now (classes .entry)) (now (nodes .exit)) (now (pairs .exit)) (now (index .exit)) (now (graph .exit)) (now (sets .exit)) (now (room .exit)) (now (flags .exit)) (now (classes .exit)) ⌝ }
 {
-    area_bytes::clear(nodes);
-    area_bytes::clear(pairs);
-    area_bytes::clear(index);
-    area_bytes::clear(graph);
+    search_areas::clear(nodes, pairs, index, graph, sets, room);
     area_bytes::clear(flags);
     area_bytes::clear(classes);
 }
 
 // Writes the made table for the tower and the book to the output and answers its length, or the first
-// reason why not; a refusal leaves the output as it is. The six areas are lent: 15 leaves them as they
+// reason why not; a refusal leaves the output as it is. The eight areas are lent: 15 leaves them as they
 // are, and after every other answer they are zero.
 pub fn make(
     tower: &[u8],
@@ -220,15 +226,29 @@ pub fn make(
     pairs: &mut [u8],
     index: &mut [u8],
     graph: &mut [u8],
+    sets: &mut [u8],
+    room: &mut [u8],
     flags: &mut [u8],
     classes: &mut [u8],
 ) -> MakeAnswer
-    ensures { λ r. ⌜ Makes r (now (tower .entry)) (now (text .entry)) (now (out .entry)) (now (nodes .entry)) (now (pairs .entry)) (now (index .entry)) (now (graph .entry)) (now (flags .entry)) (now (classes .entry)) (now (out .exit)) (now (nodes .exit)) (now (pairs .exit)) (now (index .exit)) (now (graph .exit)) (now (flags .exit)) (now (classes .exit)) ⌝ }
+    ensures { λ r. ⌜ Makes r (now (tower .entry)) (now (text .entry)) (now (out .entry)) (now (nodes .entry)) (now (pairs .entry)) (now (index .entry)) (now (graph .entry)) (now (sets .entry)) (now (room .entry)) (now (flags .entry)) (now (classes .entry)) (now (out .exit)) (now (nodes .exit)) (now (pairs .exit)) (now (index .exit)) (now (graph .exit)) (now (sets .exit)) (now (room .exit)) (now (flags .exit)) (now (classes .exit)) ⌝ }
 {
-    if !long_enough(nodes, pairs, index, graph, flags, classes) {
+    if !long_enough(nodes, pairs, index, graph, sets, room, flags, classes) {
         return MakeAnswer::Refused(Refusal::Area);
     }
-    let answer = make_files(tower, text, out, nodes, pairs, index, graph, flags, classes);
-    clear_all(nodes, pairs, index, graph, flags, classes);
+    let answer = make_files(
+        tower,
+        text,
+        out,
+        nodes,
+        pairs,
+        index,
+        graph,
+        sets,
+        room,
+        flags,
+        classes,
+    );
+    clear_all(nodes, pairs, index, graph, sets, room, flags, classes);
     answer
 }

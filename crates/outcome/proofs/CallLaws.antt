@@ -151,8 +151,8 @@ call-refused tower-file text output areas tower book fit r not-area not-output e
 
 -- ---- the checker
 
--- how a call of the checker ends on fit files
-checks : (tower-file text file : List ℕ) (tower : Tower) (book : Book) (table : Table) → FitFiles tower-file text tower book
+-- What is checked on fit files is the table for their tower and their book.
+pub checks : (tower-file text file : List ℕ) (tower : Tower) (book : Book) (table : Table) → FitFiles tower-file text tower book
     → FitTable tower file table → checked-file tower-file text file ≡ judge tower book table
 unfolding checked-file FitTable
 checks tower-file text file tower book table fit laid =

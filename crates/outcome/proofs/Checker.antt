@@ -15,9 +15,7 @@ use Rattle.logic.specs.Tower.{Tower, Listed}
 use Rattle.logic.specs.Book.{Book}
 use Rattle.logic.specs.Tables.{Table, rows-tower, NoneBroken, Good}
 use Rattle.logic.proofs.Canonical.{FollowsRuns}
-use Rattle.alternatives.specs.Sides.{EndsUntimed}
 use Rattle.alternatives.specs.Pairs.{most-pairs, over-alternatives}
-use Rattle.alternatives.proofs.Sides.{fit-ends}
 use Rattle.alternatives.proofs.Theorems.{tried-unbroken}
 use Rattle.outcome.specs.Check.{Finding, good-table, not-good, _found-if_else_, rows-judged, judge, over-items, some-broken}
 use Rattle.outcome.specs.Reached.{ReachedItem, MoreThan, GivesOver}
@@ -27,9 +25,6 @@ use Rattle.outcome.proofs.Items.{rows-listed, all-walked, none-found}
 use Rattle.outcome.proofs.Counted.{over-items-iff, over-full-items-iff}
 
 module _ (tower : Tower) (book : Book) (table : Table) (known : Judgeable tower book table) where
-  ends : EndsUntimed book
-  ends = fit-ends book (known .fit)
-
   right-follows : RightBelow tower table (length table) → FollowsRuns tower table
   right-follows right = record { is-table = known .is-table; start = right .a; steps = λ r lt. right .rows r lt .c }
 
@@ -37,7 +32,7 @@ module _ (tower : Tower) (book : Book) (table : Table) (known : Judgeable tower 
   right-listed : RightBelow tower table (length table) → Listed (rows-tower tower table)
   right-listed right = rows-listed tower table (known .listed) (right-follows right)
 
-  good-right : Good tower book table → RightBelow tower table (length table)
+  pub good-right : Good tower book table → RightBelow tower table (length table)
   good-right g = record { a = g .a; rows = λ r lt. record { b = g .b r lt; c = g .c r lt; d = g .d r lt } }
 
   -- what is asked behind the rows: 11, 20 and e
@@ -62,16 +57,16 @@ module _ (tower : Tower) (book : Book) (table : Table) (known : Judgeable tower 
   Wide = GivesOver (rows-tower tower table) book
 
   module _ (right : RightBelow tower table (length table)) where
-    many-out : over-items tower book table ≡ true → Many
+    pub many-out : over-items tower book table ≡ true → Many
     many-out e = over-items-iff tower book table (right-listed right) .0 e
 
-    many-in : Many → over-items tower book table ≡ true
+    pub many-in : Many → over-items tower book table ≡ true
     many-in many = over-items-iff tower book table (right-listed right) .1 many
 
-    few-in : (Many → ⊥) → over-items tower book table ≡ false
+    pub few-in : (Many → ⊥) → over-items tower book table ≡ false
     few-in not-many = false-by (over-items tower book table) (λ e. not-many (many-out e))
 
-    few-out : over-items tower book table ≡ false → Many → ⊥
+    pub few-out : over-items tower book table ≡ false → Many → ⊥
     few-out few many = never-both (many-in many) few
 
     module _ (few : over-items tower book table ≡ false) where
@@ -84,7 +79,7 @@ module _ (tower : Tower) (book : Book) (table : Table) (known : Judgeable tower 
       narrow-in : (Wide → ⊥) → over-alternatives (rows-tower tower table) book ≡ false
       narrow-in not-wide = false-by (over-alternatives (rows-tower tower table) book) (λ e. not-wide (wide-out e))
 
-      narrow-out : over-alternatives (rows-tower tower table) book ≡ false → Wide → ⊥
+      pub narrow-out : over-alternatives (rows-tower tower table) book ≡ false → Wide → ⊥
       narrow-out narrow wide = never-both (wide-in wide) narrow
 
       -- no broken step is found: no allowed run is broken
@@ -92,12 +87,12 @@ module _ (tower : Tower) (book : Book) (table : Table) (known : Judgeable tower 
       unfolding NoneBroken
       whole-out whole w allowed =
           let (v, e) = all-walked tower book table (right-follows right) (right-listed right) few whole w allowed in
-          tried-unbroken tower book ends w v e
+          tried-unbroken tower book (known .fit) w v e
 
     -- no allowed run is broken, and none gives over 16: no broken step is found
     whole-in : over-alternatives (rows-tower tower table) book ≡ false → NoneBroken tower book table
         → some-broken (rows-tower tower table) book ≡ false
-    whole-in narrow none = none-found tower book table (right-follows right) ends (right-listed right) none narrow
+    whole-in narrow none = none-found tower book table (right-follows right) (known .fit) (right-listed right) none narrow
 
     -- So what is said behind the rows is right.
     last : FirstReason tower book table behind

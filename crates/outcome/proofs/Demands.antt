@@ -1,10 +1,11 @@
--- The customer's letter, demands 1 to 3, and item 2 of 02, each sentence above its theorems. They are about the outcomes on bytes with which the
+-- The customer's letter, demands 1 to 3, and items 2 and 3 of 02, each sentence above its theorems. They are about the outcomes on bytes with which the
 -- contracts of the entries are equations: `read-outcome`, `make-outcome`, `check-outcome`, `follow-outcome` and `log-outcome`. The words are those
 -- of crate `logic`; nothing here speaks of how an answer is found. Where the other words stand, in specs/ here:
 --   `FitFiles`, `FitTable`, `MadeCall`: Calls · the right answer of each entry: RightAnswer, with `FirstReason` in VerdictRight · what holds of every
---   call: EveryCall · what an answer shows: Shown · `MoreThan`, `GivesOver` and what is reached: Reached · the follower: FollowChain · the log: LoggedRun.
--- Numbers and places of answers are in base/specs/Answers.antt. The proofs are in Answering.antt, Refusals.antt, Following.antt and
--- Logs.antt.
+--   call: EveryCall · what an answer shows: Shown · `MoreThan`, `GivesOver` and what is reached: Reached · the follower: FollowChain · the log: LoggedRun ·
+--   what was answered before 02, item 3: Before.
+-- Numbers and places of answers are in base/specs/Answers.antt. The proofs are in Answering.antt, Refusals.antt, Following.antt, Logs.antt
+-- and Before.antt.
 use Prim.Native.Nat.{ℕ, _≤_}
 use mathlib.Core.Path.{_≡_, sym, _∙_, subst}
 use mathlib.Core.Logic.{_↔_, _⊎_}
@@ -12,7 +13,7 @@ use mathlib.Core.Bool.{true}
 use mathlib.Core.List.{List}
 use lib.ListN.{length}
 use Rattle.base.specs.Bytes.{long-enough}
-use Rattle.base.specs.Answers.{book-said, make-said, verdict-said, follow-said, log-said, Answer, give}
+use Rattle.base.specs.Answers.{book-said, make-said, verdict-said, follow-said, log-said, Answer, give, _then_}
 use Rattle.base.specs.declared.Reason.{Reason}
 use Rattle.base.specs.declared.Refusal.{Refusal}
 use Rattle.base.specs.declared.Refusal.the-variants.{Pairs, NoTable, Area, Alternatives}
@@ -26,9 +27,11 @@ use Rattle.base.specs.declared.FollowAnswer.{FollowAnswer}
 use Rattle.base.specs.declared.FollowAnswer.the-variants as Follow
 use Rattle.base.specs.declared.LogAnswer.{LogAnswer}
 use Rattle.base.specs.declared.LogAnswer.the-variants as Logged
-use Rattle.logic.specs.Tower.{Tower, most-marks}
+use Rattle.logic.specs.Tower.{Tower, layout-of, most-marks}
 use Rattle.logic.specs.Book.{Book, nodes}
+use Rattle.logic.specs.Sides.{OneSided}
 use Rattle.logic.specs.Tables.{Table, rows-tower, Allows, Good, GoodAllow}
+use Rattle.logic.specs.TableFile.{table-file}
 use Rattle.reading.specs.BookReading.{read-book}
 use Rattle.reading.specs.LogReading.{read-log}
 use Rattle.reading.specs.LogSpelling.{RightLog}
@@ -38,13 +41,14 @@ use Rattle.reading.specs.TableReading.{laid-out, table-of}
 use Rattle.alternatives.specs.Pairs.{most-pairs}
 use Rattle.outcome.specs.Areas.{book-areas, make-areas, check-areas}
 use Rattle.outcome.specs.ReadBook.{read-outcome}
-use Rattle.outcome.specs.Make.{make-outcome}
-use Rattle.outcome.specs.Check.{Finding, verdict, check-outcome}
+use Rattle.outcome.specs.Make.{made-file, make-outcome}
+use Rattle.outcome.specs.Check.{Finding, verdict, checked-file, check-outcome}
 use Rattle.outcome.specs.Follow.{follow-outcome}
 use Rattle.outcome.specs.Log.{log-outcome}
 use Rattle.outcome.specs.Reached.{ReachedPair, ReachedItem, MoreThan, GivesOver}
 use Rattle.outcome.specs.VerdictRight.{FirstReason}
 use Rattle.outcome.specs.Calls.{FitFiles, FitTable, MadeCall}
+use Rattle.outcome.specs.Before.{MadeBefore, JudgedBefore}
 use Rattle.outcome.specs.EveryCall.{book-numbers, make-numbers, check-numbers, follow-numbers, log-numbers, RefusesWith, AreasRight}
 use Rattle.outcome.specs.FollowChain.{FollowsTo, Chain}
 use Rattle.outcome.specs.RightAnswer.{RightRead, read-given, RightMake, make-pairs, make-wide, make-none, RightCheck, check-judged, RightFollow, RightLogged}
@@ -54,6 +58,7 @@ use Rattle.outcome.proofs.Refusals as Refusals
 use Rattle.outcome.proofs.Answering as Answering
 use Rattle.outcome.proofs.Following as Following
 use Rattle.outcome.proofs.Logs as Logs
+use Rattle.outcome.proofs.Before as Before
 
 -- ---- 1. 'Where a tower file, rule book, table, row, action or lent area is not fit to use, the call refuses with the number that our paper
 -- gives;'
@@ -313,3 +318,28 @@ pub made-log-unbroken-before : (tower-file text : List ℕ) (m : ℕ) (file log 
     → log-outcome tower-file file log ≡ Logged.Line k → LogUnbroken tower-file text log k
 made-log-unbroken-before tower-file text m file log k call e =
     Logs.before-unbroken tower-file text file log (Answering.made-holds tower-file text m file call) k e
+
+-- ---- 02, item 3: 'Good, largest and equal tables are meant over the wider books too, with 20 beside 11 as a refusal for size.' The theorems above
+-- are over these books.
+
+-- 'Books without two timed sides give the bytes they gave.' There is an answer that was given for them before, with the table of it, and it is
+-- the one that is given now.
+pub some-made-before : (tower-file text : List ℕ) (tower : Tower) (book : Book) → FitFiles tower-file text tower book → OneSided book
+    → (o : Answer Table) × MadeBefore tower book o
+some-made-before tower-file text tower book fit sided = Before.some-made-before tower-file text tower book fit sided
+
+pub made-as-before : (tower-file text : List ℕ) (tower : Tower) (book : Book) → FitFiles tower-file text tower book → OneSided book
+    → (o : Answer Table) → MadeBefore tower book o
+    → made-file tower-file text ≡ (o then λ table. give (table-file (layout-of tower-file) (tower .states) (tower .actions) table))
+made-as-before tower-file text tower book fit sided o before = Before.made-as-before tower-file text tower book fit sided o before
+
+-- So it is with what the checker says.
+pub some-judged-before : (tower-file text file : List ℕ) (tower : Tower) (book : Book) (table : Table) → FitFiles tower-file text tower book
+    → FitTable tower file table → OneSided book → (o : Answer Finding) × JudgedBefore tower book table o
+some-judged-before tower-file text file tower book table fit laid sided =
+    Before.some-judged-before tower-file text file tower book table fit laid sided
+
+pub judged-as-before : (tower-file text file : List ℕ) (tower : Tower) (book : Book) (table : Table) → FitFiles tower-file text tower book
+    → FitTable tower file table → OneSided book → (o : Answer Finding) → JudgedBefore tower book table o → checked-file tower-file text file ≡ o
+judged-as-before tower-file text file tower book table fit laid sided o before =
+    Before.judged-as-before tower-file text file tower book table fit laid sided o before

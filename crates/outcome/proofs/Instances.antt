@@ -21,7 +21,7 @@ use Rattle.logic.specs.Tables.{Table, Allows, AllowsFrom, AllowsAction, GoesOn,
 use Rattle.logic.specs.Tables as Tables
 use Rattle.logic.proofs.Leads.{leads-one}
 use Rattle.pending.proofs.Theorems.{start-false-breaks}
-use Rattle.outcome.specs.Areas.{book-area, pairs-area, index-area, graph-area, flags-area, classes-area, book-areas, make-areas, check-areas}
+use Rattle.outcome.specs.Areas.{book-areas, make-areas, check-areas}
 use Rattle.outcome.specs.Calls.{MadeCall}
 use Rattle.outcome.specs.Check.{good-table, checked-file}
 use Rattle.outcome.specs.Make.{made-file, written}
@@ -97,7 +97,7 @@ chain-exists = (1, refl, (3, refl, (2, refl, refl)))
 
 -- No area is above 64 KiB.
 pub areas-small : every (λ n. leb n 65536) (joined (book-areas ∷ check-areas ∷ make-areas ∷ [])) ≡ true
-unfolding opened book-areas check-areas make-areas book-area pairs-area index-area graph-area flags-area classes-area
+unfolding opened book-areas check-areas make-areas
 areas-small = refl
 
 -- ---- no table

@@ -10,13 +10,12 @@ use borrow.Author.Tests.{ltb-true, ltb-false}
 use Rattle.base.specs.Lists.{below, is-there}
 use Rattle.base.proofs.Lists.{whether, true-by, not-in, never-both, and-both, and-fails-left, and-fails-right, some-none, none-of, below-mem, is-there-in, is-there-out, none-some, some-one}
 use Rattle.logic.specs.Tower.{Tower, Listed}
-use Rattle.logic.specs.Book.{Book}
+use Rattle.logic.specs.Book.{Book, FitBook}
 use Rattle.logic.specs.Runs.{leads}
 use Rattle.logic.specs.Tables.{Table, row-at, step-to, move, rows-tower, AllowsFrom, Allows, GoodStart, StepsRight, NoneBroken}
 use Rattle.logic.proofs.Leads.{leads-nil, leads-one, leads-in, leads-out, snoc-in}
 use Rattle.logic.proofs.Canonical.{FollowsRuns}
 use Rattle.pending.specs.Pending.{Pending}
-use Rattle.alternatives.specs.Sides.{EndsUntimed}
 use Rattle.alternatives.specs.Alternatives.{these}
 use Rattle.alternatives.specs.Progression.{first-set}
 use Rattle.alternatives.specs.Pairs.{Pair, first-pair, alternatives-by, tried-step, over-full, pair-step, pairs, over-alternatives}
@@ -153,7 +152,7 @@ module _ (tower : Tower) (book : Book) (table : Table) where
               ∙ pairs-lead (first-pair rows book) v w e;
         }
 
-    module _ (fit : EndsUntimed book) (listed : Listed rows) (none : NoneBroken tower book table) where
+    module _ (fit : FitBook book) (listed : Listed rows) (none : NoneBroken tower book table) where
       -- behind a run to a row with what is pending, what is pending there meets every allowed action
       meets-allowed : (v : Pair) (a t : ℕ) → RunTo v → move table (v .state) a ≡ some t
           → FulfilsOne tower book (row-at table (v .state) .state) (v .pending) (a ∷ [])

@@ -17,9 +17,11 @@ pub mod FitCalls
 pub mod Following
 pub mod Logs
 pub mod Answering
+pub mod Before
 pub mod Demands
 pub mod Instances
 pub mod TinyTowers
 pub mod KindTable
+pub mod SideTable
 pub mod RefusalTable
 pub mod LogInstances

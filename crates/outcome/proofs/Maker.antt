@@ -16,9 +16,7 @@ use Rattle.logic.specs.Runs.{leads}
 use Rattle.logic.specs.Tables.{Table, move, Allows, AllowsFrom, NoneBroken, Good, GoodAllow, IsMade}
 use Rattle.logic.proofs.Leads.{leads-nil, leads-in, leads-out}
 use Rattle.logic.proofs.Canonical.{FollowsRuns, made-unique}
-use Rattle.alternatives.specs.Sides.{EndsUntimed}
 use Rattle.alternatives.specs.Pairs.{Pair, first-pair, pair-step, over-pairs, over-alternatives, most-pairs}
-use Rattle.alternatives.proofs.Sides.{fit-ends}
 use Rattle.alternatives.proofs.Steps.{pair-leads-state}
 use Rattle.alternatives.proofs.Theorems.{leads-unbroken, unbroken-iff}
 use Rattle.outcome.specs.Game.{last-removal, safe, safe-step}
@@ -33,15 +31,12 @@ use Rattle.outcome.proofs.MadeTable.{MadeSo, made-so}
 use Rattle.outcome.proofs.Counted.{over-pairs-iff, over-alternatives-iff, never-over}
 
 module _ (tower : Tower) (book : Book) (able : Makeable tower book) where
-  ends : EndsUntimed book
-  ends = fit-ends book (able .fit)
-
   exact : over-pairs tower book ≡ false → over-alternatives tower book ≡ false → Exact tower book
   unfolding first-pair
   exact few narrow =
       record {
         steps = λ w run unbroken.
-            unbroken-iff tower book ends (able .listed) (never-over tower book (able .listed) few narrow) w run .0 unbroken;
+            unbroken-iff tower book (able .fit) (able .listed) (never-over tower book (able .listed) few narrow) w run .0 unbroken;
         state = λ w v e. pair-leads-state tower book (first-pair tower book) v w e;
       }
 
@@ -129,7 +124,7 @@ module _ (tower : Tower) (book : Book) (able : Makeable tower book) where
           c = so .c;
           d = so .d;
           e = λ w allowed.
-              let (z, led) = runs-out w allowed in leads-unbroken tower book ends w z (safe-leads w (first-pair tower book) z led);
+              let (z, led) = runs-out w allowed in leads-unbroken tower book (able .fit) w z (safe-leads w (first-pair tower book) z led);
         }
 
     -- The table is the made table of the logic.

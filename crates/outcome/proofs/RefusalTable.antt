@@ -11,7 +11,7 @@ use Rattle.base.specs.declared.Refusal.{Refusal}
 use Rattle.base.specs.declared.Refusal.the-variants.{TowerSize, Range, Action, Target, Mask, NoTable, Layout}
 use Rattle.base.specs.declared.Reason.the-variants.{Stopped}
 use Rattle.logic.specs.Book.{Book}
-use Rattle.outcome.specs.Areas.{book-area, book-areas, make-areas}
+use Rattle.outcome.specs.Areas.{book-areas, make-areas}
 use Rattle.outcome.specs.ReadBook.{book-answer, book-under}
 use Rattle.outcome.specs.Make.{made-file}
 use Rattle.outcome.specs.Check.{not-good}
@@ -40,7 +40,7 @@ book-as text o e areas enough = ap book-said (book-enough 3 text areas enough .0
 
 -- All of them.
 pub refusal-table : RefusalTable
-unfolding opened TowerSays BookSays with-byte true-lines spaced in-brackets no-step with-target table-1 table-5 book-areas make-areas book-area long-enough book-said book-answer book-under follow-said follow-outcome follow-answer row-after stepped
+unfolding opened TowerSays BookSays with-byte true-lines spaced in-brackets no-step with-target table-1 table-5 book-areas make-areas long-enough book-said book-answer book-under follow-said follow-outcome follow-answer row-after stepped
 refusal-table =
     record {
       no-1 = tower-not (take 7 small-tower) TowerSize refl;
@@ -77,10 +77,10 @@ refusal-table =
       fit-nodes = book-as (true-lines 60) (book-under 3 (true-lines 60)) refl;
       no-9-brackets = book-as (in-brackets 17) (book-under 3 (in-brackets 17)) refl;
       fit-brackets = book-as (in-brackets 16) (book-under 3 (in-brackets 16)) refl;
-      no-10 = book-as (ascii "start E 1 p0 | E 1 p1\n") (book-under 3 (ascii "start E 1 p0 | E 1 p1\n")) refl;
-      fit-timed = book-as (ascii "start E 1 p0 | p1\n") (book-under 3 (ascii "start E 1 p0 | p1\n")) refl;
-      no-10-until = book-as (ascii "start U 1 (T, A 1 p0)\n") (book-under 3 (ascii "start U 1 (T, A 1 p0)\n")) refl;
+      no-10 = book-as (ascii "start U 1 (T, E 1 p0)\n") (book-under 3 (ascii "start U 1 (T, E 1 p0)\n")) refl;
       fit-until = book-as (ascii "start U 1 (A 1 p0, T)\n") (book-under 3 (ascii "start U 1 (A 1 p0, T)\n")) refl;
+      no-10-within = book-as (ascii "start E 1 (p0 | A 1 p1)\n") (book-under 3 (ascii "start E 1 (p0 | A 1 p1)\n")) refl;
+      fit-timed = book-as (ascii "start E 1 p0 | E 1 p1\n") (book-under 3 (ascii "start E 1 p0 | E 1 p1\n")) refl;
       no-13 = judges small-tower [] (with-target 5) (refuse Layout) refl;
       no-13-followed = refl;
       no-14 = judges small-tower [] no-step (give (not-good (Stopped 0))) refl;

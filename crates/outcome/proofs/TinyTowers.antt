@@ -11,23 +11,29 @@ use Rattle.base.specs.declared.Refusal.{Refusal}
 use Rattle.base.specs.declared.Refusal.the-variants.{Mask, NoTable}
 use Rattle.outcome.specs.Make.{made-file}
 use Rattle.outcome.specs.Check.{Finding, checked-file, verdict}
-use Rattle.outcome.specs.TinyTowers.{one-state, two-states, leaves-p0, enters-p0, Says, Judges, TinyTowerTable}
+use Rattle.outcome.specs.TinyTowers.{one-state, two-states, leaves-p0, enters-p0, Makes, Says, Judges, TinyTowerTable}
 use Rattle.outcome.proofs.ElevenOutcomes.{opened}
 use Rattle.outcome.proofs.Refusals.{check-enough}
 use Rattle.outcome.proofs.FitCalls.{file-answered}
 use Rattle.outcome.proofs.Answering.{made-refused}
 
 -- a refusal of the files is said
+pub makes-refused : (tower text : List ℕ) (r : Refusal) → made-file tower text ≡ refuse r → Makes tower text (refusal-said r)
+unfolding Makes make-said
+makes-refused tower text r e output areas room enough = ap make-said (made-refused tower text output areas enough r e)
+
 pub says-refused : (tower : List ℕ) (book : String) (r : Refusal) → made-file tower (ascii book) ≡ refuse r → Says tower book (refusal-said r)
-unfolding Says make-said
-says-refused tower book r e output areas room enough = ap make-said (made-refused tower (ascii book) output areas enough r e)
+says-refused tower book r e = makes-refused tower (ascii book) r e
 
 -- a file that is made is said by its length
+pub makes-made : (tower text file : List ℕ) → length file ≤ 26 → made-file tower text ≡ give file → Makes tower text (answered (length file ∷ []))
+unfolding Makes make-said
+makes-made tower text file few e output areas room enough =
+    ap make-said (file-answered tower text output areas file enough e (omega arith))
+
 pub says-made : (tower : List ℕ) (book : String) (file : List ℕ) → length file ≤ 26 → made-file tower (ascii book) ≡ give file
     → Says tower book (answered (length file ∷ []))
-unfolding Says make-said
-says-made tower book file few e output areas room enough =
-    ap make-said (file-answered tower (ascii book) output areas file enough e (omega arith))
+says-made tower book file few e = makes-made tower (ascii book) file few e
 
 -- a table is said as it is judged
 pub judges : (tower text file : List ℕ) (o : Answer Finding) → checked-file tower text file ≡ o → Judges tower text file (verdict-said (verdict o))
@@ -35,14 +41,14 @@ unfolding Judges
 judges tower text file o e areas enough = ap verdict-said (check-enough tower text file areas enough .0 ∙ ap verdict e)
 
 -- the tables of one row with one step, and of two rows with one step each
-one : List ℕ
+unfoldable pub one : List ℕ
 one =
     1 ∷ 0 ∷ 1 ∷ 0 ∷ 12 ∷ 0 ∷ 16 ∷ 0 ∷ 1 ∷ 0 ∷ 1 ∷ 0
     ∷ 0 ∷ 1 ∷ 0 ∷ 0
     ∷ 0 ∷ 0 ∷ 0
     ∷ []
 
-two : List ℕ
+unfoldable pub two : List ℕ
 two =
     2 ∷ 0 ∷ 2 ∷ 0 ∷ 12 ∷ 0 ∷ 20 ∷ 0 ∷ 2 ∷ 0 ∷ 1 ∷ 0
     ∷ 0 ∷ 1 ∷ 0 ∷ 0

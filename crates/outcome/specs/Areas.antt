@@ -7,9 +7,10 @@ use mathlib.Core.List.{List, [], _∷_}
 abbrev pub book-area : ℕ
 book-area = 512
 
--- pairs, or rows with what is pending: 1,000 and the one that is being looked up, of 62 bytes each
+-- pairs, or rows with what is pending: 1,000 alternatives and those of the pair that is being looked up, of 60 bytes each, and a head of 4 bytes
+-- for each pair
 abbrev pub pairs-area : ℕ
-pairs-area = 62062
+pairs-area = 64968
 
 -- where to find one of them again
 abbrev pub index-area : ℕ
@@ -18,6 +19,14 @@ index-area = 8192
 -- the graph of pairs: where each action leads from each pair, and the state of each
 abbrev pub graph-area : ℕ
 graph-area = 34000
+
+-- the sets of alternatives of nodes, and those of a whole step
+abbrev pub sets-area : ℕ
+sets-area = 59520
+
+-- candidates for a set, and what waits to be entered as pairs
+abbrev pub room-area : ℕ
+room-area = 30752
 
 -- whether each pair is safe, which steps lead to each pair, and the pairs that removal has still to look at
 abbrev pub flags-area : ℕ
@@ -32,7 +41,7 @@ unfoldable pub book-areas : List ℕ
 book-areas = book-area ∷ []
 
 unfoldable pub check-areas : List ℕ
-check-areas = book-area ∷ pairs-area ∷ index-area ∷ graph-area ∷ []
+check-areas = book-area ∷ pairs-area ∷ index-area ∷ graph-area ∷ sets-area ∷ room-area ∷ []
 
 unfoldable pub make-areas : List ℕ
-make-areas = book-area ∷ pairs-area ∷ index-area ∷ graph-area ∷ flags-area ∷ classes-area ∷ []
+make-areas = book-area ∷ pairs-area ∷ index-area ∷ graph-area ∷ sets-area ∷ room-area ∷ flags-area ∷ classes-area ∷ []

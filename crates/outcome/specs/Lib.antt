@@ -15,8 +15,10 @@ pub mod EveryCall
 pub mod FollowChain
 pub mod RightAnswer
 pub mod Shown
+pub mod Before
 pub mod SmallTower
 pub mod TinyTowers
 pub mod KindTable
+pub mod SideTable
 pub mod RefusalTable
 pub mod LogTable

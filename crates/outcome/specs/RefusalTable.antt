@@ -99,11 +99,11 @@ pub record RefusalTable : Type 0 where
   pub fit-nodes : BookSays (true-lines 60) (answered (60 ∷ 60 ∷ []))
   pub no-9-brackets : BookSays (in-brackets 17) (refused 9 0 [])
   pub fit-brackets : BookSays (in-brackets 16) (answered (1 ∷ 1 ∷ []))
-  -- 10: timed where it may not be; one side of `|` may be timed, the second part of U may not
-  pub no-10 : BookSays (ascii "start E 1 p0 | E 1 p1\n") (refused 10 0 [])
-  pub fit-timed : BookSays (ascii "start E 1 p0 | p1\n") (answered (1 ∷ 5 ∷ []))
-  pub no-10-until : BookSays (ascii "start U 1 (T, A 1 p0)\n") (refused 10 0 [])
+  -- 10: timed where it may not be; the second part of U may not, and so what stands behind E. Both sides of `|` may.
+  pub no-10 : BookSays (ascii "start U 1 (T, E 1 p0)\n") (refused 10 0 [])
   pub fit-until : BookSays (ascii "start U 1 (A 1 p0, T)\n") (answered (1 ∷ 4 ∷ []))
+  pub no-10-within : BookSays (ascii "start E 1 (p0 | A 1 p1)\n") (refused 10 0 [])
+  pub fit-timed : BookSays (ascii "start E 1 p0 | E 1 p1\n") (answered (1 ∷ 7 ∷ []))
   -- 12: no good table
   pub no-12 : (output : List ℕ) (areas : List (List ℕ)) → long-enough make-areas areas ≡ true
       → make-said (make-outcome small-tower (ascii "start F\n") output areas .answer) ≡ refused 12 0 []

@@ -29,10 +29,13 @@ abbrev pub enters-p0 : ℕ → List ℕ
 enters-p0 d = two-states d 0 1
 
 -- What the maker says of this tower and book, with any output of 26 bytes or more and any areas that are long enough.
-unfoldable pub Says : List ℕ → String → Said → Type 0
-Says tower book said =
+unfoldable pub Makes : List ℕ → List ℕ → Said → Type 0
+Makes tower text said =
     (output : List ℕ) (areas : List (List ℕ)) → 26 ≤ length output → long-enough make-areas areas ≡ true
-    → make-said (make-outcome tower (ascii book) output areas .answer) ≡ said
+    → make-said (make-outcome tower text output areas .answer) ≡ said
+
+abbrev pub Says : List ℕ → String → Said → Type 0
+Says tower book said = Makes tower (ascii book) said
 
 -- What the checker says of this tower, text and table, with any areas that are long enough.
 unfoldable pub Judges : List ℕ → List ℕ → List ℕ → Said → Type 0

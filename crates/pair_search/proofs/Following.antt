@@ -1,56 +1,57 @@
 -- One action of a pair: what is left in the areas on each way.
-use Prim.Native.Nat.{ℕ, _+_, _*_, _≤_, _<_}
+use Prim.Native.Nat.{ℕ, _+_, _-_, _*_, _≤_, _<_}
 use native.Mathlib.Omega.{arith}
 use native.Mathlib.Numerals.{add-two}
 use native.Mathlib.Decide.{decLt}
-use mathlib.Core.Path.{_≡_, refl, sym, _∙_, ap, subst}
+use mathlib.Core.Path.{_≡_, refl, sym, _∙_, ap, ap₂, subst}
 use mathlib.Core.Logic.{inl, inr}
 use mathlib.Core.Bool.{Bool, true, false}
 use mathlib.Core.Option.{none, some, bind}
-use mathlib.Core.List.{List}
+use mathlib.Core.List.{List, [], _∷_}
 use lib.ListN.{length}
 use mir.Syntax.{w64}
 use mir.Val.{Fits}
-use Rattle.base.specs.Bytes.{number-at}
 use Rattle.logic.specs.Tower.{Tower}
 use Rattle.logic.specs.Book.{Book}
-use Rattle.pending.specs.Pairs.{Pair, same-pair, pair-at, pair-step}
-use Rattle.book_progression.specs.PendingBytes.{pending-of, outcome}
+use Rattle.pending.specs.Pending.{Pending}
+use Rattle.alternatives.specs.Alternatives.{these}
+use Rattle.alternatives.specs.Pairs.{Pair, same-pair, alternatives-by, over-full, pair-at, tried-step, pair-step}
+use Rattle.alternatives.proofs.Steps.{tried-step-at, pair-step-spare}
 use Rattle.book_progression.specs.NodeBytes.{IsHeld}
 use Rattle.file_tower.specs.TowerRead.{target-read}
 use Rattle.file_tower.specs.declared.Reached.{Reached}
 use Rattle.file_tower.specs.declared.Reached.the-variants.{State, NotEnabled}
 use Rattle.file_tower.proofs.Laws.{state-reached, none-reached}
 use Rattle.area_bytes.proofs.Numbers.{stored, stored-read, stored-beside}
-use Rattle.area_index.specs.Entries.{entry-at, Indexed, entries-size}
-use Rattle.area_index.proofs.Laws.{indexed-same}
-use Rattle.pair_entries.specs.PendingEntries.{entry-number, entry-cells, Noted, with-one}
-use Rattle.pair_entries.specs.declared.Place.{Place}
+use Rattle.set_index.specs.Entries.{entries-size, entry-number, entry-first, entry-at, Headed, Indexed}
+use Rattle.pair_sets.specs.PairSets.{entry-set, Holds, Noted}
+use Rattle.pair_sets.specs.declared.Place.{Place}
+use Rattle.pair_sets.proofs.Entries.{entry-set-length, equal-numbers, holds-first}
+use Rattle.pair_sets.proofs.Seen.{stays-indexed}
 use Rattle.pair_graph.specs.Graph.{Move, to}
 use Rattle.pair_graph.specs.Steps.{move-of, cell, move-at, state-in, graph-size}
-use Rattle.pair_search.specs.Walked.{Searchable}
-use Rattle.pair_search.specs.Explored.{pair-of, pairs-of, pair-in, PairsFilled, SaysMove, moves-not, moves-broken, moves-to, RightGraph, NextEntered, Followed, Stepped}
+use Rattle.pair_trial.specs.Walked.{walked, Searchable}
+use Rattle.pair_trial.specs.Trial.{pair-of, pair-in}
+use Rattle.pair_search.specs.Explored.{pairs-of, with-one, PairsFilled, SaysMove, moves-not, moves-broken, moves-to, RightGraph, Searching, NextEntered, ActionFollowed, Stepped}
 use Rattle.pair_search.specs.declared.Way.{Way}
-use Rattle.pair_search.proofs.PairEntries.{pairs-same, state-of-pair, noted-pairs}
+use Rattle.pair_search.proofs.PairEntries.{pairs-same, state-of-pair, noted-pairs, filled-stays, one-left, entry-single}
+use Rattle.pair_search.proofs.Entering.{pending-of-pair}
 
 -- ---- what the callees of `lead` want
-
--- The number of the state that is reached takes two bytes at most.
-pub target-small : (tower : Tower) (nodes area : List ℕ) (i n a y : ℕ) → tower .target (entry-number area i) a ≡ some y → PairsFilled tower nodes area n
-    → i < n → Searchable tower → y < 65536
-target-small tower nodes area i n a y goes filled low bounds =
-    omega (arith, bounds .states-most, bounds .targets (entry-number area i) a y (filled .states i low) goes)
 
 -- The index is still that of the entries before n.
 pub still-indexed : (b : Bool) (tower : Tower) (nodes area : List ℕ) (i a y n : ℕ) (after index : List ℕ)
     → NextEntered b tower nodes area i a y n after → Indexed area index n → Indexed after index n
-still-indexed b tower nodes area i a y n after index entered indexed =
-    indexed-same area after index n (λ j l. sym (entered .kept j l)) indexed
+still-indexed b tower nodes area i a y n after index entered indexed = stays-indexed nodes area n after index (entered .stays) indexed
 
 -- The area is as long as it was.
-pub still-room : (b : Bool) (tower : Tower) (nodes area : List ℕ) (i a y n : ℕ) (after : List ℕ)
-    → NextEntered b tower nodes area i a y n after → PairsFilled tower nodes area n → entries-size ≤ length after
-still-room b tower nodes area i a y n after entered filled = omega (arith, entered .size, filled .size)
+pub still-room : (b : Bool) (tower : Tower) (nodes : List ℕ) (wide : Bool) (area : List ℕ) (i a y n : ℕ) (after : List ℕ)
+    → NextEntered b tower nodes area i a y n after → PairsFilled tower nodes wide area n → entries-size ≤ length after
+still-room b tower nodes wide area i a y n after entered filled = omega (arith, entered .stays .size, filled .size)
+
+pub still-headed : (b : Bool) (tower : Tower) (nodes area : List ℕ) (i a y n : ℕ) (after : List ℕ)
+    → NextEntered b tower nodes area i a y n after → b ≡ true → Headed after n
+still-headed b tower nodes area i a y n after entered e = entered .headed e
 
 -- The number of a move fits.
 pub move-fits : (out : Place) (area : List ℕ) (n k : ℕ) (index : List ℕ) → k ≤ 2 → Noted out area n index → n ≤ 1000 → Fits w64 (out .at + k)
@@ -58,13 +59,14 @@ move-fits out area n k index few noted most = omega (arith, noted .inside, noted
 
 -- ---- the ways of `follow`
 
-module _ (tower : Tower) (nodes area : List ℕ) (i a n x : ℕ) (r : Reached) (at-r : r ≡ target-read (tower .target x a))
+module _ (tower : Tower) (nodes : List ℕ) (wide : Bool) (area : List ℕ) (i a n x : ℕ) (r : Reached) (at-r : r ≡ target-read (tower .target x a))
     (at-x : x ≡ entry-number area i) where
   -- The action is not enabled.
-  pub follow-not : (index : List ℕ) → r ≡ NotEnabled → PairsFilled tower nodes area n → Indexed area index n
-      → Followed (record { code = 0; met = n }) tower nodes area i a n area index
-  unfolding with-one pair-step bind move-of
-  follow-not index is filled indexed =
+  pub follow-not : (index : List ℕ) → r ≡ NotEnabled → PairsFilled tower nodes wide area n → Indexed area index n
+      → ((h : IsHeld nodes) → over-full tower (h .book) (pair-in nodes area i) ≡ false)
+      → ActionFollowed (record { code = 0; met = n }) tower nodes wide area i a n area index
+  unfolding with-one tried-step bind move-of
+  follow-not index is filled indexed spare =
       record {
         least = omega arith;
         most = omega arith;
@@ -72,72 +74,89 @@ module _ (tower : Tower) (nodes area : List ℕ) (i a n x : ℕ) (r : Reached) (
         indexed = indexed;
         kept = λ j l. refl;
         small = omega arith;
-        grown = λ h. sym (rw nowhere);
+        grown = λ h. sym (rw (pair-step-spare tower (h .book) (pair-in nodes area i) a (spare h), nowhere));
         says = λ h. moves-not nowhere;
       }
     where
       nowhere : tower .target (pair-in nodes area i .state) a ≡ none
-      nowhere = ap (λ z. tower .target z a) (state-of-pair nodes area i ∙ sym at-x) ∙ none-reached (tower .target x a) r at-r is
+      nowhere = ap (λ (z : ℕ). tower .target z a) (state-of-pair nodes area i ∙ sym at-x) ∙ none-reached (tower .target x a) r at-r is
 
-  -- It is.
-  pub follow-goes : (y : ℕ) → r ≡ State y → tower .target (entry-number area i) a ≡ some y
-  follow-goes y is = ap (λ z. tower .target z a) (sym at-x) ∙ state-reached (tower .target x a) r y at-r is
+-- It is.
+pub follow-goes : (tower : Tower) (area : List ℕ) (i a x y : ℕ) (r : Reached) → r ≡ target-read (tower .target x a) → x ≡ entry-number area i
+    → r ≡ State y → tower .target (entry-number area i) a ≡ some y
+follow-goes tower area i a x y r at-r at-x is = ap (λ (z : ℕ). tower .target z a) (sym at-x) ∙ state-reached (tower .target x a) r y at-r is
 
 -- ---- the ways of `lead`
 
-module _ (tower : Tower) (nodes area : List ℕ) (i a n y number : ℕ) (b : Bool) (after : List ℕ)
-    (entered : NextEntered b tower nodes area i a number n after) (goes : tower .target (entry-number area i) a ≡ some y)
-    (filled : PairsFilled tower nodes area n) where
-  leads : tower .target (pair-in nodes area i .state) a ≡ some y
-  leads = ap (λ z. tower .target z a) (state-of-pair nodes area i) ∙ goes
+-- Alternatives that are left make a pair.
+pair-at-left : (y : ℕ) (ps : List Pending) → 0 < length ps → pair-at y (these ps) ≡ some (record { state = y; pending = ps })
+unfolding pair-at
+pair-at-left y [] l = absurd (omega arith)
+pair-at-left y (p ∷ ps) l = refl
+
+module _ (tower table : List ℕ) (rows : Bool) (nodes : List ℕ) (wide : Bool) (area : List ℕ) (n : ℕ) (index graph room : List ℕ) (i a y : ℕ) (b : Bool)
+    (after : List ℕ) (entered : NextEntered b (walked tower table rows) nodes area i a y n after)
+    (was : Searching tower table rows nodes wide area n index graph room i (i + 1) (16 * i + a))
+    (goes : walked tower table rows .target (entry-number area i) a ≡ some y) where
+  leads : walked tower table rows .target (pair-in nodes area i .state) a ≡ some y
+  leads = ap (λ (z : ℕ). walked tower table rows .target z a) (state-of-pair nodes area i) ∙ goes
 
   -- the pair that it leads to
-  step-pair : (h : IsHeld nodes) → pair-step tower (h .book) (pair-in nodes area i) a ≡ pair-at y (outcome b (entry-cells nodes after n))
-  unfolding pair-step bind pair-of
-  step-pair h = rw (leads, entered .says h)
+  step-pair : (h : IsHeld nodes)
+      → pair-step (walked tower table rows) (h .book) (pair-in nodes area i) a
+      ≡ pair-at y (alternatives-by (walked tower table rows) (h .book) (pair-in nodes area i) a)
+  step-pair h =
+      pair-step-spare (walked tower table rows) (h .book) (pair-in nodes area i) a (was .spare h)
+      ∙ tried-step-at (walked tower table rows) (h .book) (pair-in nodes area i) a y leads
 
-  still-filled : PairsFilled tower nodes after n
-  still-filled =
-      record {
-        size = omega (arith, filled .size, entered .size);
-        states = λ j l. rw (entered .kept j l) (filled .states j l);
-        blank = entered .blank (filled .blank);
-      }
+  still-filled : PairsFilled (walked tower table rows) nodes wide after n
+  still-filled = filled-stays (walked tower table rows) nodes wide area n after (was .turning .filled) (was .turning .light) (entered .stays)
 
   -- The step is broken.
-  pub lead-broken : (index : List ℕ) → b ≡ false → Indexed area index n → Followed (record { code = 1; met = n }) tower nodes area i a n after index
+  pub lead-broken : b ≡ false → ActionFollowed (record { code = 1; met = n }) (walked tower table rows) nodes wide area i a n after index
   unfolding with-one move-of
-  lead-broken index f indexed =
+  lead-broken f =
       record {
         least = omega arith;
         most = omega arith;
         filled = still-filled;
-        indexed = still-indexed b tower nodes area i a number n after index entered indexed;
-        kept = entered .kept;
+        indexed = stays-indexed nodes area n after index (entered .stays) (was .turning .indexed);
+        kept = entered .stays .kept;
         small = omega arith;
-        grown = λ h. pairs-same nodes after area n (entered .kept) ∙ sym (rw (nothing h));
+        grown = λ h. pairs-same nodes after area n (entered .stays .kept) ∙ sym (rw (nothing h));
         says = λ h. moves-broken y leads (nothing h);
       }
     where
-      none-at : (c : Bool) → c ≡ false → pair-at y (outcome c (entry-cells nodes after n)) ≡ none
-      none-at c e = unfold pair-at outcome in rw e
-
-      nothing : (h : IsHeld nodes) → pair-step tower (h .book) (pair-in nodes area i) a ≡ none
-      nothing h = step-pair h ∙ none-at b f
+      nothing : (h : IsHeld nodes) → pair-step (walked tower table rows) (h .book) (pair-in nodes area i) a ≡ none
+      nothing h = unfold pair-at in (step-pair h ∙ ap (pair-at y) (entered .says h .none-left f))
 
   -- It leads to entry n.
-  module _ (later : List ℕ) (out : Place) (f : b ≡ true) (same : number ≡ y) (noted : Noted out after n later) (low : i < n) (most : n ≤ 1000)
-      (bounds : Searchable tower) where
-    leads-here : (h : IsHeld nodes) → pair-step tower (h .book) (pair-in nodes area i) a ≡ some (pair-in nodes after n)
-    leads-here h = step-pair h ∙ some-at b f
-      where
-        some-at : (c : Bool) → c ≡ true → pair-at y (outcome c (entry-cells nodes after n)) ≡ some (pair-in nodes after n)
-        some-at c e =
-            unfold pair-at outcome pair-of in
-            (ap (λ z. pair-at y (outcome z (entry-cells nodes after n))) e
-            ∙ ap (λ z. some (record { state = z; pending = pending-of (entry-cells nodes after n) })) (sym (entered .number-is f ∙ same)))
+  module _ (later : List ℕ) (out : Place) (noted : Noted out after n later) (f : b ≡ true) where
+    holds : (h : IsHeld nodes) → Holds nodes y n (alternatives-by (walked tower table rows) (h .book) (pair-in nodes area i) a) after
+    holds h = entered .says h .holds f
 
-    pub lead-to : Followed (record { code = out .at + 2; met = out .met }) tower nodes area i a n after later
+    some-left : 0 < length (entry-set nodes after n)
+    some-left = omega (arith, entry-set-length nodes after n, entered .headed f .rising n (omega arith))
+
+    leads-here : (h : IsHeld nodes) → pair-step (walked tower table rows) (h .book) (pair-in nodes area i) a ≡ some (pair-in nodes after n)
+    leads-here h =
+        step-pair h ∙ ap (pair-at y) (holds h .set-is) ∙ pair-at-left y (entry-set nodes after n) some-left
+        ∙ ap some (pair-is h)
+      where
+        pair-is : (h : IsHeld nodes) → record { state = y; pending = entry-set nodes after n } ≡ pair-in nodes after n
+        pair-is h =
+            ap₂ (λ s ps. record { state = s; pending = ps }) (sym (state-of-pair nodes after n ∙ holds h .number-is)) (pending-of-pair nodes after n h)
+
+    new-single : wide ≡ false → entry-first after (n + 1) ≡ entry-first after n + 1
+    new-single e =
+        let h = was .turning .world .held in
+        let one = one-left (walked tower table rows) (h .book) (was .turning .width .says e h) (pair-in nodes area i) a (entry-set nodes after n)
+        (entry-single (walked tower table rows) nodes wide area n i e (was .turning .filled) (was .turning .low)) (holds h .set-is) some-left in
+        holds-first nodes y n (alternatives-by (walked tower table rows) (h .book) (pair-in nodes area i) a) after (holds h) (entry-set nodes after n)
+        (holds h .set-is)
+        ∙ ap (λ (k : ℕ). entry-first after n + k) one
+
+    pub lead-to : ActionFollowed (record { code = out .at + 2; met = out .met }) (walked tower table rows) nodes wide area i a n after later
     lead-to =
         record {
           least = noted .least;
@@ -149,18 +168,25 @@ module _ (tower : Tower) (nodes area : List ℕ) (i a n y number : ℕ) (b : Boo
                   | yes k ↦ still-filled .states j k
                   | no k ↦ (
                       let e : j ≡ n = omega (arith, noted .most) in
-                      rw (e, entered .number-is f, same) (bounds .targets (entry-number area i) a y (filled .states i low) goes))
+                      rw (e, holds (was .turning .world .held) .number-is)
+                      (was .turning .world .files .search .targets (entry-number area i) a y (was .turning .filled .states i (was .turning .low)) goes))
+                ];
+                start = still-filled .start;
+                rising = λ j l. entered .headed f .rising j (omega (arith, noted .most));
+                single = λ e j l. elim (decLt j n) [
+                  | yes k ↦ still-filled .single e j k
+                  | no k ↦ (let same : j ≡ n = omega (arith, noted .most) in rw same (new-single e))
                 ];
                 blank = still-filled .blank;
               };
           indexed = noted .indexed;
-          kept = entered .kept;
-          small = omega (arith, noted .inside, noted .most);
+          kept = entered .stays .kept;
+          small = omega (arith, noted .inside, noted .most, was .turning .most);
           grown = λ h.
               noted-pairs nodes h after n later out (still-filled .blank) noted
-              ∙ ap (λ z. with-one same-pair z (some (pair-in nodes after n))) (pairs-same nodes after area n (entered .kept))
+              ∙ ap (λ z. with-one same-pair z (some (pair-in nodes after n))) (pairs-same nodes after area n (entered .stays .kept))
               ∙ ap (with-one same-pair (pairs-of nodes area n)) (sym (leads-here h));
-          says = λ h. subst (λ z. SaysMove tower (h .book) nodes after (out .met) (pair-in nodes area i) a z) (sym (move-more (out .at)))
+          says = λ h. subst (λ z. SaysMove (walked tower table rows) (h .book) nodes after (out .met) (pair-in nodes area i) a z) (sym (move-more (out .at)))
               (moves-to (out .at) (noted .inside)
               (leads-here h ∙ ap some (ap (pair-of nodes) (sym (noted .equal)))));
         }
@@ -177,7 +203,7 @@ pair-room-below i n low most = omega arith
 pub move-room-below : (tower : Tower) (a : ℕ) → Searchable tower → a < tower .actions → a < 16
 move-room-below tower a bounds listed = omega (arith, bounds .actions-most)
 
-cell-inside : (i a : ℕ) (graph : List ℕ) → i < 1000 → a < 16 → graph-size ≤ length graph → cell i a + 1 < length graph
+pub cell-inside : (i a : ℕ) (graph : List ℕ) → i < 1000 → a < 16 → graph-size ≤ length graph → cell i a + 1 < length graph
 unfolding cell
 cell-inside i a graph l k room = omega arith
 
@@ -190,8 +216,8 @@ says-still tower book nodes area n v a after m l kept _ (moves-broken y e f) = m
 says-still tower book nodes area n v a after m l kept _ (moves-to j k e) =
     moves-to j (omega arith) (e ∙ ap (λ z. some (pair-of nodes z)) (sym (kept j k)))
 
-module _ (tower : Tower) (nodes area : List ℕ) (i a n : ℕ) (graph after index after-graph : List ℕ) (way : Way)
-    (followed : Followed way tower nodes area i a n after index) (written : after-graph ≡ stored graph (cell i a) (way .code))
+module _ (tower : Tower) (nodes : List ℕ) (wide : Bool) (area : List ℕ) (i a n : ℕ) (graph after index after-graph : List ℕ) (way : Way)
+    (followed : ActionFollowed way tower nodes wide area i a n after index) (written : after-graph ≡ stored graph (cell i a) (way .code))
     (right : RightGraph tower nodes area n graph (i + 1) (16 * i + a)) (bounds : Searchable tower) (listed : a < tower .actions) (low : i < n)
     (most : n ≤ 1000) (room : graph-size ≤ length graph) where
   -- a move says of its pair what it said of it before
@@ -223,7 +249,7 @@ module _ (tower : Tower) (nodes area : List ℕ) (i a n : ℕ) (graph after inde
       rw written
       (stored-beside graph (2 * (16 * i + a)) (way .code) (32000 + 2 * j) (inr (omega (arith, move-room-below tower a bounds listed))))
 
-  pub step-done : Stepped (way .met) tower nodes area i a n after index after-graph
+  pub step-done : Stepped (way .met) tower nodes wide area i a n after index after-graph
   step-done =
       record {
         least = followed .least;
@@ -234,7 +260,7 @@ module _ (tower : Tower) (nodes area : List ℕ) (i a n : ℕ) (graph after inde
         grown = followed .grown;
         right =
             record {
-              states = λ j l. state-beside j ∙ right .states j l ∙ ap (λ (z : List ℕ). number-at 2 z 0) (sym (followed .kept j (omega arith)));
+              states = λ j l. state-beside j ∙ right .states j l ∙ sym (equal-numbers after area j j (followed .kept j (omega arith)));
               says = λ h j b l k. said h j b l k (decLt (16 * j + b) (16 * i + a));
             };
       }

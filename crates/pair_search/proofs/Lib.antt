@@ -1,7 +1,8 @@
-pub mod Walking
-pub mod Bridge
 mod PairEntries
+mod Turns
 mod Entering
 mod Following
 mod Growing
+mod Blocking
 mod Exploring
+pub mod Ended

@@ -1,28 +1,28 @@
 // The search for pairs (01, 'What is pending', pairs): the pairs that are met from the start, numbered
 // as they are met, and where each action leads from each of them. They are those of a tower, or those
-// of a table for it: rows with what is pending (specs/Walked.antt). A pair is an entry of the lent
-// area: its state, then what is pending (specs/Explored.antt).
+// of a table for it: rows with what is pending (crates/pair_trial). A pair is an entry of the lent area:
+// its state and its alternatives (specs/Explored.antt). Where an or of the book has two timed sides a
+// pair is first tried by every action, since an over-full pair is stepped from by none.
 ghost use Prim.Native.Nat.{_+_, _*_, _<_, _≤_};
 ghost use mathlib.Core.Path.{_≡_};
-ghost use lib.ListN.{length};
 ghost use mathlib.Core.Bool.{true};
 ghost use mathlib.Core.Option.{some};
+ghost use lib.ListN.{length};
 ghost use Rattle.logic.specs.Tower.{FitTower, tower-of};
-ghost use Rattle.logic.specs.Tables.{move};
-ghost use Rattle.reading.specs.TableReading.{rows-of, laid-out, table-of};
-ghost use Rattle.book_progression.specs.NodeBytes.{IsHeld};
-ghost use Rattle.file_tower.specs.TowerRead.{target-read};
-ghost use Rattle.area_index.specs.Entries.{most-entries, entries-size, index-size};
-ghost use Rattle.pair_entries.specs.PendingEntries.{entry-number};
+ghost use Rattle.alternatives.specs.Alternatives.{these};
+ghost use Rattle.set_index.specs.Entries.{entries-size, index-size, entry-number};
+ghost use Rattle.book_alternatives.specs.Offers.{sets-size};
+ghost use Rattle.pair_sets.specs.PairSets.{Entered, Open};
+ghost use Rattle.pair_trial.specs.Walked.{walked, Files, Walkable};
+ghost use Rattle.pair_trial.specs.Trial.{room-size, waiting-set};
 ghost use Rattle.pair_graph.specs.Steps.{graph-size, pair-room, action-room};
-ghost use Rattle.pair_search.specs.Walked.{walked, tower-state, Files, Walkable};
-ghost use Rattle.pair_search.specs.Explored.{PairsFilled, RightGraph, Searching, Earlier, MoveLeads, TakenOver, NextEntered, Followed, Stepped, Grown, SearchBegun, Explored};
-use file_table::Target;
+ghost use Rattle.pair_search.specs.Explored.{blocked-number, WideRight, Turning, Searching, Blocked, Earlier, MoveLeads, TakenOver, Single, RoomFor, NextEntered, ActionFollowed, Stepped, Grown, Turned, SearchBegun, Explored};
 use file_tower::Reached;
 
-// How the search ends: over 1,000 pairs, or so many.
+// How the search ends: over 1,000 alternatives in all pairs, a pair that gives over 16, or so many pairs.
 pub enum Found {
     TooMany,
+    TooWide,
     Met(usize),
 }
 
@@ -32,12 +32,17 @@ struct Way {
     met: usize,
 }
 
-// The most pairs.
+// What one turn of the search leaves: how many pairs are met, and whether the pair, or some pair before
+// it, was over-full.
+struct Round {
+    met: usize,
+    over: bool,
+}
+
+// The most alternatives in all pairs.
 const MOST: usize = 1000;
 
-// ---- the tower that is searched
-
-// Its start: the tower's start state, or row 0.
+// Where the search starts: the tower's start state, or row 0.
 fn start(tower: &[u8], table: &[u8], rows: bool) -> usize
     requires { ⌜ Files (now tower) (now table) rows ⌝ }
     ensures { λ r. ⌜ r ≡ walked (now (tower .entry)) (now (table .entry)) rows .start ⌝ }
@@ -46,44 +51,6 @@ fn start(tower: &[u8], table: &[u8], rows: bool) -> usize
         return 0;
     }
     file_tower::start(tower)
-}
-
-// The tower's state that state x of it stands for.
-fn tower_state(tower: &[u8], table: &[u8], rows: bool, x: usize) -> usize
-    requires { ⌜ Files (now tower) (now table) rows ⌝ }
-    requires { ⌜ x < walked (now tower) (now table) rows .states ⌝ }
-    ensures { λ r. ⌜ r ≡ tower-state (now (table .entry)) rows x ⌝ }
-{
-    if rows {
-        return file_table::row_state(table, x);
-    }
-    x
-}
-
-// Where action a leads from row x of the table.
-fn row_target(table: &[u8], x: usize, a: usize) -> Reached
-    requires { ⌜ laid-out (now table) ≡ true ⌝ }
-    requires { ⌜ x < rows-of (now table) ⌝ }
-    ensures { λ r. ⌜ r ≡ target-read (move (table-of (now (table .entry))) x a) ⌝ }
-{
-    let reached = file_table::step_to(table, x, a);
-    match reached {
-        Target::Row(y) => Reached::State(y),
-        Target::Nothing => Reached::NotEnabled,
-    }
-}
-
-// Where action a leads from state x of it.
-fn target(tower: &[u8], table: &[u8], rows: bool, x: usize, a: usize) -> Reached
-    requires { ⌜ Files (now tower) (now table) rows ⌝ }
-    requires { ⌜ x < walked (now tower) (now table) rows .states ⌝ }
-    requires { ⌜ a < walked (now tower) (now table) rows .actions ⌝ }
-    ensures { λ r. ⌜ r ≡ target-read (walked (now (tower .entry)) (now (table .entry)) rows .target x a) ⌝ }
-{
-    if rows {
-        return row_target(table, x, a);
-    }
-    file_tower::target(tower, x, a)
 }
 
 // ---- what is pending behind a step
@@ -124,13 +91,11 @@ fn take_over(
     number: usize,
     n: usize,
 ) -> bool
-    requires { ⌜ MoveLeads (now graph) i b n ⌝ }
-    requires { ⌜ IsHeld (now nodes) ⌝ }
-    requires { ⌜ entries-size ≤ length (now pairs) ⌝ }
+    requires { ⌜ MoveLeads (now graph) (now pairs) i b n ⌝ }
+    requires { ⌜ Open (now nodes) (now pairs) n ⌝ }
     requires { ⌜ graph-size ≤ length (now graph) ⌝ }
     requires { ⌜ i < pair-room ⌝ }
     requires { ⌜ b < action-room ⌝ }
-    requires { ⌜ n ≤ most-entries ⌝ }
     requires { ⌜ number < 65536 ⌝ }
     ensures { λ r. ⌜ TakenOver (now (nodes .entry)) (now (graph .entry)) (now (pairs .entry)) i b number n (now (pairs .exit)) r ⌝ }
 {
@@ -138,14 +103,38 @@ fn take_over(
     if m < pair_graph::FIRST_PAIR {
         return false;
     }
-    pair_entries::copy(nodes, pairs, m - pair_graph::FIRST_PAIR, number, n);
+    pair_sets::copy(nodes, pairs, m - pair_graph::FIRST_PAIR, number, n);
     true
 }
 
-// Entry n gets the number, and what is pending behind the step of action a from pair i. False if the
-// step is broken. What is pending there depends on the length of the step and not on the action: so
-// progression is asked once for each length.
-fn enter(
+// Entry n gets the number, and what waits of action a. False if the step is broken.
+fn enter_waiting(
+    nodes: &[u8],
+    pairs: &mut [u8],
+    room: &[u8],
+    a: usize,
+    number: usize,
+    n: usize,
+) -> bool
+    requires { ⌜ Open (now nodes) (now pairs) n ⌝ }
+    requires { ⌜ RoomFor (now room) a ⌝ }
+    requires { ⌜ number < 65536 ⌝ }
+    ensures { λ b. ⌜ Entered b (now (nodes .entry)) (now (pairs .entry)) number n (these (waiting-set (now (nodes .entry)) (now (room .entry)) a)) (now (pairs .exit)) ⌝ }
+{
+    let count = room[pair_trial::COUNTS + a] as usize;
+    if count == 0 {
+        return false;
+    }
+    let place = room[pair_trial::PLACES + a] as usize;
+    let at = pair_trial::WAITING + pair_trial::SET * place;
+    pair_sets::take(nodes, pairs, room, at, count, number, n);
+    true
+}
+
+// Entry n gets the number, and what is pending behind the step of action a from pair i, where no or of
+// the book has two timed sides. False if the step is broken. What is pending there depends on the length
+// of the step and not on the action: so progression is asked once for each length.
+fn enter_single(
     tower: &[u8],
     table: &[u8],
     rows: bool,
@@ -157,24 +146,81 @@ fn enter(
     number: usize,
     n: usize,
 ) -> bool
-    requires { ⌜ Walkable (now tower) (now table) rows (now nodes) ⌝ }
-    requires { ⌜ PairsFilled (walked (now tower) (now table) rows) (now nodes) (now pairs) n ⌝ }
-    requires { ⌜ RightGraph (walked (now tower) (now table) rows) (now nodes) (now pairs) n (now graph) (i + 1) (16 * i + a) ⌝ }
-    requires { ⌜ graph-size ≤ length (now graph) ⌝ }
-    requires { ⌜ i < n ⌝ }
-    requires { ⌜ n ≤ most-entries ⌝ }
-    requires { ⌜ a < walked (now tower) (now table) rows .actions ⌝ }
+    requires { ⌜ Single (now tower) (now table) rows (now nodes) (now pairs) n (now graph) i a ⌝ }
     requires { ⌜ number < 65536 ⌝ }
     ensures { λ b. ⌜ NextEntered b (walked (now (tower .entry)) (now (table .entry)) rows) (now (nodes .entry)) (now (pairs .entry)) i a number n (now (pairs .exit)) ⌝ }
 {
-    let x = tower_state(tower, table, rows, pair_entries::number(pairs, i));
-    let b = earlier(tower, graph, x, i, a);
+    let x = set_index::number(pairs, i);
+    let z = pair_trial::tower_state(tower, table, rows, x);
+    let b = earlier(tower, graph, z, i, a);
     if b < a {
         return take_over(nodes, pairs, graph, i, b, number, n);
     }
-    let d = file_tower::step_length(tower, x, a);
-    let mask = file_tower::mask(tower, x);
-    pair_entries::follow(nodes, mask, d, pairs, i, number, n)
+    let d = file_tower::step_length(tower, z, a);
+    let mask = file_tower::mask(tower, z);
+    pair_sets::follow(nodes, mask, d, pairs, i, number, n)
+}
+
+// Entry n gets the number, and what is pending behind the step of action a from pair i to the state of
+// that number. False if the step is broken.
+fn enter(
+    tower: &[u8],
+    table: &[u8],
+    rows: bool,
+    nodes: &[u8],
+    wide: bool,
+    pairs: &mut [u8],
+    index: &[u8],
+    graph: &[u8],
+    room: &[u8],
+    i: usize,
+    a: usize,
+    number: usize,
+    n: usize,
+) -> bool
+    requires { ⌜ Searching (now tower) (now table) rows (now nodes) wide (now pairs) n (now index) (now graph) (now room) i (i + 1) (16 * i + a) ⌝ }
+    requires { ⌜ a < walked (now tower) (now table) rows .actions ⌝ }
+    requires { ⌜ walked (now tower) (now table) rows .target (entry-number (now pairs) i) a ≡ some number ⌝ }
+    ensures { λ b. ⌜ NextEntered b (walked (now (tower .entry)) (now (table .entry)) rows) (now (nodes .entry)) (now (pairs .entry)) i a number n (now (pairs .exit)) ⌝ }
+{
+    if wide {
+        return enter_waiting(nodes, pairs, room, a, number, n);
+    }
+    enter_single(tower, table, rows, nodes, pairs, graph, i, a, number, n)
+}
+
+// ---- a pair that is over-full
+
+// The number of the move of action a from such a pair, of state x: it is stepped from by no action.
+fn blocked_code(tower: &[u8], table: &[u8], rows: bool, x: usize, a: usize) -> usize
+    requires { ⌜ Files (now tower) (now table) rows ⌝ }
+    requires { ⌜ x < walked (now tower) (now table) rows .states ⌝ }
+    requires { ⌜ a < walked (now tower) (now table) rows .actions ⌝ }
+    ensures { λ r. ⌜ r ≡ blocked-number (walked (now (tower .entry)) (now (table .entry)) rows .target x a) ⌝ }
+{
+    if pair_trial::is_enabled(tower, table, rows, x, a) {
+        return pair_graph::BROKEN;
+    }
+    pair_graph::NOT_ENABLED
+}
+
+// Writes the moves of such a pair.
+fn block(tower: &[u8], table: &[u8], rows: bool, pairs: &[u8], graph: &mut [u8], i: usize)
+    requires { ⌜ Files (now tower) (now table) rows ⌝ }
+    requires { ⌜ entry-number (now pairs) i < walked (now tower) (now table) rows .states ⌝ }
+    requires { ⌜ entries-size ≤ length (now pairs) ⌝ }
+    requires { ⌜ graph-size ≤ length (now graph) ⌝ }
+    requires { ⌜ i < pair-room ⌝ }
+    ensures { λ _. ⌜ Blocked (walked (now (tower .entry)) (now (table .entry)) rows) (now (pairs .entry)) i (walked (now (tower .entry)) (now (table .entry)) rows .actions) (now (graph .entry)) (now (graph .exit)) ⌝ }
+{
+    let x = set_index::number(pairs, i);
+    let actions = file_tower::actions(tower);
+    let mut a = 0;
+    while a < actions {
+        let code = blocked_code(tower, table, rows, x, a);
+        pair_graph::put_move(graph, i, a, code);
+        a += 1;
+    }
 }
 
 // ---- the search
@@ -186,26 +232,42 @@ fn lead(
     table: &[u8],
     rows: bool,
     nodes: &[u8],
+    wide: bool,
     pairs: &mut [u8],
     index: &mut [u8],
     graph: &[u8],
+    room: &[u8],
     i: usize,
     a: usize,
     y: usize,
     n: usize,
 ) -> Way
-    requires { ⌜ Searching (now tower) (now table) rows (now nodes) (now pairs) n (now index) (now graph) i (i + 1) (16 * i + a) ⌝ }
+    requires { ⌜ Searching (now tower) (now table) rows (now nodes) wide (now pairs) n (now index) (now graph) (now room) i (i + 1) (16 * i + a) ⌝ }
     requires { ⌜ a < walked (now tower) (now table) rows .actions ⌝ }
     requires { ⌜ walked (now tower) (now table) rows .target (entry-number (now pairs) i) a ≡ some y ⌝ }
-    ensures { λ way. ⌜ Followed way (walked (now (tower .entry)) (now (table .entry)) rows) (now (nodes .entry)) (now (pairs .entry)) i a n (now (pairs .exit)) (now (index .exit)) ⌝ }
+    ensures { λ way. ⌜ ActionFollowed way (walked (now (tower .entry)) (now (table .entry)) rows) (now (nodes .entry)) wide (now (pairs .entry)) i a n (now (pairs .exit)) (now (index .exit)) ⌝ }
 {
-    if !enter(tower, table, rows, nodes, pairs, graph, i, a, y, n) {
+    if !enter(
+        tower,
+        table,
+        rows,
+        nodes,
+        wide,
+        pairs,
+        index,
+        graph,
+        room,
+        i,
+        a,
+        y,
+        n,
+    ) {
         return Way {
             code: pair_graph::BROKEN,
             met: n,
         };
     }
-    let place = pair_entries::note(pairs, index, n);
+    let place = pair_sets::note(pairs, index, n);
     Way {
         code: place.at + pair_graph::FIRST_PAIR,
         met: place.met,
@@ -218,20 +280,37 @@ fn follow(
     table: &[u8],
     rows: bool,
     nodes: &[u8],
+    wide: bool,
     pairs: &mut [u8],
     index: &mut [u8],
     graph: &[u8],
+    room: &[u8],
     i: usize,
     a: usize,
     n: usize,
 ) -> Way
-    requires { ⌜ Searching (now tower) (now table) rows (now nodes) (now pairs) n (now index) (now graph) i (i + 1) (16 * i + a) ⌝ }
+    requires { ⌜ Searching (now tower) (now table) rows (now nodes) wide (now pairs) n (now index) (now graph) (now room) i (i + 1) (16 * i + a) ⌝ }
     requires { ⌜ a < walked (now tower) (now table) rows .actions ⌝ }
-    ensures { λ way. ⌜ Followed way (walked (now (tower .entry)) (now (table .entry)) rows) (now (nodes .entry)) (now (pairs .entry)) i a n (now (pairs .exit)) (now (index .exit)) ⌝ }
+    ensures { λ way. ⌜ ActionFollowed way (walked (now (tower .entry)) (now (table .entry)) rows) (now (nodes .entry)) wide (now (pairs .entry)) i a n (now (pairs .exit)) (now (index .exit)) ⌝ }
 {
-    let reached = target(tower, table, rows, pair_entries::number(pairs, i), a);
+    let x = set_index::number(pairs, i);
+    let reached = pair_trial::target(tower, table, rows, x, a);
     match reached {
-        Reached::State(y) => lead(tower, table, rows, nodes, pairs, index, graph, i, a, y, n),
+        Reached::State(y) => lead(
+            tower,
+            table,
+            rows,
+            nodes,
+            wide,
+            pairs,
+            index,
+            graph,
+            room,
+            i,
+            a,
+            y,
+            n,
+        ),
         Reached::NotEnabled => Way {
             code: pair_graph::NOT_ENABLED,
             met: n,
@@ -245,36 +324,53 @@ fn step(
     table: &[u8],
     rows: bool,
     nodes: &[u8],
+    wide: bool,
     pairs: &mut [u8],
     index: &mut [u8],
     graph: &mut [u8],
+    room: &[u8],
     i: usize,
     a: usize,
     n: usize,
 ) -> usize
-    requires { ⌜ Searching (now tower) (now table) rows (now nodes) (now pairs) n (now index) (now graph) i (i + 1) (16 * i + a) ⌝ }
+    requires { ⌜ Searching (now tower) (now table) rows (now nodes) wide (now pairs) n (now index) (now graph) (now room) i (i + 1) (16 * i + a) ⌝ }
     requires { ⌜ a < walked (now tower) (now table) rows .actions ⌝ }
-    ensures { λ m. ⌜ Stepped m (walked (now (tower .entry)) (now (table .entry)) rows) (now (nodes .entry)) (now (pairs .entry)) i a n (now (pairs .exit)) (now (index .exit)) (now (graph .exit)) ⌝ }
+    ensures { λ m. ⌜ Stepped m (walked (now (tower .entry)) (now (table .entry)) rows) (now (nodes .entry)) wide (now (pairs .entry)) i a n (now (pairs .exit)) (now (index .exit)) (now (graph .exit)) ⌝ }
 {
-    let way = follow(tower, table, rows, nodes, pairs, index, graph, i, a, n);
+    let way = follow(
+        tower,
+        table,
+        rows,
+        nodes,
+        wide,
+        pairs,
+        index,
+        graph,
+        room,
+        i,
+        a,
+        n,
+    );
     pair_graph::put_move(graph, i, a, way.code);
     way.met
 }
 
-// Follows every action from pair i. Where the pairs become too many it stops with 1,001 of them.
+// Follows every action from pair i. It stops where the pairs count over 1,000.
 fn follow_all(
     tower: &[u8],
     table: &[u8],
     rows: bool,
     nodes: &[u8],
+    wide: bool,
     pairs: &mut [u8],
     index: &mut [u8],
     graph: &mut [u8],
+    room: &[u8],
     i: usize,
     met: usize,
 ) -> usize
-    requires { ⌜ Searching (now tower) (now table) rows (now nodes) (now pairs) met (now index) (now graph) i (i + 1) (16 * i) ⌝ }
-    ensures { λ m. ⌜ Grown m (walked (now (tower .entry)) (now (table .entry)) rows) (now (nodes .entry)) (now (pairs .entry)) i met (now (pairs .exit)) (now (index .exit)) (now (graph .exit)) ⌝ }
+    requires { ⌜ Searching (now tower) (now table) rows (now nodes) wide (now pairs) met (now index) (now graph) (now room) i (i + 1) (16 * i) ⌝ }
+    ensures { λ m. ⌜ Grown m (walked (now (tower .entry)) (now (table .entry)) rows) (now (nodes .entry)) wide (now (pairs .entry)) i met (now (pairs .exit)) (now (index .exit)) (now (graph .exit)) ⌝ }
 {
     let actions = file_tower::actions(tower);
     let mut a = 0;
@@ -282,8 +378,21 @@ fn follow_all(
     while a < actions {
         let at = a;
         a += 1;
-        n = step(tower, table, rows, nodes, pairs, index, graph, i, at, n);
-        if MOST < n {
+        n = step(
+            tower,
+            table,
+            rows,
+            nodes,
+            wide,
+            pairs,
+            index,
+            graph,
+            room,
+            i,
+            at,
+            n,
+        );
+        if MOST < set_index::first(pairs, n) {
             return n;
         }
     }
@@ -296,44 +405,183 @@ fn expand(
     table: &[u8],
     rows: bool,
     nodes: &[u8],
+    wide: bool,
     pairs: &mut [u8],
     index: &mut [u8],
     graph: &mut [u8],
+    room: &[u8],
     i: usize,
     met: usize,
 ) -> usize
-    requires { ⌜ Searching (now tower) (now table) rows (now nodes) (now pairs) met (now index) (now graph) i i (16 * i) ⌝ }
-    ensures { λ m. ⌜ Grown m (walked (now (tower .entry)) (now (table .entry)) rows) (now (nodes .entry)) (now (pairs .entry)) i met (now (pairs .exit)) (now (index .exit)) (now (graph .exit)) ⌝ }
+    requires { ⌜ Searching (now tower) (now table) rows (now nodes) wide (now pairs) met (now index) (now graph) (now room) i i (16 * i) ⌝ }
+    ensures { λ m. ⌜ Grown m (walked (now (tower .entry)) (now (table .entry)) rows) (now (nodes .entry)) wide (now (pairs .entry)) i met (now (pairs .exit)) (now (index .exit)) (now (graph .exit)) ⌝ }
 {
-    pair_graph::put_state(graph, i, pair_entries::number(pairs, i));
-    follow_all(tower, table, rows, nodes, pairs, index, graph, i, met)
+    pair_graph::put_state(graph, i, set_index::number(pairs, i));
+    follow_all(
+        tower,
+        table,
+        rows,
+        nodes,
+        wide,
+        pairs,
+        index,
+        graph,
+        room,
+        i,
+        met,
+    )
 }
 
-// Expands each pair in turn, from the first on.
+// Pair i is tried, and expanded unless it is over-full.
+fn turn_wide(
+    tower: &[u8],
+    table: &[u8],
+    rows: bool,
+    nodes: &[u8],
+    wide: bool,
+    pairs: &mut [u8],
+    index: &mut [u8],
+    graph: &mut [u8],
+    sets: &mut [u8],
+    room: &mut [u8],
+    i: usize,
+    met: usize,
+    over: bool,
+) -> Round
+    requires { ⌜ Turning (now tower) (now table) rows (now nodes) wide (now pairs) met (now index) (now graph) i i (16 * i) ⌝ }
+    requires { ⌜ sets-size ≤ length (now sets) ⌝ }
+    requires { ⌜ room-size ≤ length (now room) ⌝ }
+    requires { ⌜ wide ≡ true ⌝ }
+    ensures { λ done. ⌜ Turned done over (walked (now (tower .entry)) (now (table .entry)) rows) (now (nodes .entry)) wide (now (pairs .entry)) i met (now (pairs .exit)) (now (index .exit)) (now (graph .exit)) ⌝ }
+{
+    if pair_trial::try_all(tower, table, rows, nodes, pairs, sets, room, i) {
+        let x = set_index::number(pairs, i);
+        pair_graph::put_state(graph, i, x);
+        block(tower, table, rows, pairs, graph, i);
+        return Round { met, over: true };
+    }
+    let n = expand(
+        tower,
+        table,
+        rows,
+        nodes,
+        wide,
+        pairs,
+        index,
+        graph,
+        room,
+        i,
+        met,
+    );
+    Round { met: n, over }
+}
+
+// Pair i is tried, where that is needed, and expanded unless it is over-full. Some pair before it may
+// have been so.
+fn turn(
+    tower: &[u8],
+    table: &[u8],
+    rows: bool,
+    nodes: &[u8],
+    wide: bool,
+    pairs: &mut [u8],
+    index: &mut [u8],
+    graph: &mut [u8],
+    sets: &mut [u8],
+    room: &mut [u8],
+    i: usize,
+    met: usize,
+    over: bool,
+) -> Round
+    requires { ⌜ Turning (now tower) (now table) rows (now nodes) wide (now pairs) met (now index) (now graph) i i (16 * i) ⌝ }
+    requires { ⌜ sets-size ≤ length (now sets) ⌝ }
+    requires { ⌜ room-size ≤ length (now room) ⌝ }
+    ensures { λ done. ⌜ Turned done over (walked (now (tower .entry)) (now (table .entry)) rows) (now (nodes .entry)) wide (now (pairs .entry)) i met (now (pairs .exit)) (now (index .exit)) (now (graph .exit)) ⌝ }
+{
+    if wide {
+        return turn_wide(
+            tower,
+            table,
+            rows,
+            nodes,
+            wide,
+            pairs,
+            index,
+            graph,
+            sets,
+            room,
+            i,
+            met,
+            over,
+        );
+    }
+    let n = expand(
+        tower,
+        table,
+        rows,
+        nodes,
+        wide,
+        pairs,
+        index,
+        graph,
+        room,
+        i,
+        met,
+    );
+    Round { met: n, over }
+}
+
+// Each pair in turn, from the first on.
 fn explore_on(
     tower: &[u8],
     table: &[u8],
     rows: bool,
     nodes: &[u8],
+    wide: bool,
     pairs: &mut [u8],
     index: &mut [u8],
     graph: &mut [u8],
+    sets: &mut [u8],
+    room: &mut [u8],
 ) -> Found
     requires { ⌜ Walkable (now tower) (now table) rows (now nodes) ⌝ }
+    requires { ⌜ WideRight wide (now nodes) ⌝ }
     requires { ⌜ SearchBegun (walked (now tower) (now table) rows) (now nodes) (now pairs) (now index) ⌝ }
     requires { ⌜ index-size ≤ length (now index) ⌝ }
     requires { ⌜ graph-size ≤ length (now graph) ⌝ }
+    requires { ⌜ sets-size ≤ length (now sets) ⌝ }
+    requires { ⌜ room-size ≤ length (now room) ⌝ }
     ensures { λ r. ⌜ Explored r (walked (now (tower .entry)) (now (table .entry)) rows) (now (nodes .entry)) (now (graph .exit)) ⌝ }
 {
     let mut i = 0;
     let mut n = 1;
+    let mut over = false;
     while i < n {
         let at = i;
         i += 1;
-        n = expand(tower, table, rows, nodes, pairs, index, graph, at, n);
-        if MOST < n {
+        let done = turn(
+            tower,
+            table,
+            rows,
+            nodes,
+            wide,
+            pairs,
+            index,
+            graph,
+            sets,
+            room,
+            at,
+            n,
+            over,
+        );
+        n = done.met;
+        over = done.over;
+        if MOST < set_index::first(pairs, n) {
             return Found::TooMany;
         }
+    }
+    if over {
+        return Found::TooWide;
     }
     Found::Met(n)
 }
@@ -345,12 +593,14 @@ fn begin(tower: &[u8], table: &[u8], rows: bool, nodes: &[u8], pairs: &mut [u8],
     requires { ⌜ index-size ≤ length (now index) ⌝ }
     ensures { λ _. ⌜ SearchBegun (walked (now (tower .entry)) (now (table .entry)) rows) (now (nodes .entry)) (now (pairs .exit)) (now (index .exit)) ⌝ }
 {
-    pair_entries::begin(nodes, start(tower, table, rows), pairs);
-    area_index::begin(pairs, index);
+    let x = start(tower, table, rows);
+    pair_sets::begin(nodes, x, pairs);
+    set_index::begin(pairs, index);
 }
 
 // The pairs of a book that lies in `nodes` and of the tower; by rows, of the table for it. By the
-// tower's states, the table is not looked at. Leaves the graph of the pairs, unless they are too many.
+// tower's states, the table is not looked at. Leaves the graph of the pairs, unless they count too many
+// or one is over-full.
 pub fn explore(
     tower: &[u8],
     table: &[u8],
@@ -359,13 +609,29 @@ pub fn explore(
     pairs: &mut [u8],
     index: &mut [u8],
     graph: &mut [u8],
+    sets: &mut [u8],
+    room: &mut [u8],
 ) -> Found
     requires { ⌜ Walkable (now tower) (now table) rows (now nodes) ⌝ }
     requires { ⌜ entries-size ≤ length (now pairs) ⌝ }
     requires { ⌜ index-size ≤ length (now index) ⌝ }
     requires { ⌜ graph-size ≤ length (now graph) ⌝ }
+    requires { ⌜ sets-size ≤ length (now sets) ⌝ }
+    requires { ⌜ room-size ≤ length (now room) ⌝ }
     ensures { λ r. ⌜ Explored r (walked (now (tower .entry)) (now (table .entry)) rows) (now (nodes .entry)) (now (graph .exit)) ⌝ }
 {
+    let wide = book_alternatives::two_timed(nodes);
     begin(tower, table, rows, nodes, pairs, index);
-    explore_on(tower, table, rows, nodes, pairs, index, graph)
+    explore_on(
+        tower,
+        table,
+        rows,
+        nodes,
+        wide,
+        pairs,
+        index,
+        graph,
+        sets,
+        room,
+    )
 }

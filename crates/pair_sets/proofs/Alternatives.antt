@@ -5,7 +5,7 @@ use native.Mathlib.Nat.{add-zero}
 use native.Mathlib.Decide.{decLt}
 use mathlib.Core.Path.{_≡_, refl, sym, _∙_, ap, ap₂}
 use mathlib.Core.Logic.{_⊎_, inl, inr}
-use mathlib.Core.List.{List, [], _∷_, map, map-map}
+use mathlib.Core.List.{List, _∷_, map, map-map}
 use lib.ListN.{length, getD, take, drop}
 use lib.Seq.{getD-take, getD-drop, take-take, ext-getD}
 use Rattle.base.specs.Bytes.{byte-at}
@@ -19,7 +19,6 @@ use Rattle.book_progression.proofs.Cells.{pending-eq}
 use Rattle.book_progression.proofs.Areas.{part-length, part-at}
 use Rattle.alternative_bytes.specs.AlternativeBytes.{alternative-in}
 use Rattle.set_bytes.specs.SetBytes.{set-in}
-use Rattle.set_bytes.proofs.Sets.{set-same}
 use Rattle.set_index.specs.Entries.{alternative-bytes, alternatives-room, entries-size, alternative-at, alternatives-at}
 use Rattle.set_index.proofs.Laws.{alternative-same}
 use Rattle.pair_sets.specs.PairSets.{Blank}

@@ -3,7 +3,7 @@ use Prim.Native.Nat.{ℕ, zero, suc, _+_, _-_, _*_, _≤_, _<_}
 use native.Mathlib.Omega.{arith}
 use native.Mathlib.Numerals.{add-one}
 use mathlib.Core.Path.{_≡_, refl, sym, _∙_, ap, subst}
-use mathlib.Core.List.{List, [], _∷_, _++_, map, map-append, List·Memᴰ, Memᴰ·of-map}
+use mathlib.Core.List.{List, [], _∷_, map, map-append, List·Memᴰ, Memᴰ·of-map}
 use lib.ListN.{length, take, length-map}
 use Rattle.base.specs.Lists.{below, count-from, total}
 use Rattle.base.proofs.Lists.{length-below, mem-below, total-append}

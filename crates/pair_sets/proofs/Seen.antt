@@ -2,14 +2,13 @@
 use Prim.Native.Nat.{ℕ, _+_, _≤_, _<_}
 use native.Mathlib.Omega.{arith}
 use native.Mathlib.Decide.{decLt}
-use mathlib.Core.Path.{_≡_, refl, sym, _∙_, ap, subst}
+use mathlib.Core.Path.{_≡_, sym, _∙_, ap, subst}
 use mathlib.Core.Bool.{Bool, true, false}
 use mathlib.Core.List.{List, [], _∷_, _++_, map, map-append, Memᴰ·of-map}
 use lib.ListN.{length, getD, length-map, List·getD-map}
 use Rattle.base.specs.Choice.{pick}
 use Rattle.base.specs.Lists.{some-of, below}
 use Rattle.base.proofs.Lists.{some-of-mem, none-of, mem-getD, mem-below, false-by}
-use Rattle.pending.specs.Pending.{Pending}
 use Rattle.book_progression.specs.NodeBytes.{IsHeld}
 use Rattle.set_index.specs.Entries.{most-alternatives, entry-first, Entry, entry-at, entries-of, Heads, Headed, Indexed}
 use Rattle.set_index.proofs.Laws.{entry-number-is, entries-length, entries-at, entries-more, entries-same, headed-heads, headed-more, indexed-same}

@@ -2,9 +2,8 @@
 use Prim.Native.Nat.{ℕ, _+_, _-_, _*_, _≤_, _<_}
 use native.Mathlib.Omega.{arith}
 use mathlib.Core.Path.{_≡_, refl, sym, _∙_, ap}
-use mathlib.Core.Logic.{inl, inr}
+use mathlib.Core.Logic.{inl}
 use mathlib.Core.Bool.{Bool, true, false}
-use mathlib.Core.Option.{Option, none, some}
 use mathlib.Core.List.{List, [], _∷_}
 use lib.ListN.{length, replicate, length-replicate}
 use lib.Seq.{sets}
@@ -14,9 +13,9 @@ use Rattle.base.specs.Bytes.{byte-at, number-bytes}
 use Rattle.base.specs.Lists.{count-from, below, place-of}
 use Rattle.logic.specs.Book.{Book}
 use Rattle.logic.specs.declared.Tick.{Tick}
-use Rattle.pending.specs.Pending.{Pending, progressed}
-use Rattle.alternatives.specs.Sides.{OneSided}
-use Rattle.alternatives.specs.Alternatives.{Alternatives, these, broken}
+use Rattle.pending.specs.Pending.{Pending}
+use Rattle.logic.specs.Sides.{OneSided}
+use Rattle.alternatives.specs.Alternatives.{these}
 use Rattle.alternatives.specs.Progression.{progressed-set, first-set}
 use Rattle.alternatives.specs.OneAlternative.{single}
 use Rattle.alternatives.proofs.OneAlternative.{progressed-one}
@@ -29,7 +28,7 @@ use Rattle.set_bytes.specs.SetBytes.{set-in}
 use Rattle.area_bytes.proofs.Clearing.{cleared-byte}
 use Rattle.set_index.specs.Entries.{entries-size, entry-heads, entry-first, entry-at, entries-of, same-entry, Heads, Headed, Indexed}
 use Rattle.set_index.proofs.Laws.{first-rises, heads-first, headed-first, heads-cleared, found-equal, found-first}
-use Rattle.pair_sets.specs.PairSets.{entry-set, Blank, Stays, Holds, Entered, Followed, Noted, First, Open, Repeated, Taken}
+use Rattle.pair_sets.specs.PairSets.{entry-set, Stays, Holds, Entered, Followed, Noted, First, Open, Repeated, Taken}
 use Rattle.pair_sets.proofs.Entries.{entries-equal}
 use Rattle.pair_sets.proofs.Writing.{Filled, filled-one, filled-repeated, filled-taken, filled-stays, written-stays, written-headed, written-set, written-holds}
 

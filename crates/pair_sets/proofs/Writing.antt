@@ -17,7 +17,7 @@ use Rattle.book_progression.specs.NodeBytes.{IsHeld}
 use Rattle.book_progression.specs.Contracts.{Beside}
 use Rattle.alternative_bytes.specs.AlternativeBytes.{alternative-in}
 use Rattle.set_bytes.specs.SetBytes.{set-in}
-use Rattle.set_index.specs.Entries.{entries-size, entry-heads, entry-number, entry-first, Heads, Headed, SameBefore}
+use Rattle.set_index.specs.Entries.{entries-size, entry-heads, entry-first, Heads, Headed, SameBefore}
 use Rattle.set_index.proofs.Laws.{before-by, before-chained, entries-agree, heads-agree, put-length, put-number, put-end, put-firsts, put-bytes, put-before, put-headed}
 use Rattle.pair_sets.specs.PairSets.{entry-set, Blank, Stays, Holds, Repeated, Taken}
 use Rattle.pair_sets.proofs.Alternatives.{beside-byte, set-by}

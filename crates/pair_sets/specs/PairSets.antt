@@ -10,7 +10,7 @@ use Rattle.base.specs.Bytes.{byte-at}
 use Rattle.logic.specs.Book.{Book}
 use Rattle.logic.specs.declared.Tick.{Tick}
 use Rattle.pending.specs.Pending.{Pending}
-use Rattle.alternatives.specs.Sides.{OneSided}
+use Rattle.logic.specs.Sides.{OneSided}
 use Rattle.alternatives.specs.Alternatives.{Alternatives, these, broken}
 use Rattle.alternatives.specs.Progression.{progressed-set, first-set}
 use Rattle.reading.specs.BookArea.{nodes-in}

@@ -134,11 +134,12 @@ pub fn note(entries: &[u8], index: &mut [u8], n: usize) -> Place
     requires { ⌜ index-size ≤ length (now index) ⌝ }
     ensures { λ out. ⌜ Noted out (now (entries .entry)) n (now (index .exit)) ⌝ }
 {
-    let found = set_index::find(entries, index, n);
+    let h = set_index::hash(entries, n);
+    let found = set_index::find(entries, index, n, h);
     if found < n {
         return Place { at: found, met: n };
     }
-    set_index::add(entries, index, n);
+    set_index::add(entries, index, n, h);
     Place { at: n, met: n + 1 }
 }
 

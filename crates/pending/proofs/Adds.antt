@@ -1,21 +1,20 @@
--- What becomes of pending obligations when one more claim on the rest of the run is added: the steps that progression is made of.
+-- What becomes of pending obligations when one more claim on the rest of the run is added.
 use Prim.Native.Nat.{ℕ, _<_}
 use native.Mathlib.Decide.{ℕ-discrete}
 use native.Mathlib.Omega.{arith}
 use mathlib.Core.Path.{_≡_, refl, sym, _∙_, ap, subst}
-use mathlib.Core.Logic.{_⊎_, inl, inr, ⊎-elim, _↔_}
-use mathlib.Core.Bool.{Bool, true, false, false≢true}
+use mathlib.Core.Logic.{_↔_}
+use mathlib.Core.Bool.{false}
 use mathlib.Core.Option.{Option, none, some, bind, Option·some-injective, Option·none-ne-some}
 use mathlib.Core.List.{List}
 use lib.ListN.{length, getD, set, length-set}
 use lib.Seq.{getD-set-same, getD-set-other}
-use Rattle.base.specs.Choice.{pick}
 use Rattle.logic.specs.Time.{position}
 use Rattle.logic.specs.Tower.{Tower}
 use Rattle.logic.specs.Book.{Formula, constant, proposition, and, or, next, always-for, until}
 use Rattle.logic.specs.Runs.{Trace, Kept}
 use Rattle.logic.specs.declared.Tick.{Tick}
-use Rattle.pending.specs.Pending.{Pending, fresh, merge, coming, put, provided}
+use Rattle.pending.specs.Pending.{Pending, fresh, merge, coming, put}
 use Rattle.pending.specs.Asks.{with-left}
 use Rattle.pending.proofs.Kept.{always-merge, until-merge}
 use Rattle.pending.proofs.Nodes.{Sits, sits-within, sits-node}
@@ -92,23 +91,6 @@ module _ (tower : Tower) (run : Trace) where
             λ s. n .1 .1 (d .1 .1 (s .0, s .1 .0), s .1 .1),
           ),
         )
-
-    -- A test that has to hold.
-    pub adds-provided : (b : Bool) (o : Option Pending) (p : Pending) (P : Type 0) → Adds o p P → Adds (provided b o) p ((b ≡ true) × P)
-    unfolding provided
-    adds-provided true o p P d = adds-iff o p P ((true ≡ true) × P) (λ h. (refl, h), λ h. h .1) d
-    adds-provided false o p P d = λ s h. false≢true (h .0)
-
-    -- A claim that is made only if a test holds.
-    pub adds-if : (b : Bool) (q p : Pending) (P : Type 0) → Adds (some q) p P → Adds (some (pick b (λ _. q) (λ _. p))) p (b ≡ true → P)
-    adds-if true q p P d = adds-iff (some q) p P (true ≡ true → P) (λ h e. h, λ h. h refl) d
-    adds-if false q p P d = adds-nothing p (false ≡ true → P) (λ e. absurd (false≢true e))
-
-    -- A claim that is made only if another, which a test decides, does not hold.
-    pub adds-unless : (b : Bool) (o : Option Pending) (p : Pending) (Q P : Type 0) → ((b ≡ true) ↔ Q) → Adds o p P
-        → Adds (pick b (λ _. some p) (λ _. o)) p (Q ⊎ P)
-    adds-unless true o p Q P e d = adds-nothing p (Q ⊎ P) (inl (e .0 refl))
-    adds-unless false o p Q P e d = adds-iff o p P (Q ⊎ P) (inr, ⊎-elim (λ h. absurd (false≢true (e .1 h))) (λ h. h)) d
 
     -- A node that becomes pending adds what it asks.
     pub adds-put : (f : Formula) (k : ℕ) (r : Tick) (p : Pending) → Sits all f k → length p ≡ length all

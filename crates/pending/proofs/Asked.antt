@@ -1,21 +1,134 @@
 -- A run and what is pending as it begins: what is asked where its first state is left, and where the run itself begins.
-use Prim.Native.Nat.{ℕ}
+use Prim.Native.Nat.{ℕ, zero, suc, _+_, _<_}
 use native.Mathlib.Omega.{arith}
 use mathlib.Core.Path.{_≡_, refl, sym, _∙_, subst}
-use mathlib.Core.Logic.{_↔_}
-use mathlib.Core.Option.{Option, none, some, Option·none-ne-some}
-use mathlib.Core.List.{List, [], _∷_, append-nil}
-use lib.ListN.{length, length-replicate, getD-replicate}
+use mathlib.Core.Logic.{⊎-elim, ⊎-map, _↔_, Iff·rfl, Iff·trans, Iff·symm, Iff·and}
+use mathlib.Core.Bool.{true, false, and-eq-true-iff, true≢false}
+use mathlib.Core.Option.{Option, none, some, bind, Option·none-ne-some, Option·some-injective}
+use mathlib.Core.List.{List, [], _∷_, append-nil, List·Memᴰ, List·Memᴰ·head, List·Memᴰ·tail, List·Memᴰ·not-nil, List·Memᴰ·cases-cons}
+use lib.ListN.{length, getD, length-replicate, getD-replicate}
+use Rattle.base.specs.Lists.{joined}
+use Rattle.base.proofs.Lists.{or-fails-left, or-fails-right, or-cases, or-left, or-right, beq-out, beq-in}
+use Rattle.logic.specs.Time.{position}
 use Rattle.logic.specs.Tower.{Tower}
-use Rattle.logic.specs.Book.{nodes, Form, at-start, everywhere, Book}
-use Rattle.logic.specs.Runs.{Moment, Trace, trace-from, trace, Judged, Kept, KeptRule, Unbroken}
+use Rattle.logic.specs.Book.{Formula, constant, proposition, and, or, next, always-for, until, timed, parts, size, nodes, root, Form, at-start, everywhere, Rule, Book}
+use Rattle.logic.specs.Runs.{Moment, Trace, moment, trace-from, trace, Judged, Kept, KeptAt, KeptRule, Unbroken}
 use Rattle.logic.specs.declared.Tick.{Tick}
-use Rattle.pending.specs.Pending.{Pending, none-pending, first-pending}
-use Rattle.pending.specs.Asks.{Fulfils}
-use Rattle.pending.proofs.Kept.{kept-now, rule-step, rule-end}
-use Rattle.pending.proofs.Nodes.{Stand}
-use Rattle.pending.proofs.Adds.{Sat, Adds}
-use Rattle.pending.proofs.Progress.{Each, NodesNow, RuleNow, RuleStarts, nodes-in, nodes-out, adds-begin}
+use Rattle.pending.specs.Pending.{Pending, holds, fresh, put, none-pending, begin-rule, begin-rules, first-pending}
+use Rattle.pending.specs.Asks.{with-left, Fulfils}
+use Rattle.pending.proofs.Kept.{Now, kept-now, rule-step, rule-end}
+use Rattle.pending.proofs.Nodes.{Stand, stand-left, stand-right, Sits, sits-root}
+use Rattle.pending.proofs.Adds.{with-left-fresh, Sat, Adds, adds-iff, adds-nothing, adds-both, adds-put}
+
+-- a `start` rule is no `always` rule
+pub start-not-everywhere : at-start ≡ everywhere → ⊥
+start-not-everywhere e = let z : _≡_ {A = ℕ} 0 1 = cc in omega arith
+
+-- Every rule of the book is as said.
+abbrev pub Each : Book → (Rule → Type 0) → Type 0
+Each rules P = (rule : Rule) → List·Memᴰ rule rules → P rule
+
+-- the first rule and the others
+pub each-cons : (rule : Rule) (rules : Book) (P : Rule → Type 0) → Each (rule ∷ rules) P ↔ (P rule × Each rules P)
+each-cons rule rules P = (
+  λ h. (h rule (List·Memᴰ·head refl), λ other listed. h other (List·Memᴰ·tail listed)),
+  λ h other listed. ⊎-elim (λ same. subst P (sym same) (h .0)) (λ later. h .1 other later) (List·Memᴰ·cases-cons listed),
+)
+
+module _ (tower : Tower) (m : Moment) (run : Trace) where
+  -- the formula is kept where the run begins with m
+  abbrev Here : Formula → Type 0
+  Here f = Now tower m run f
+
+  -- An untimed formula is kept where it holds.
+  pub holds-now : (f : Formula) → timed f ≡ false → (holds tower (m .state) f ≡ true) ↔ Here f
+  unfolding holds timed KeptAt moment
+  holds-now (constant b) e = Iff·rfl
+  holds-now (proposition w k) e = (beq-out (tower .marked (m .state) k) w, beq-in (tower .marked (m .state) k) w)
+  holds-now (and f g) e =
+      Iff·trans (and-eq-true-iff (holds tower (m .state) f) (holds tower (m .state) g))
+      (Iff·and (holds-now f (or-fails-left (timed f) (timed g) e)) (holds-now g (or-fails-right (timed f) (timed g) e)))
+  holds-now (or f g) e =
+      let left = holds-now f (or-fails-left (timed f) (timed g) e) in
+      let right = holds-now g (or-fails-right (timed f) (timed g) e) in (
+        λ h. ⊎-map (left .0) (right .0) (or-cases (holds tower (m .state) f) (holds tower (m .state) g) h),
+        ⊎-elim (λ h. or-left (holds tower (m .state) g) (left .1 h)) (λ h. or-right (holds tower (m .state) f) (right .1 h)),
+      )
+  holds-now (next c t g) e = absurd (true≢false e)
+  holds-now (always-for t g) e = absurd (true≢false e)
+  holds-now (until t f g) e = absurd (true≢false e)
+
+  -- the formula of each pending cell is kept now; fs are the nodes of the cells
+  abbrev pub NodesNow : List Formula → Pending → Type 0
+  NodesNow [] cells = Unit {0}
+  NodesNow (f ∷ fs) [] = Unit {0}
+  NodesNow (f ∷ fs) (none ∷ cells) = NodesNow fs cells
+  NodesNow (f ∷ fs) (some r ∷ cells) = Here (with-left f r) × NodesNow fs cells
+
+  -- Each cell's formula is kept now if this is so of each node by its number.
+  pub nodes-out : (fs : List Formula) (cells : Pending) → NodesNow fs cells
+      → (k : ℕ) (r : Tick) → k < length fs → getD cells k none ≡ some r → Here (with-left (getD fs k (constant false)) r)
+  nodes-out [] cells h k r below e = absurd (omega arith)
+  nodes-out (f ∷ fs) [] h k r below e = absurd (Option·none-ne-some r e)
+  nodes-out (f ∷ fs) (none ∷ cells) h zero r below e = absurd (Option·none-ne-some r e)
+  nodes-out (f ∷ fs) (none ∷ cells) h (suc k) r below e = nodes-out fs cells h k r (omega arith) e
+  nodes-out (f ∷ fs) (some q ∷ cells) h zero r below e =
+      subst (λ z. Here (with-left f z)) (Option·some-injective q r e) (h .0)
+  nodes-out (f ∷ fs) (some q ∷ cells) h (suc k) r below e = nodes-out fs cells (h .1) k r (omega arith) e
+
+  pub nodes-in : (fs : List Formula) (cells : Pending)
+      → ((k : ℕ) (r : Tick) → k < length fs → getD cells k none ≡ some r → Here (with-left (getD fs k (constant false)) r))
+      → NodesNow fs cells
+  nodes-in [] cells h = tt
+  nodes-in (f ∷ fs) [] h = tt
+  nodes-in (f ∷ fs) (none ∷ cells) h = nodes-in fs cells (λ k r below e. h (suc k) r (omega arith) e)
+  nodes-in (f ∷ fs) (some q ∷ cells) h =
+      (h zero q (omega arith) refl, nodes-in fs cells (λ k r below e. h (suc k) r (omega arith) e))
+
+  -- An `always` rule is kept now.
+  abbrev pub RuleNow : Rule → Type 0
+  RuleNow rule = rule .form ≡ everywhere → Here (rule .formula)
+
+module _ (tower : Tower) (run : Trace) where
+  -- A `start` rule is kept where the run begins.
+  abbrev pub RuleStarts : Rule → Type 0
+  RuleStarts rule = rule .form ≡ at-start → Kept tower run (rule .formula) (position 0)
+
+  module _ (all : List Formula) where
+    -- one rule as the run begins: it is kept at position 0 if it is a `start` rule
+    adds-begin-rule : (form : Form) (f : Formula) (k : ℕ) (p : Pending) → Sits all f k → length p ≡ length all
+        → Adds tower run all (some (begin-rule form f k p)) p (form ≡ at-start → Kept tower run f (position 0))
+    unfolding begin-rule
+    adds-begin-rule everywhere f k p sits sized =
+        adds-nothing tower run all p (everywhere ≡ at-start → Kept tower run f (position 0)) (λ e. absurd (start-not-everywhere (sym e)))
+    adds-begin-rule at-start f k p sits sized =
+        adds-iff tower run all (some (put f k (fresh f) p)) p (Kept tower run (with-left f (fresh f)) (position 0))
+        (at-start ≡ at-start → Kept tower run f (position 0)) (
+          λ h e. subst (λ g. Kept tower run g (position 0)) (with-left-fresh f) h,
+          λ h. subst (λ g. Kept tower run g (position 0)) (sym (with-left-fresh f)) (h refl),
+        ) (adds-put tower run all f k (fresh f) p sits sized)
+
+    -- What is pending as the run begins adds what the `start` rules ask.
+    pub adds-begin : (rules : Book) (n : ℕ) (p : Pending) → Stand all n (nodes rules) → length p ≡ length all
+        → Adds tower run all (some (begin-rules rules n p)) p
+        (Each rules RuleStarts)
+    unfolding begin-rules nodes joined size bind
+    adds-begin [] n p stand sized =
+        adds-nothing tower run all p (Each [] RuleStarts)
+        (λ rule listed. absurd (List·Memᴰ·not-nil listed))
+    adds-begin (rule ∷ rules) n p stand sized =
+        adds-iff tower run all (some (begin-rules (rule ∷ rules) n p)) p
+        (RuleStarts rule × Each rules RuleStarts)
+        (Each (rule ∷ rules) RuleStarts)
+        (Iff·symm (each-cons rule rules RuleStarts))
+        (adds-both tower run all (some (begin-rule (rule .form) (rule .formula) (root n (rule .formula)) p))
+        (λ q. some (begin-rules rules (n + size (rule .formula)) q)) p
+        (RuleStarts rule)
+        (Each rules RuleStarts)
+        (adds-begin-rule (rule .form) (rule .formula) (root n (rule .formula)) p
+        (sits-root all (rule .formula) n (stand-left all n (parts (rule .formula)) (nodes rules) stand)) sized)
+        (λ q same. adds-begin rules (n + size (rule .formula)) q
+        (stand-right all n (parts (rule .formula)) (nodes rules) stand) (same ∙ sized)))
 
 module _ (tower : Tower) (book : Book) where
   -- at the end of a run everything is met

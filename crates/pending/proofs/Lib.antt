@@ -2,9 +2,6 @@ pub mod Theorems
 pub mod Kept
 pub mod Nodes
 pub mod Adds
-pub mod Progress
 pub mod Asked
-pub mod Steps
 pub mod Same
 pub mod Marks
-pub mod Weights

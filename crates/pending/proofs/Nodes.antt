@@ -229,8 +229,7 @@ unfolding timed-right
 timed-inherited =
     record {
       and-parts = λ f g h. (and-eq-true-iff (timed-right f) (timed-right g)) .0 h;
-      or-parts = λ f g h. (and-eq-true-iff (timed-right f) (timed-right g)) .0
-          ((and-eq-true-iff (not (timed f && timed g)) (timed-right f && timed-right g)) .0 h .1);
+      or-parts = λ f g h. (and-eq-true-iff (timed-right f) (timed-right g)) .0 h;
       next-part = λ c t g h. h;
       always-part = λ t g h. h;
       until-parts = λ t f g h. (and-eq-true-iff (timed-right f) (timed-right g)) .0

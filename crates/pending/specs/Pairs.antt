@@ -1,4 +1,5 @@
--- 01, 'What is pending', 'A pair is a tower state and what is pending there': pairs and their count.
+-- 01, 'What is pending', 'A pair is a tower state and what is pending there': pairs and their count, as they were in the base. They stay for
+-- the theorem that books without two timed sides give the bytes they gave (`alternatives/proofs/OnePairs.antt`).
 use Prim.Native.Nat.{ℕ}
 use mathlib.Core.Bool.{Bool, _&&_}
 use mathlib.Core.Option.{Option, none, some, bind}

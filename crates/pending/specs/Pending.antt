@@ -1,4 +1,7 @@
--- 01, 'What is pending': obligations and their progression, by the equivalences E4, E5 and E7 of document 004 with whole ticks.
+-- 01, 'What is pending': obligations and their progression, by the equivalences E4, E5 and E7 of document 004 with whole ticks. By 02, item 3,
+-- what is pending is a set of them, and the progression of sets (crate `alternatives`) is the one that the outcomes are defined with. The
+-- progression here is that of one alternative: of a book without two timed sides the sets have one alternative each, and it progresses so
+-- (`alternatives/proofs/OneAlternative.antt`). For such books the code goes this way, which is faster (crate `book_progression`).
 use Prim.Native.Nat.{ℕ, suc, _+_, _-_}
 use mathlib.Core.Bool.{Bool, false, _&&_, _||_, Bool·beq}
 use mathlib.Core.Option.{Option, none, some, bind}
@@ -72,7 +75,7 @@ provided b o = pick b (λ _. o) (λ _. none)
 --   state 2 is left: p1 is not there, and one tick is more than 0: the step is broken
 
 -- Node k, the formula f with r ticks left, as state x is left by an action of length d: what is added to the pending p, or nothing if the
--- step is broken.
+-- step is broken. Of a `|` with two timed sides it is never asked.
 unfoldable pub progress : Tower → ℕ → Tick → Formula → ℕ → Tick → Pending → Option Pending
 progress tower x d (constant b) k r p = provided (holds tower x (constant b)) (some p)
 progress tower x d (proposition w m) k r p = provided (holds tower x (proposition w m)) (some p)

@@ -1,17 +1,12 @@
-// Where in a line of a rule book N, A, E or U may not stand: behind E, in the second part of U, or on a
-// second side of `|`. The line is of the grammar and within the limits. The book reader says that it is
-// so, and is proved to be right; this only looks for the place, and is proved to be safe.
+// Where in a line of a rule book N, A, E or U may not stand: behind E, or in the second part of U. The line
+// is of the grammar and within the limits. The book reader says that it is so, and is proved to be right;
+// this only looks for the place, and is proved to be safe.
 use place_bytes::byte_at;
 use place_bytes::down;
 use place_bytes::up;
 
-// What is known of an open bracket: the side of `|` that is read has such a letter, an earlier side had
-// one, and none may stand there at all.
-const THIS_SIDE: u8 = 1;
-
-const OTHER_SIDE: u8 = 2;
-
-const NOWHERE: u8 = 4;
+// What is known of an open bracket in which no such letter may stand; of another it is 0.
+const NOWHERE: u8 = 1;
 
 // How far a line was read: how many brackets are open, whether the unit behind E comes, and whether the
 // place was found.
@@ -52,22 +47,15 @@ fn keep(stack: &mut [u8], open: usize, what: u8) {
     }
 }
 
-// Whether a letter may stand in a bracket of which this is known.
-fn may_stand(what: u8) -> bool {
-    what & (OTHER_SIDE | NOWHERE) == 0
-}
-
 // One of the letters, at a place.
-fn letter(at: usize, state: Timed, stack: &mut [u8], is_e: bool) -> Timed {
+fn letter(at: usize, state: Timed, stack: &[u8], is_e: bool) -> Timed {
     let open = state.open;
-    let what = known(stack, open);
     if state.behind_e {
         return found(at);
     }
-    if !may_stand(what) {
+    if known(stack, open) == NOWHERE {
         return found(at);
     }
-    keep(stack, open, what | THIS_SIDE);
     on(open, is_e)
 }
 
@@ -76,48 +64,13 @@ fn inner(what: u8, behind_e: bool) -> u8 {
     if behind_e {
         return NOWHERE;
     }
-    if !may_stand(what) {
-        return NOWHERE;
-    }
-    0
+    what
 }
 
 // A bracket is opened.
 fn opened(state: Timed, stack: &mut [u8]) -> Timed {
     let what = inner(known(stack, state.open), state.behind_e);
     let open = up(state.open);
-    keep(stack, open, what);
-    on(open, false)
-}
-
-// What is known of a bracket around one of which `what` is known: a letter in that is one in this.
-fn around(outer: u8, what: u8) -> u8 {
-    if what & (THIS_SIDE | OTHER_SIDE) == 0 {
-        return outer;
-    }
-    outer | THIS_SIDE
-}
-
-// A bracket is closed.
-fn closed(state: Timed, stack: &mut [u8]) -> Timed {
-    let open = down(state.open);
-    let what = around(known(stack, open), known(stack, state.open));
-    keep(stack, open, what);
-    on(open, false)
-}
-
-// What is known where another side begins.
-fn behind_side(what: u8) -> u8 {
-    if what & THIS_SIDE == 0 {
-        return what;
-    }
-    OTHER_SIDE
-}
-
-// Another side of `|` begins.
-fn other_side(state: Timed, stack: &mut [u8]) -> Timed {
-    let open = state.open;
-    let what = behind_side(known(stack, open));
     keep(stack, open, what);
     on(open, false)
 }
@@ -135,8 +88,7 @@ fn passed(b: u8, at: usize, state: Timed, stack: &mut [u8]) -> Timed {
         b'N' | b'A' | b'U' => letter(at, state, stack, false),
         b'E' => letter(at, state, stack, true),
         b'(' => opened(state, stack),
-        b')' => closed(state, stack),
-        b'|' => other_side(state, stack),
+        b')' => on(down(state.open), false),
         b',' => second_part(state, stack),
         b'T' | b'F' | b'p' => on(state.open, false),
         _ => state,

@@ -177,9 +177,10 @@ answers-read :
     ∷ "start A 255 T\n"
     ∷ "start p3\n"
     ∷ "start (((((((((((((((((T)))))))))))))))))\n"
+    ∷ "start U 1 (T, E 1 p0)\n"
     ∷ "start E 1 p0 | E 1 p1\n"
     ∷ "start T\nstart A 255 p3\nalways &\n"
-    ∷ "start T\nstart p3 & (A 1 T | A 1 T)\n"
+    ∷ "start T\nstart p3 & E 1 (A 1 T)\n"
     ∷ [])
     ≡ give []
     ∷ give
@@ -191,6 +192,8 @@ answers-read :
     ∷ refuse (Mark 0)
     ∷ refuse (Limit 0)
     ∷ refuse (Timed 0)
+    ∷ give
+    (record { form = at-start; formula = or (until (ticks 1) (constant true) (p 0)) (until (ticks 1) (constant true) (p 1)) } ∷ [])
     ∷ refuse (Number 1)
     ∷ refuse (Mark 1)
     ∷ []

@@ -35,7 +35,7 @@ unfoldable pub node-code : Formula → ℕ
 node-code (constant b) = pick b (λ _. 1) (λ _. 0)
 node-code (proposition wanted k) = pick wanted (λ _. 3) (λ _. 2)
 node-code (and f g) = 4
--- 5 where the first side is the timed one, so that the second is tested first
+-- 5 where the first side is timed, so that the second, where it is untimed, is tested first
 node-code (or f g) = pick (timed f) (λ _. 5) (λ _. 6)
 node-code (next c t g) = comparison-code c
 node-code (always-for t g) = 11

@@ -17,7 +17,7 @@ use mir.Val.{Fits}
 use Rattle.base.specs.Bytes.{number-at, number-bytes}
 use Rattle.base.specs.Lists.{place-of, same-list, total}
 use Rattle.base.proofs.Lists.{false-by}
-use Rattle.area_bytes.proofs.Numbers.{number-bound}
+use Rattle.area_bytes.proofs.Numbers.{number-bound, same-bytes}
 use Rattle.area_chains.specs.Chains.{head-in, link-in, added, Apart}
 use Rattle.area_chains.proofs.Walks.{Walking, walk-start, walk-first, walk-on, walk-falls, walk-ahead}
 use Rattle.area_chains.proofs.Additions.{added-chains}
@@ -49,18 +49,6 @@ alternative-number (suc width) entries s k l =
     let behind = alternative-number width entries s (k + 1) (omega arith) in
     let place : 60 * s + (k + 1) ≡ 60 * s + k + 1 = omega arith in
     rw (here, behind, place)
-
--- Equal numbers have equal bytes.
-same-bytes : (width : ℕ) (l : List ℕ) (p q : ℕ) → ((j : ℕ) → Fits w8 (getD l j 0)) → number-at width l p ≡ number-at width l q → (m : ℕ)
-    → m < width → getD l (p + m) 0 ≡ getD l (q + m) 0
-unfolding number-at
-same-bytes zero l p q bytes e m less = absurd (omega arith)
-same-bytes (suc width) l p q bytes e zero less = rw (add-zero p, add-zero q) (omega (arith, bytes p, bytes q))
-same-bytes (suc width) l p q bytes e (suc m) less =
-    let upper : number-at width l (p + 1) ≡ number-at width l (q + 1) = omega (arith, bytes p, bytes q) in
-    let place : p + 1 + m ≡ p + suc m = omega arith in
-    let place′ : q + 1 + m ≡ q + suc m = omega arith in
-    rw (← place, ← place′) (same-bytes width l (p + 1) (q + 1) bytes upper m (omega arith))
 
 -- ---- the hash of an alternative
 

@@ -158,15 +158,14 @@ pub fn same(entries: &[u8], i: usize, j: usize) -> bool
     same_alternatives(entries, s, t, count)
 }
 
-// The head of the bucket of entry n: the last entry before n with the same hash, plus one, or 0.
-fn head(entries: &[u8], index: &[u8], n: usize) -> usize
-    requires { ⌜ Headed (now entries) n ⌝ }
-    requires { ⌜ n ≤ most-entries ⌝ }
-    requires { ⌜ entries-size ≤ length (now entries) ⌝ }
+// The head of the bucket of entry n, whose hash is h: the last entry before n with the same hash, plus
+// one, or 0.
+fn head(entries: &[u8], index: &[u8], n: usize, h: usize) -> usize
+    requires { ⌜ h ≡ hash-of (entry-at (now entries) n) ⌝ }
     requires { ⌜ index-size ≤ length (now index) ⌝ }
     ensures { λ r. ⌜ r ≡ head-in heads-at (now (index .entry)) (hash-of (entry-at (now (entries .entry)) n)) ⌝ }
 {
-    area_chains::head(index, HEADS_AT, hash(entries, n))
+    area_chains::head(index, HEADS_AT, h)
 }
 
 // The link of entry i: the last entry before i with the same hash, plus one, or 0.
@@ -178,16 +177,17 @@ fn link(index: &[u8], i: usize) -> usize
     area_chains::link(index, LINKS_AT, i)
 }
 
-// The number of the one among n entries that is equal to entry n, or n if there is none.
-pub fn find(entries: &[u8], index: &[u8], n: usize) -> usize
+// The number of the one among n entries that is equal to entry n, whose hash is h; or n if there is none.
+pub fn find(entries: &[u8], index: &[u8], n: usize, h: usize) -> usize
     requires { ⌜ Indexed (now entries) (now index) n ⌝ }
+    requires { ⌜ h ≡ hash-of (entry-at (now entries) n) ⌝ }
     requires { ⌜ Headed (now entries) n ⌝ }
     requires { ⌜ n ≤ most-entries ⌝ }
     requires { ⌜ entries-size ≤ length (now entries) ⌝ }
     requires { ⌜ index-size ≤ length (now index) ⌝ }
     ensures { λ r. ⌜ r ≡ place-of (same-entry (entry-at (now (entries .entry)) n)) (entries-of (now (entries .entry)) n) ⌝ }
 {
-    let mut at = head(entries, index, n);
+    let mut at = head(entries, index, n, h);
     while 0 < at {
         let i = at - 1;
         if same(entries, n, i) {
@@ -198,9 +198,10 @@ pub fn find(entries: &[u8], index: &[u8], n: usize) -> usize
     n
 }
 
-// Brings entry n into the index; it is a new one.
-pub fn add(entries: &[u8], index: &mut [u8], n: usize)
+// Brings entry n, whose hash is h, into the index; it is a new one.
+pub fn add(entries: &[u8], index: &mut [u8], n: usize, h: usize)
     requires { ⌜ Indexed (now entries) (now index) n ⌝ }
+    requires { ⌜ h ≡ hash-of (entry-at (now entries) n) ⌝ }
     requires { ⌜ IsNew (now entries) n ⌝ }
     requires { ⌜ Headed (now entries) n ⌝ }
     requires { ⌜ n ≤ most-entries ⌝ }
@@ -208,7 +209,7 @@ pub fn add(entries: &[u8], index: &mut [u8], n: usize)
     requires { ⌜ index-size ≤ length (now index) ⌝ }
     ensures { λ _. ⌜ Indexed (now (entries .entry)) (now (index .exit)) (n + 1) ⌝ }
 {
-    area_chains::add(index, HEADS_AT, LINKS_AT, hash(entries, n), n);
+    area_chains::add(index, HEADS_AT, LINKS_AT, h, n);
 }
 
 // Empties the index and brings entry 0 into it.
@@ -219,5 +220,6 @@ pub fn begin(entries: &[u8], index: &mut [u8])
     ensures { λ _. ⌜ Indexed (now (entries .entry)) (now (index .exit)) 1 ⌝ }
 {
     area_bytes::clear(index);
-    add(entries, index, 0);
+    let h = hash(entries, 0);
+    add(entries, index, 0, h);
 }

@@ -52,24 +52,24 @@ book-by o x marks text nodes nodes-after z e f g =
     record { answer = shown-by book-said o x (read-outcome marks text (nodes ∷ []) .answer) z (e .answer) f g; areas = e .areas }
 
 pub make-by : (o x : MakeAnswer)
-    (tower text out nodes pairs index graph flags classes out-after nodes-after pairs-after index-after graph-after flags-after classes-after : List ℕ)
+    (tower text out nodes pairs index graph sets room flags classes out-after nodes-after pairs-after index-after graph-after sets-after room-after flags-after classes-after : List ℕ)
     (z : Answer)
-    → Makes o tower text out nodes pairs index graph flags classes out-after nodes-after pairs-after index-after graph-after flags-after classes-after
+    → Makes o tower text out nodes pairs index graph sets room flags classes out-after nodes-after pairs-after index-after graph-after sets-after room-after flags-after classes-after
     → o ≡ x → z ≡ shown (make-said x)
-    → MakeShown z tower text out nodes pairs index graph flags classes out-after nodes-after pairs-after index-after graph-after flags-after classes-after
-make-by o x tower text out nodes pairs index graph flags classes out-after nodes-after pairs-after index-after graph-after flags-after classes-after z e f g =
+    → MakeShown z tower text out nodes pairs index graph sets room flags classes out-after nodes-after pairs-after index-after graph-after sets-after room-after flags-after classes-after
+make-by o x tower text out nodes pairs index graph sets room flags classes out-after nodes-after pairs-after index-after graph-after sets-after room-after flags-after classes-after z e f g =
     record {
       answer = shown-by make-said o x
-          (make-outcome tower text out (nodes ∷ pairs ∷ index ∷ graph ∷ flags ∷ classes ∷ []) .answer) z (e .answer) f g;
+          (make-outcome tower text out (nodes ∷ pairs ∷ index ∷ graph ∷ sets ∷ room ∷ flags ∷ classes ∷ []) .answer) z (e .answer) f g;
       output = e .output;
       areas = e .areas;
     }
 
-pub check-by : (o x : Verdict) (tower text table nodes pairs index graph nodes-after pairs-after index-after graph-after : List ℕ) (z : Answer)
-    → Checks o tower text table nodes pairs index graph nodes-after pairs-after index-after graph-after → o ≡ x → z ≡ shown (verdict-said x)
-    → CheckShown z tower text table nodes pairs index graph nodes-after pairs-after index-after graph-after
-check-by o x tower text table nodes pairs index graph nodes-after pairs-after index-after graph-after z e f g =
+pub check-by : (o x : Verdict) (tower text table nodes pairs index graph sets room nodes-after pairs-after index-after graph-after sets-after room-after : List ℕ) (z : Answer)
+    → Checks o tower text table nodes pairs index graph sets room nodes-after pairs-after index-after graph-after sets-after room-after → o ≡ x → z ≡ shown (verdict-said x)
+    → CheckShown z tower text table nodes pairs index graph sets room nodes-after pairs-after index-after graph-after sets-after room-after
+check-by o x tower text table nodes pairs index graph sets room nodes-after pairs-after index-after graph-after sets-after room-after z e f g =
     record {
-      answer = shown-by verdict-said o x (check-outcome tower text table (nodes ∷ pairs ∷ index ∷ graph ∷ []) .answer) z (e .answer) f g;
+      answer = shown-by verdict-said o x (check-outcome tower text table (nodes ∷ pairs ∷ index ∷ graph ∷ sets ∷ room ∷ []) .answer) z (e .answer) f g;
       areas = e .areas;
     }

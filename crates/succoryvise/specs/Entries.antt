@@ -16,13 +16,14 @@ pub record BookShown (a : Answer) (marks : ℕ) (text nodes nodes-after : List �
   pub areas : nodes-after ∷ [] ≡ read-outcome marks text (nodes ∷ []) .areas
 
 -- The maker.
-pub record MakeShown (a : Answer) (tower text out nodes pairs index graph flags classes out-after nodes-after pairs-after index-after graph-after flags-after classes-after : List ℕ) : Type 0 where
-  pub answer : a ≡ shown (make-said (make-outcome tower text out (nodes ∷ pairs ∷ index ∷ graph ∷ flags ∷ classes ∷ []) .answer))
-  pub output : out-after ≡ make-outcome tower text out (nodes ∷ pairs ∷ index ∷ graph ∷ flags ∷ classes ∷ []) .output
-  pub areas : nodes-after ∷ pairs-after ∷ index-after ∷ graph-after ∷ flags-after ∷ classes-after ∷ []
-      ≡ make-outcome tower text out (nodes ∷ pairs ∷ index ∷ graph ∷ flags ∷ classes ∷ []) .areas
+pub record MakeShown (a : Answer) (tower text out nodes pairs index graph sets room flags classes out-after nodes-after pairs-after index-after graph-after sets-after room-after flags-after classes-after : List ℕ) : Type 0 where
+  pub answer : a ≡ shown (make-said (make-outcome tower text out (nodes ∷ pairs ∷ index ∷ graph ∷ sets ∷ room ∷ flags ∷ classes ∷ []) .answer))
+  pub output : out-after ≡ make-outcome tower text out (nodes ∷ pairs ∷ index ∷ graph ∷ sets ∷ room ∷ flags ∷ classes ∷ []) .output
+  pub areas : nodes-after ∷ pairs-after ∷ index-after ∷ graph-after ∷ sets-after ∷ room-after ∷ flags-after ∷ classes-after ∷ []
+      ≡ make-outcome tower text out (nodes ∷ pairs ∷ index ∷ graph ∷ sets ∷ room ∷ flags ∷ classes ∷ []) .areas
 
 -- The checker.
-pub record CheckShown (a : Answer) (tower text table nodes pairs index graph nodes-after pairs-after index-after graph-after : List ℕ) : Type 0 where
-  pub answer : a ≡ shown (verdict-said (check-outcome tower text table (nodes ∷ pairs ∷ index ∷ graph ∷ []) .answer))
-  pub areas : nodes-after ∷ pairs-after ∷ index-after ∷ graph-after ∷ [] ≡ check-outcome tower text table (nodes ∷ pairs ∷ index ∷ graph ∷ []) .areas
+pub record CheckShown (a : Answer) (tower text table nodes pairs index graph sets room nodes-after pairs-after index-after graph-after sets-after room-after : List ℕ) : Type 0 where
+  pub answer : a ≡ shown (verdict-said (check-outcome tower text table (nodes ∷ pairs ∷ index ∷ graph ∷ sets ∷ room ∷ []) .answer))
+  pub areas : nodes-after ∷ pairs-after ∷ index-after ∷ graph-after ∷ sets-after ∷ room-after ∷ []
+      ≡ check-outcome tower text table (nodes ∷ pairs ∷ index ∷ graph ∷ sets ∷ room ∷ []) .areas

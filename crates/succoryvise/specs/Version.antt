@@ -3,4 +3,4 @@ use Prim.Native.Nat.{ℕ}
 
 -- It goes up where a caller of before has to change: the answer's fields, parameters, least lengths of areas.
 abbrev pub interface-version : ℕ
-interface-version = 1
+interface-version = 2

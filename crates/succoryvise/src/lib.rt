@@ -19,7 +19,7 @@ use base::MakeAnswer;
 use base::Verdict;
 
 // The version of this interface.
-const VERSION: u32 = 1;
+const VERSION: u32 = 2;
 
 // The first value of a log's answer: every line fits, or one does not.
 const FITS: usize = 0;
@@ -37,7 +37,7 @@ pub extern "C" fn succoryvise_version() -> u32
 // Reads a rule book under P marks: the numbers of its lines and nodes, or why it is turned down.
 // Refused with 15 it changes nothing; else the lent area is all zero afterwards.
 #[no_mangle]
-pub extern "C" fn succoryvise_read_book_v1(marks: usize, text: &[u8], nodes: &mut [u8]) -> Answer
+pub extern "C" fn succoryvise_read_book_v2(marks: usize, text: &[u8], nodes: &mut [u8]) -> Answer
     ensures { λ a. ⌜ BookShown a marks (now (text .entry)) (now (nodes .entry)) (now (nodes .exit)) ⌝ }
 {
     match book_reader::read_book(marks, text, nodes) {
@@ -53,7 +53,7 @@ pub extern "C" fn succoryvise_read_book_v1(marks: usize, text: &[u8], nodes: &mu
 // bytes, or why there is none. A refusal changes no byte of `out`, and bytes behind the table stay.
 // Refused with 15 it changes nothing; else the lent areas are all zero afterwards.
 #[no_mangle]
-pub extern "C" fn succoryvise_make_v1(
+pub extern "C" fn succoryvise_make_v2(
     tower: &[u8],
     text: &[u8],
     out: &mut [u8],
@@ -61,12 +61,27 @@ pub extern "C" fn succoryvise_make_v1(
     pairs: &mut [u8],
     index: &mut [u8],
     graph: &mut [u8],
+    sets: &mut [u8],
+    room: &mut [u8],
     flags: &mut [u8],
     classes: &mut [u8],
 ) -> Answer
-    ensures { λ a. ⌜ MakeShown a (now (tower .entry)) (now (text .entry)) (now (out .entry)) (now (nodes .entry)) (now (pairs .entry)) (now (index .entry)) (now (graph .entry)) (now (flags .entry)) (now (classes .entry)) (now (out .exit)) (now (nodes .exit)) (now (pairs .exit)) (now (index .exit)) (now (graph .exit)) (now (flags .exit)) (now (classes .exit)) ⌝ }
+    ensures { λ a. ⌜ MakeShown a (now (tower .entry)) (now (text .entry)) (now (out .entry)) (now (nodes .entry)) (now (pairs .entry)) (now (index .entry)) (now (graph .entry)) (now (sets .entry)) (now (room .entry)) (now (flags .entry)) (now (classes .entry)) (now (out .exit)) (now (nodes .exit)) (now (pairs .exit)) (now (index .exit)) (now (graph .exit)) (now (sets .exit)) (now (room .exit)) (now (flags .exit)) (now (classes .exit)) ⌝ }
 {
-    match maker::make(tower, text, out, nodes, pairs, index, graph, flags, classes) {
+    let made = maker::make(
+        tower,
+        text,
+        out,
+        nodes,
+        pairs,
+        index,
+        graph,
+        sets,
+        room,
+        flags,
+        classes,
+    );
+    match made {
         MakeAnswer::Made(length) => answer::value(length),
         MakeAnswer::Refused(refusal) => answer::refused(refusal),
     }
@@ -75,7 +90,7 @@ pub extern "C" fn succoryvise_make_v1(
 // Whether the table is good for the tower and the book, or the first reason why not. Refused with
 // 15 it changes nothing; else the lent areas are all zero afterwards.
 #[no_mangle]
-pub extern "C" fn succoryvise_check_v1(
+pub extern "C" fn succoryvise_check_v2(
     tower: &[u8],
     text: &[u8],
     table: &[u8],
@@ -83,10 +98,12 @@ pub extern "C" fn succoryvise_check_v1(
     pairs: &mut [u8],
     index: &mut [u8],
     graph: &mut [u8],
+    sets: &mut [u8],
+    room: &mut [u8],
 ) -> Answer
-    ensures { λ a. ⌜ CheckShown a (now (tower .entry)) (now (text .entry)) (now (table .entry)) (now (nodes .entry)) (now (pairs .entry)) (now (index .entry)) (now (graph .entry)) (now (nodes .exit)) (now (pairs .exit)) (now (index .exit)) (now (graph .exit)) ⌝ }
+    ensures { λ a. ⌜ CheckShown a (now (tower .entry)) (now (text .entry)) (now (table .entry)) (now (nodes .entry)) (now (pairs .entry)) (now (index .entry)) (now (graph .entry)) (now (sets .entry)) (now (room .entry)) (now (nodes .exit)) (now (pairs .exit)) (now (index .exit)) (now (graph .exit)) (now (sets .exit)) (now (room .exit)) ⌝ }
 {
-    match checker::check(tower, text, table, nodes, pairs, index, graph) {
+    match checker::check(tower, text, table, nodes, pairs, index, graph, sets, room) {
         Verdict::Good => answer::yes(),
         Verdict::NotGood(reason) => answer::not_good(reason),
         Verdict::Refused(refusal) => answer::refused(refusal),
@@ -95,7 +112,7 @@ pub extern "C" fn succoryvise_check_v1(
 
 // The row that an action leads to from a row of the table, or why there is none.
 #[no_mangle]
-pub extern "C" fn succoryvise_follow_v1(table: &[u8], row: usize, action: usize) -> Answer
+pub extern "C" fn succoryvise_follow_v2(table: &[u8], row: usize, action: usize) -> Answer
     ensures { λ a. ⌜ a ≡ shown (follow-said (follow-outcome (now (table .entry)) row action)) ⌝ }
 {
     match follower::follow(table, row, action) {
@@ -107,7 +124,7 @@ pub extern "C" fn succoryvise_follow_v1(table: &[u8], row: usize, action: usize)
 // What a log comes to along the table: 0 and the final row, or 1 and the number of the first line that
 // does not fit; or why it was not read.
 #[no_mangle]
-pub extern "C" fn succoryvise_read_log_v1(tower: &[u8], table: &[u8], log: &[u8]) -> Answer
+pub extern "C" fn succoryvise_read_log_v2(tower: &[u8], table: &[u8], log: &[u8]) -> Answer
     ensures { λ a. ⌜ a ≡ shown (log-said (log-outcome (now (tower .entry)) (now (table .entry)) (now (log .entry)))) ⌝ }
 {
     match log_reader::read_log(tower, table, log) {

@@ -164,8 +164,6 @@ pub fn timed(book: &[u8], text: &[u8], line: usize) {
         return;
     }
     of_place(book, line, start, place.at);
-    say(
-        b"no N, A, E or U may stand here: only one side of '|' may have one, and none may stand behind E or in the second part of U\n",
-    );
+    say(b"no N, A, E or U may stand here: none may stand behind E or in the second part of U\n");
     show(text, start, end, place.at);
 }

@@ -2,7 +2,7 @@
 
 use crate::answer::{with_values, Answer};
 use crate::areas::{self, Areas, READER_AREAS};
-use crate::common::{random_book, Random};
+use crate::common::{either_book, random_book, Random};
 use crate::entry::{bytes, hexadecimal, Entry};
 use reference::{book, Refusal};
 use std::fmt;
@@ -84,7 +84,12 @@ impl Entry for Book {
 
 /// A book under P marks: read in about half of the cases.
 pub fn any(random: &mut Random, marks: usize) -> Vec<u8> {
-    let (mut text, _) = random_book(random, marks.clamp(1, 16));
+    let any_book = if random.once_in(4) {
+        either_book
+    } else {
+        random_book
+    };
+    let (mut text, _) = any_book(random, marks.clamp(1, 16));
     match random.below(12) {
         0 => text.extend(deep(random)),
         1 => text.extend(wide(random)),
@@ -126,10 +131,10 @@ fn late(random: &mut Random) -> Vec<u8> {
 /// A timed formula where it may not be.
 fn timed_wrongly(random: &mut Random) -> Vec<u8> {
     let line = random.pick(&[
-        "start E 1 T | E 1 F",
+        "start U 1 (T, E 1 p0)",
         "always U 2 (T, N < 3 T)",
         "start E A T",
-        "start (A 3 T & T) | (F & E T)",
+        "start (A 3 T & T) | E (F & E T)",
     ]);
     format!("{line}\n").into_bytes()
 }

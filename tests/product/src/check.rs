@@ -4,7 +4,7 @@ use crate::answer::{with_values, Answer};
 use crate::areas::{slices, Areas, CHECKER_AREAS};
 use crate::common::Random;
 use crate::entry::{bytes, hexadecimal, Entry};
-use crate::{book, tables, towers};
+use crate::{book, ruled, tables, towers};
 use reference::table::{self, Row, Step};
 use reference::tower::{self, Kind, Tower};
 use reference::{check, Refusal};
@@ -53,7 +53,7 @@ impl Entry for Check {
 
     const NAME: &'static str = "checker";
     const GENERATED: usize = 60_000;
-    const REFUSALS: &'static [u8] = &[1, 2, 3, 4, 5, 6, 7, 8, 9, 10, 11, 13, 14, 15];
+    const REFUSALS: &'static [u8] = &[1, 2, 3, 4, 5, 6, 7, 8, 9, 10, 11, 13, 14, 15, 20];
     const KINDS: &'static [(&'static str, usize)] = &[
         ("14 a", 500),
         ("14 b", 500),
@@ -63,6 +63,9 @@ impl Entry for Check {
         (SURE_WITHHELD, 500),
         (PLAYER_ALONE, 500),
         (GOES_ON_BY_SURE, 100),
+        (EITHER, 20),
+        (EITHER_BROKEN, 100),
+        (EITHER_OVER, 1_000),
     ];
     const FILES: &'static [&'static str] = &["check.txt"];
 
@@ -108,7 +111,14 @@ impl Entry for Check {
             }
             _ => None,
         };
-        answer.reason().into_iter().chain(further).collect()
+        let either = match (answer.number, answer.letter) {
+            (0, _) => two_timed(call).then_some(EITHER),
+            (11, _) => two_timed(call).then_some(EITHER_OVER),
+            (14, b'e') => two_timed(call).then_some(EITHER_BROKEN),
+            _ => None,
+        };
+        let reason = answer.reason().into_iter();
+        reason.chain(further).chain(either).collect()
     }
 
     fn of_line(_: &str, inputs: &[&str]) -> Option<Call> {
@@ -131,6 +141,16 @@ impl Entry for Check {
 const SURE_WITHHELD: &str = "14 b, an action that is sure to come";
 const PLAYER_ALONE: &str = "14 d, a row with the player's actions alone";
 const GOES_ON_BY_SURE: &str = "good, with a row that goes on by what is sure to come alone";
+
+const EITHER: &str = "good, under a book with two timed sides";
+const EITHER_BROKEN: &str = "14 e, under a book with two timed sides";
+const EITHER_OVER: &str = "11, under a book with two timed sides";
+
+/// Whether the book of a call whose files are fit has two timed sides.
+fn two_timed(call: &Call) -> bool {
+    let book = reference::book::read(tower_of(call).marks, &call.text);
+    ruled::two_timed(&book.expect("a book that is fit to use"))
+}
 
 /// The tower and the rows of a call whose files are fit.
 fn tower_of(call: &Call) -> Tower {

@@ -116,18 +116,18 @@ impl Tally {
         }
     }
 
+    /// Prints what came, all lines at once: another entry may be at it, too.
     fn print(&self) {
         let (cases, accepted, wrong) = (self.cases(), self.accepted, self.wrong);
-        println!(
-            "{}: {cases} cases, {accepted} accepted, {wrong} wrong",
-            self.name
-        );
+        let name = self.name;
+        let mut text = format!("{name}: {cases} cases, {accepted} accepted, {wrong} wrong\n");
         for (number, count) in &self.numbers {
-            println!("    {number:>2}: {count}");
+            text += &format!("    {number:>2}: {count}\n");
         }
         for (kind, count) in &self.kinds {
-            println!("    {kind}: {count}");
+            text += &format!("    {kind}: {count}\n");
         }
+        print!("{text}");
     }
 }
 

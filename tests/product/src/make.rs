@@ -84,12 +84,15 @@ impl Entry for Make {
 
     const NAME: &'static str = "maker";
     const GENERATED: usize = 60_000;
-    const REFUSALS: &'static [u8] = &[1, 2, 3, 4, 5, 6, 7, 8, 9, 10, 11, 12, 15, 16];
+    const REFUSALS: &'static [u8] = &[1, 2, 3, 4, 5, 6, 7, 8, 9, 10, 11, 12, 15, 16, 20];
     const KINDS: &'static [(&'static str, usize)] = &[
         (WITHHOLDS, 10),
         (REPEATS, 30),
         (WAITS, 500),
         (NARROWER, 500),
+        (EITHER, 20),
+        (EITHER_NONE, 100),
+        (EITHER_OVER, 1_000),
     ];
     const FILES: &'static [&'static str] = &["make.txt"];
 
@@ -149,6 +152,17 @@ impl Entry for Make {
                 kinds.push(REPEATS);
             }
         }
+        if matches!(answer.number, 0 | 11 | 12) {
+            let tower = tower::parse(&call.tower).expect("a tower that is fit to use");
+            let book = reference::book::read(tower.marks, &call.text);
+            if ruled::two_timed(&book.expect("a book that is fit to use")) {
+                kinds.push(match answer.number {
+                    0 => EITHER,
+                    11 => EITHER_OVER,
+                    _ => EITHER_NONE,
+                });
+            }
+        }
         if matches!(answer.number, 0 | 12) {
             let sure = make::make(&all_sure(&call.tower), &call.text, table::most_bytes());
             match (answer.number, sure) {
@@ -193,8 +207,10 @@ fn to_make(random: &mut Random) -> Ruled {
             ruled::ring(random, states, states)
         }
         1 | 2 => ruled::slow(random),
-        3..=50 => ruled::any(random),
-        _ => tables::demanding(random),
+        3..=40 => ruled::any(random),
+        41..=48 => ruled::either(random),
+        49..=58 => tables::demanding(random, ruled::either),
+        _ => tables::demanding(random, ruled::any),
     }
 }
 
@@ -212,5 +228,8 @@ fn all_sure(tower: &[u8]) -> Vec<u8> {
 
 const WAITS: &str = "12, and a table if the player's actions were sure to come";
 const NARROWER: &str = "another table if the player's actions were sure to come";
+const EITHER: &str = "a table, under a book with two timed sides";
+const EITHER_NONE: &str = "12, under a book with two timed sides";
+const EITHER_OVER: &str = "11, under a book with two timed sides";
 const WITHHOLDS: &str = "an enabled action is withheld";
 const REPEATS: &str = "two rows have one state";

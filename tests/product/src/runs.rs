@@ -4,6 +4,7 @@
 use crate::answer::Answer;
 use crate::common::{self, Random};
 use crate::entry::{Entry, NOTHING};
+use reference::alternatives::{self, Alternatives};
 use reference::book::{Book, Comparison, Node};
 use reference::pending::{self, Pending};
 use reference::runs::Run;
@@ -99,6 +100,15 @@ fn entry_bytes(pending: &Pending) -> Vec<u8> {
     bytes.extend(pending.iter().map(cell));
     bytes.resize(ENTRY, UNUSED);
     bytes
+}
+
+/// What is pending after leaving a state with these marks by a step of this length, or nothing where the
+/// step is broken. The book has no two timed sides of `|`, so there is one alternative or none.
+fn after(book: &Book, waiting: Pending, marks: u16, length: u16) -> Option<Pending> {
+    let after = alternatives::after(book, &Alternatives::from([waiting]), marks, length);
+    let after = after.expect("16 alternatives at most");
+    assert!(after.len() <= 1, "{book:?}");
+    after.into_iter().next()
 }
 
 /// A walk of the proved code: a book in its area, and two entries that take turns.
@@ -243,7 +253,7 @@ impl Entry for Runs {
         let mut waiting = pending::at_first(&case.book);
         let mut entries = vec![entry_bytes(&waiting)];
         for (marks, length) in case.steps() {
-            match pending::after(&case.book, &waiting, marks, length) {
+            match after(&case.book, waiting.clone(), marks, length) {
                 Some(after) => waiting = after,
                 None => break,
             }
@@ -351,7 +361,7 @@ fn any_run(random: &mut Random, tower: &Tower, book: &Book) -> (Vec<usize>, Opti
         let left = &tower.states[state];
         let after = |action: usize| {
             let length = tower.step_length(state, action);
-            pending::after(book, waiting.as_ref()?, left.marks, length)
+            self::after(book, waiting.clone()?, left.marks, length)
         };
         let actions = 0..tower.actions.len();
         let mut choices: Vec<usize> = actions.filter(|a| left.targets[*a].is_some()).collect();

@@ -91,8 +91,19 @@ pub fn to_judge(random: &mut Random) -> (Ruled, Vec<u8>) {
             let table = table.unwrap_or_else(|| common::random_table(random, &ruled.tower));
             (ruled, table.encode())
         }
+        3..=8 => {
+            let ruled = ruled::either(random);
+            let table = made(&ruled.with_book(Vec::new()));
+            let table = table.unwrap_or_else(|| common::random_table(random, &ruled.tower));
+            (ruled, table.encode())
+        }
+        9..=20 => {
+            let ruled = demanding(random, ruled::either);
+            let table = for_ruled(random, &ruled);
+            (ruled, table)
+        }
         _ => {
-            let ruled = demanding(random);
+            let ruled = demanding(random, ruled::any);
             let table = for_ruled(random, &ruled);
             (ruled, table)
         }
@@ -128,11 +139,11 @@ fn for_ruled(random: &mut Random, ruled: &Ruled) -> Vec<u8> {
 
 /// A tower with a book; in nine of ten tried again, a few times, until it has a table that is not
 /// just the tower itself.
-pub fn demanding(random: &mut Random) -> Ruled {
+pub fn demanding(random: &mut Random, any: fn(&mut Random) -> Ruled) -> Ruled {
     let tries = if random.once_in(10) { 1 } else { 16 };
     let mut with_table = None;
     for _ in 1..tries {
-        let ruled = ruled::any(random);
+        let ruled = any(random);
         if let Some(table) = made(&ruled) {
             if withholds(&ruled.tower, &table) || repeats(&table) {
                 return ruled;
@@ -140,7 +151,7 @@ pub fn demanding(random: &mut Random) -> Ruled {
             with_table = Some(ruled);
         }
     }
-    with_table.unwrap_or_else(|| ruled::any(random))
+    with_table.unwrap_or_else(|| any(random))
 }
 
 /// Whether an action that is enabled in some row is not allowed there.

@@ -29,11 +29,6 @@ pub fn after(
     marks: u16,
     length: u16,
 ) -> Result<Alternatives, OverFull> {
-    if !book.two_timed {
-        // As before item 3: one alternative, or none.
-        let after = |only: &Pending| pending::after(book, only, marks, length);
-        return Ok(old.iter().filter_map(after).collect());
-    }
     let step = Step {
         book,
         marks,
@@ -176,6 +171,9 @@ impl Step<'_> {
     /// Drops each alternative for which there is another that asks no more at any node, and counts the
     /// others.
     fn dropped(&self, all: Alternatives) -> Result<Alternatives, OverFull> {
+        if all.len() < 2 {
+            return Ok(all);
+        }
         let idle = |one: &Pending| {
             let mut others = all.iter().filter(|other| *other != one);
             others.any(|other| self.asks_no_more(other, one))

@@ -1,6 +1,6 @@
 //! Section 'Rule book'.
 
-use crate::{tower, Refusal, TWO_TIMED};
+use crate::{tower, Refusal};
 
 const MOST_BYTES: usize = 4_096;
 const MOST_NODES: usize = 60;
@@ -69,27 +69,17 @@ pub struct Book {
     pub nodes: Vec<Node>,
     /// Whether a node holds N, A, E or U.
     pub timed: Vec<bool>,
-    /// Whether both sides of `|` may be timed.
-    pub two_timed: bool,
 }
 
 /// Reads a rule book for a tower with marks 0 to `marks` - 1.
 pub fn read(marks: usize, text: &[u8]) -> Result<Book, Refusal> {
-    read_with(TWO_TIMED, marks, text)
-}
-
-/// Reads a rule book in which both sides of `|` may be timed, or may not.
-pub fn read_with(two_timed: bool, marks: usize, text: &[u8]) -> Result<Book, Refusal> {
     if !tower::MARKS.contains(&marks) {
         return Err(Refusal::new(2));
     }
     if text.len() > MOST_BYTES {
         return Err(Refusal::new(9));
     }
-    let mut book = Book {
-        two_timed,
-        ..Book::default()
-    };
+    let mut book = Book::default();
     for (number, line) in text.split_inclusive(|byte| *byte == b'\n').enumerate() {
         let line = line.strip_suffix(b"\n").ok_or(Refusal::at(6, number))?;
         book.add_line(marks, line)
@@ -135,7 +125,6 @@ impl Book {
 
     fn timed_where_it_may_not_be(&self, node: usize) -> bool {
         match self.nodes[node] {
-            Node::Or(left, right) => !self.two_timed && self.timed[left] && self.timed[right],
             Node::Until { second, .. } => self.timed[second],
             _ => false,
         }

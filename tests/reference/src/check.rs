@@ -5,7 +5,7 @@ use crate::book::{self, Book};
 use crate::judge::{self, Reason};
 use crate::table::{self, Row, Step, Table};
 use crate::tower::{self, Tower};
-use crate::{Refusal, MOST_PAIRS, TWO_TIMED};
+use crate::{Refusal, MOST_PAIRS};
 use std::collections::HashSet;
 use std::fmt;
 
@@ -29,13 +29,9 @@ impl fmt::Display for Answer {
 
 /// The checker's entry.
 pub fn check(tower: &[u8], book: &[u8], table: &[u8]) -> Answer {
-    check_with(TWO_TIMED, tower, book, table)
-}
-
-pub fn check_with(two_timed: bool, tower: &[u8], book: &[u8], table: &[u8]) -> Answer {
     let read = || {
         let tower = tower::parse(tower)?;
-        let book = book::read_with(two_timed, tower.marks, book)?;
+        let book = book::read(tower.marks, book)?;
         let table = table::decode_for(&tower, table)?;
         Ok((tower, book, table))
     };

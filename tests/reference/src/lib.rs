@@ -23,10 +23,6 @@ pub mod vectors;
 /// The most pairs, and the most rows of a table file.
 pub const MOST_PAIRS: usize = 1_000;
 
-/// Whether item 3 of the change requests is in force: both sides of `|` may be timed. The functions that
-/// end in `_with` are told so.
-pub const TWO_TIMED: bool = false;
-
 /// Why a call is turned down: the paper's number, and the place that goes with it.
 #[derive(Clone, Copy, Debug, PartialEq, Eq)]
 pub struct Refusal {

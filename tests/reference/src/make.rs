@@ -4,22 +4,13 @@ use crate::alternatives::{self, Alternatives, OverFull};
 use crate::book::{self, Book};
 use crate::table::{Row, Step, Table};
 use crate::tower::{self, Tower};
-use crate::{Refusal, MOST_PAIRS, TWO_TIMED};
+use crate::{Refusal, MOST_PAIRS};
 use std::collections::HashMap;
 
 /// The maker's entry: the table file, or why there is none.
 pub fn make(tower: &[u8], book: &[u8], output_length: usize) -> Result<Vec<u8>, Refusal> {
-    make_with(TWO_TIMED, tower, book, output_length)
-}
-
-pub fn make_with(
-    two_timed: bool,
-    tower: &[u8],
-    book: &[u8],
-    output_length: usize,
-) -> Result<Vec<u8>, Refusal> {
     let tower = tower::parse(tower)?;
-    let book = book::read_with(two_timed, tower.marks, book)?;
+    let book = book::read(tower.marks, book)?;
     let table = make_table(&tower, &book)?;
     let file = table.encode();
     if file.len() > output_length {

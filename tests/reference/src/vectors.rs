@@ -15,15 +15,11 @@ use crate::{book, check, follow, log, make};
 use std::fs;
 use std::path::{Path, PathBuf};
 
-/// The folder of the item that is not in force yet.
-pub const AHEAD: &str = "02-03";
-
 /// The files of this name: the folder's own, where it has one, then those of the folders in it by their
-/// names, but for the one that is ahead.
+/// names.
 pub fn files(folder: &Path, name: &str) -> Vec<PathBuf> {
     let inside = fs::read_dir(folder).into_iter().flatten().flatten();
-    let in_force = inside.filter(|entry| entry.file_name() != AHEAD);
-    let mut found: Vec<PathBuf> = in_force.map(|entry| entry.path().join(name)).collect();
+    let mut found: Vec<PathBuf> = inside.map(|entry| entry.path().join(name)).collect();
     found.sort();
     found.insert(0, folder.join(name));
     found.retain(|path| path.is_file());
@@ -31,7 +27,7 @@ pub fn files(folder: &Path, name: &str) -> Vec<PathBuf> {
 }
 
 /// The reference's answer to a line, from its inputs.
-pub type Answer = fn(two_timed: bool, inputs: &[&str]) -> Option<String>;
+pub type Answer = fn(inputs: &[&str]) -> Option<String>;
 
 /// The names of the files, without their ending.
 pub const FILES: [(&str, Answer); 5] = [
@@ -59,38 +55,38 @@ fn hexadecimal(bytes: &[u8]) -> String {
     bytes.iter().map(|byte| format!("{byte:02x}")).collect()
 }
 
-fn answer_book(two_timed: bool, inputs: &[&str]) -> Option<String> {
+fn answer_book(inputs: &[&str]) -> Option<String> {
     let [marks, text] = inputs else {
         return None;
     };
-    let answer = book::read_with(two_timed, marks.parse().ok()?, &bytes(text)?);
+    let answer = book::read(marks.parse().ok()?, &bytes(text)?);
     Some(match answer {
         Ok(book) => format!("ok {} {}", book.lines.len(), book.nodes.len()),
         Err(refusal) => refusal.to_string(),
     })
 }
 
-fn answer_make(two_timed: bool, inputs: &[&str]) -> Option<String> {
+fn answer_make(inputs: &[&str]) -> Option<String> {
     let [tower, book, length] = inputs else {
         return None;
     };
     let length = length.parse().ok()?;
-    let answer = make::make_with(two_timed, &bytes(tower)?, &bytes(book)?, length);
+    let answer = make::make(&bytes(tower)?, &bytes(book)?, length);
     Some(match answer {
         Ok(table) => format!("made {}", hexadecimal(&table)),
         Err(refusal) => refusal.to_string(),
     })
 }
 
-fn answer_check(two_timed: bool, inputs: &[&str]) -> Option<String> {
+fn answer_check(inputs: &[&str]) -> Option<String> {
     let [tower, book, table] = inputs else {
         return None;
     };
-    let answer = check::check_with(two_timed, &bytes(tower)?, &bytes(book)?, &bytes(table)?);
+    let answer = check::check(&bytes(tower)?, &bytes(book)?, &bytes(table)?);
     Some(answer.to_string())
 }
 
-fn answer_follow(_: bool, inputs: &[&str]) -> Option<String> {
+fn answer_follow(inputs: &[&str]) -> Option<String> {
     let [table, row, action] = inputs else {
         return None;
     };
@@ -101,7 +97,7 @@ fn answer_follow(_: bool, inputs: &[&str]) -> Option<String> {
     })
 }
 
-fn answer_log(_: bool, inputs: &[&str]) -> Option<String> {
+fn answer_log(inputs: &[&str]) -> Option<String> {
     let [tower, table, log] = inputs else {
         return None;
     };

@@ -5,20 +5,20 @@ mod common;
 use common::{
     either_book, lines, promise, random_book, random_table, random_tower, tower_file, Random,
 };
-use reference::alternatives;
-use reference::book::{self, Book};
-use reference::check::{check_table, check_with, Answer};
+use reference::alternatives::{self, Alternatives};
+use reference::book::{self, Book, Node};
+use reference::check::{check, check_table, Answer};
 use reference::judge::Reason;
-use reference::make::{make_table, make_with, pair_count};
+use reference::make::{make, make_table, pair_count};
+use reference::pending::{self, Pending};
 use reference::runs::Run;
 use reference::table::{self, Table};
 use reference::tower::{self, Tower};
-use reference::Refusal;
 use std::collections::{HashSet, VecDeque};
 
 type AnyBook = fn(&mut Random, usize) -> (Vec<u8>, Book);
 
-/// Books as they are, and a third as often books for which item 3 of the change requests is in force.
+/// Books of which at most one side of `|` is timed, and a third as often books of which both may be.
 const BOOKS: [(AnyBook, usize); 2] = [(random_book, 1), (either_book, 3)];
 
 fn is_broken(tower: &Tower, book: &Book, run: &[usize]) -> bool {
@@ -160,12 +160,11 @@ fn made_tables_are_good_and_allow_no_broken_run() {
         for _ in 0..4_000 / share {
             let (tower_file, tower) = random_tower(&mut random, 3);
             let (text, book) = any_book(&mut random, tower.marks);
-            let two_timed = book.two_timed;
-            let Ok(file) = make_with(two_timed, &tower_file, &text, table::most_bytes()) else {
+            let Ok(file) = make(&tower_file, &text, table::most_bytes()) else {
                 continue;
             };
             tables += 1;
-            let answer = check_with(two_timed, &tower_file, &text, &file);
+            let answer = check(&tower_file, &text, &file);
             assert_eq!(answer, Answer::Good);
             let table = table::decode(&file).expect("a table that is well laid out");
             assert_eq!(table.encode(), file);
@@ -337,9 +336,7 @@ fn the_checker_accepts_good_tables_and_no_others() {
                     let made = match make_table(&tower, &book) {
                         Ok(made) => made,
                         // The maker tries more actions, and meets more pairs.
-                        Err(refusal) if book.two_timed && [11, 20].contains(&refusal.number) => {
-                            continue
-                        }
+                        Err(refusal) if share > 1 && [11, 20].contains(&refusal.number) => continue,
                         Err(refusal) => panic!("a good table exists: {refusal}"),
                     };
                     assert!(allows_no_more(&table, &made));
@@ -359,40 +356,118 @@ fn the_checker_accepts_good_tables_and_no_others() {
     }
 }
 
-/// Books without two timed sides are answered as before item 3 of the change requests.
+/// What document 01 has pending after leaving a state with these marks by a step of this length, or
+/// nothing where the step breaks a rule. Only one side of `|` is timed.
+fn after_alone(book: &Book, pending: &Pending, marks: u16, length: u16) -> Option<Pending> {
+    let mut step = Alone {
+        book,
+        marks,
+        length,
+        next: vec![None; book.nodes.len()],
+    };
+    let pending = pending.iter().enumerate();
+    let waiting = pending.filter_map(|(node, left)| left.map(|left| (node, left)));
+    let rules = book.lines.iter().filter(|line| line.always);
+    let renewed = rules.map(|line| (line.root, pending::bound(book, line.root)));
+    let unbroken = waiting
+        .chain(renewed)
+        .all(|(node, left)| step.progress(node, left));
+    unbroken.then_some(step.next)
+}
+
+struct Alone<'a> {
+    book: &'a Book,
+    marks: u16,
+    length: u16,
+    next: Pending,
+}
+
+impl Alone<'_> {
+    /// Progresses a node with `left` ticks left; false where it breaks.
+    fn progress(&mut self, node: usize, left: u16) -> bool {
+        match self.book.nodes[node] {
+            Node::Constant(_) | Node::Mark { .. } => self.holds(node),
+            Node::And(first, second) => self.progress_new(first) && self.progress_new(second),
+            Node::Or(first, second) => {
+                let (untimed, other) = if self.book.timed[first] {
+                    (second, first)
+                } else {
+                    (first, second)
+                };
+                self.holds(untimed) || self.progress_new(other)
+            }
+            Node::Next {
+                comparison,
+                bound: length,
+                part,
+            } => {
+                pending::add(
+                    self.book,
+                    &mut self.next,
+                    part,
+                    pending::bound(self.book, part),
+                );
+                comparison.holds(self.length, length)
+            }
+            Node::Always { part, .. } => {
+                if self.length <= left {
+                    pending::add(self.book, &mut self.next, node, left - self.length);
+                }
+                self.progress_new(part)
+            }
+            Node::Until { first, second, .. } => {
+                if self.holds(second) {
+                    return true;
+                }
+                if self.length > left {
+                    return false;
+                }
+                pending::add(self.book, &mut self.next, node, left - self.length);
+                self.progress_new(first)
+            }
+        }
+    }
+
+    fn progress_new(&mut self, node: usize) -> bool {
+        self.progress(node, pending::bound(self.book, node))
+    }
+
+    /// Whether an untimed formula holds at the state that is left.
+    fn holds(&self, node: usize) -> bool {
+        pending::holds(self.book, self.marks, node)
+    }
+}
+
+/// Books without two timed sides are stepped from as before item 3 of the change requests.
 #[test]
 fn one_timed_side_is_as_before() {
     let mut random = Random::new(0x5EED_000A);
-    let mut counts = [0; 5];
-    for _ in 0..4_000 {
-        let (tower_file, tower) = random_tower(&mut random, 3);
-        let (mut text, _) = random_book(&mut random, tower.marks);
-        if random.once_in(12) {
-            let bound = 100 + random.below(150);
-            let lasting = format!("start A {bound} A {bound} A {bound} A {bound} T");
-            text = [text, lines(&[&lasting])].concat();
-        }
-        let read = [false, true].map(|two_timed| {
-            let book = book::read_with(two_timed, tower.marks, &text)?;
-            Ok::<_, Refusal>((book.lines, book.nodes))
-        });
-        assert_eq!(read[0], read[1]);
-        let made = [false, true]
-            .map(|two_timed| make_with(two_timed, &tower_file, &text, table::most_bytes()));
-        assert_eq!(made[0], made[1]);
-        counts[match &made[0] {
-            Ok(_) => 0,
-            Err(refusal) if refusal.number == 11 => 1,
-            Err(_) => 2,
-        }] += 1;
-        let table = random_table(&mut random, &tower).encode();
-        for table in made.into_iter().flatten().take(1).chain([table]) {
-            let judged =
-                [false, true].map(|two_timed| check_with(two_timed, &tower_file, &text, &table));
-            assert_eq!(judged[0], judged[1]);
-            counts[3] += usize::from(judged[0] == Answer::Good);
-            counts[4] += usize::from(judged[0] == Answer::NotGood(Reason::Broken, 0));
+    let [mut broken, mut unbroken] = [0, 0];
+    for _ in 0..30_000 {
+        let (_, tower) = random_tower(&mut random, 3);
+        let (_, book) = random_book(&mut random, tower.marks);
+        let mut waiting = pending::at_first(&book);
+        let mut state = tower.start;
+        for _ in 0..12 {
+            let choices = enabled(&tower, state);
+            if choices.is_empty() {
+                break;
+            }
+            let action = choices[random.below(choices.len())];
+            let marks = tower.states[state].marks;
+            let length = tower.step_length(state, action);
+            let before = Alternatives::from([waiting.clone()]);
+            let found = alternatives::after(&book, &before, marks, length);
+            let alone = after_alone(&book, &waiting, marks, length);
+            assert_eq!(found, Ok(alone.clone().into_iter().collect()), "{book:?}");
+            let Some(after) = alone else {
+                broken += 1;
+                break;
+            };
+            unbroken += 1;
+            waiting = after;
+            state = tower.states[state].targets[action].expect("an enabled action");
         }
     }
-    assert!(counts.iter().all(|count| *count > 50), "{counts:?}");
+    assert!(broken > 5_000 && unbroken > 20_000, "{broken} {unbroken}");
 }

@@ -1,24 +1,21 @@
-//! Item 3 of the change requests, in force: its examples, and every line of the vectors.
+//! Item 3 of the change requests, either of two promises: its examples.
 
 mod common;
 
 use common::{either_book, lines, random_tower, tower_file, Random};
-use reference::check::{check_with, Answer};
+use reference::check::{check, Answer};
 use reference::judge::Reason;
-use reference::make::{make_table, make_with, pair_count};
+use reference::make::{make, make_table, pair_count};
 use reference::table::Table;
-use reference::vectors::{files, AHEAD, FILES};
 use reference::{book, table, tower, Refusal};
-use std::collections::{BTreeMap, HashMap};
-use std::fs;
-use std::path::Path;
+use std::collections::BTreeMap;
 
 fn made(tower: &[u8], book: &[&str]) -> Result<Vec<u8>, Refusal> {
-    make_with(true, tower, &lines(book), table::most_bytes())
+    make(tower, &lines(book), table::most_bytes())
 }
 
 fn checked(tower: &[u8], book: &[&str], table: &[u8]) -> Answer {
-    check_with(true, tower, &lines(book), table)
+    check(tower, &lines(book), table)
 }
 
 /// A ring of so many states with all of four marks, and one action of one tick.
@@ -35,16 +32,13 @@ fn choice(count: usize) -> String {
 
 #[test]
 fn timed_where_it_may_not_be() {
-    let read = |two_timed: bool, line: &str| {
-        let book = book::read_with(two_timed, 3, &lines(&[line]));
+    let read = |line: &str| {
+        let book = book::read(3, &lines(&[line]));
         book.map(|_| ()).map_err(|refusal| refusal.number)
     };
-    let promises = "always !p0 | E 4 p1 | A 6 p2";
-    assert_eq!(read(true, promises), Ok(()));
-    assert_eq!(read(false, promises), Err(10));
+    assert_eq!(read("always !p0 | E 4 p1 | A 6 p2"), Ok(()));
     for line in ["start U 1 (T, E 1 p0)", "start E 1 (p0 | A 1 p1)"] {
-        assert_eq!(read(true, line), Err(10));
-        assert_eq!(read(false, line), Err(10));
+        assert_eq!(read(line), Err(10));
     }
 }
 
@@ -53,7 +47,7 @@ fn a_pair_counts_once_for_each_alternative() {
     let rule = "start A 200 p0 | A 200 p1 | A 200 p2 | A 200 p3";
     let count = |states: u8| {
         let tower = tower::parse(&ring(states)).unwrap();
-        pair_count(&tower, &book::read_with(true, 4, &lines(&[rule])).unwrap())
+        pair_count(&tower, &book::read(4, &lines(&[rule])).unwrap())
     };
     assert_eq!(count(199), Some(1_000));
     assert_eq!(count(200), None);
@@ -165,43 +159,4 @@ fn answers_that_come() {
         [0, 12, 20].iter().all(|number| counts[number] > 100),
         "{counts:?}"
     );
-}
-
-/// The answers that the item changes: for each file and line, the new one.
-fn moved(folder: &Path) -> HashMap<(String, usize), String> {
-    let text = fs::read_to_string(folder.join(AHEAD).join("moved.txt")).expect("moved.txt");
-    let line = |line: &str| {
-        let (place, answer) = line.split_once(" = ")?;
-        let (file, number) = place.split_once(' ')?;
-        Some(((file.to_string(), number.parse().ok()?), answer.to_string()))
-    };
-    text.lines()
-        .map(|text| line(text).expect("a line"))
-        .collect()
-}
-
-#[test]
-fn every_line_of_the_vectors() {
-    let folder = Path::new(env!("CARGO_MANIFEST_DIR")).join("../vectors");
-    let mut moved = moved(&folder);
-    let mut lines = 0;
-    for (name, answer) in FILES {
-        let name = format!("{name}.txt");
-        let mut paths = files(&folder, &name);
-        paths.push(folder.join(AHEAD).join(&name));
-        for path in paths.iter().filter(|path| path.is_file()) {
-            let file = path.strip_prefix(&folder).unwrap().display().to_string();
-            let text = fs::read_to_string(path).expect("a file of vectors");
-            for (number, line) in (1..).zip(text.lines()) {
-                let (inputs, stated) = line.split_once(" = ").expect("inputs and an answer");
-                let inputs: Vec<&str> = inputs.split(' ').collect();
-                let moved = moved.remove(&(file.clone(), number));
-                let stated = moved.unwrap_or(stated.to_string());
-                assert_eq!(answer(true, &inputs), Some(stated), "{file}, line {number}");
-                lines += 1;
-            }
-        }
-    }
-    assert!(moved.is_empty(), "lines that are not there: {moved:?}");
-    assert_eq!(lines, 3_119);
 }

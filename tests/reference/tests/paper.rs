@@ -126,8 +126,8 @@ fn examples_of_book_refusals() {
         refusal_of_book(&lines(&["start T"; 61])),
         Refusal::at(9, 60)
     );
-    let two_timed = lines(&["start E 1 p0 | E 1 p1"]);
-    assert_eq!(refusal_of_book(&two_timed), Refusal::at(10, 0));
+    let timed_end = lines(&["start U 1 (T, E 1 p0)"]);
+    assert_eq!(refusal_of_book(&timed_end), Refusal::at(10, 0));
     assert_eq!(book::read(17, b"&").unwrap_err(), Refusal::new(2));
 }
 
@@ -314,6 +314,8 @@ fn lines_of_the_grammar_and_others() {
         "start p0|(p1|N>0F)|p2",
         "start E 254 (p0 | !p1)",
         "start A N < 254 E T",
+        "start A 0 p0 | N < 1 T",
+        "start A T | p0 | U (T, T)",
         &deep(16, 16),
         &many(59),
     ];
@@ -357,18 +359,18 @@ fn lines_of_the_grammar_and_others() {
         (6, "start A 255 &"),
         (6, &deep(4_000, 0)),
         (6, &deep(17, 16)),
-        (7, "start A 255 p3 | A T"),
+        (7, "start A 255 p3 | E A T"),
         (7, "start N > 999 T"),
-        (8, "start p3 | A T | A T"),
+        (8, "start p3 | E A T"),
         (8, "start !p99"),
         (9, &deep(17, 17)),
         (9, &deep(2_000, 2_000)),
         (9, &many(60)),
         (9, &many(4_000)),
-        (10, "start A 0 p0 | N < 1 T"),
+        (10, "start E (p0 | A 1 p1)"),
         (10, "start E A T"),
         (10, "start U (T, p0 & E p0)"),
-        (10, "start A T | p0 | U (T, T)"),
+        (10, "start A T | E (p0 | E p1)"),
     ];
     for (number, line) in refused {
         let refusal = Refusal::at(number, 1);
@@ -383,7 +385,7 @@ fn lines_of_the_grammar_and_others() {
 #[test]
 fn refusals_of_a_book_by_line() {
     assert_eq!(refusal_of_book(b"start T\nstart T"), Refusal::at(6, 1));
-    assert_eq!(refusal_of_book(b"start A T | A T\n&\n"), Refusal::at(10, 0));
+    assert_eq!(refusal_of_book(b"start E A T\n&\n"), Refusal::at(10, 0));
     assert_eq!(refusal_of_book(b"start T\n\xff\n"), Refusal::at(6, 1));
     let over_nodes = [lines(&["start T & T"; 21]), b"&\n".to_vec()].concat();
     assert_eq!(refusal_of_book(&over_nodes), Refusal::at(9, 20));

@@ -10,17 +10,17 @@
 #![deny(missing_docs)]
 
 /// The version of the interface that is declared here.
-pub const VERSION: u32 = 1;
+pub const VERSION: u32 = 2;
 
 /// The least lengths of the work areas, in the order of `docs/WORK-AREAS.md`: nodes, pairs, index,
-/// graph, flags, classes. A function borrows the first ones.
-pub const AREAS: [usize; 6] = [512, 62_062, 8_192, 34_000, 37_000, 8_192];
+/// graph, sets, room, flags, classes. A function borrows the first ones.
+pub const AREAS: [usize; 8] = [512, 64_968, 8_192, 34_000, 59_520, 30_752, 37_000, 8_192];
 
 /// How many areas the book reader borrows.
 pub const READER_AREAS: usize = 1;
 
 /// How many areas the checker borrows.
-pub const CHECKER_AREAS: usize = 4;
+pub const CHECKER_AREAS: usize = 6;
 
 /// How many areas the maker borrows: all.
 pub const MAKER_AREAS: usize = AREAS.len();
@@ -46,7 +46,7 @@ pub struct Answer {
 extern "C" {
     fn succoryvise_version() -> u32;
 
-    #[link_name = "succoryvise_read_book_v1"]
+    #[link_name = "succoryvise_read_book_v2"]
     fn succoryvise_read_book(
         marks: usize,
         text: *const u8,
@@ -55,7 +55,7 @@ extern "C" {
         nodes_length: usize,
     ) -> Answer;
 
-    #[link_name = "succoryvise_make_v1"]
+    #[link_name = "succoryvise_make_v2"]
     fn succoryvise_make(
         tower: *const u8,
         tower_length: usize,
@@ -71,13 +71,17 @@ extern "C" {
         index_length: usize,
         graph: *mut u8,
         graph_length: usize,
+        sets: *mut u8,
+        sets_length: usize,
+        room: *mut u8,
+        room_length: usize,
         flags: *mut u8,
         flags_length: usize,
         classes: *mut u8,
         classes_length: usize,
     ) -> Answer;
 
-    #[link_name = "succoryvise_check_v1"]
+    #[link_name = "succoryvise_check_v2"]
     fn succoryvise_check(
         tower: *const u8,
         tower_length: usize,
@@ -93,9 +97,13 @@ extern "C" {
         index_length: usize,
         graph: *mut u8,
         graph_length: usize,
+        sets: *mut u8,
+        sets_length: usize,
+        room: *mut u8,
+        room_length: usize,
     ) -> Answer;
 
-    #[link_name = "succoryvise_follow_v1"]
+    #[link_name = "succoryvise_follow_v2"]
     fn succoryvise_follow(
         table: *const u8,
         table_length: usize,
@@ -103,7 +111,7 @@ extern "C" {
         action: usize,
     ) -> Answer;
 
-    #[link_name = "succoryvise_read_log_v1"]
+    #[link_name = "succoryvise_read_log_v2"]
     fn succoryvise_read_log(
         tower: *const u8,
         tower_length: usize,
@@ -137,7 +145,7 @@ pub fn read_book(marks: usize, text: &[u8], areas: [&mut [u8]; READER_AREAS]) ->
 
 /// The maker.
 pub fn make(tower: &[u8], text: &[u8], out: &mut [u8], areas: [&mut [u8]; MAKER_AREAS]) -> Answer {
-    let [nodes, pairs, index, graph, flags, classes] = areas;
+    let [nodes, pairs, index, graph, sets, room, flags, classes] = areas;
     // SAFETY: each pointer and its length are of one slice; `out` and the areas are exclusive, so
     // they overlap neither each other nor tower and text.
     unsafe {
@@ -156,6 +164,10 @@ pub fn make(tower: &[u8], text: &[u8], out: &mut [u8], areas: [&mut [u8]; MAKER_
             index.len(),
             graph.as_mut_ptr(),
             graph.len(),
+            sets.as_mut_ptr(),
+            sets.len(),
+            room.as_mut_ptr(),
+            room.len(),
             flags.as_mut_ptr(),
             flags.len(),
             classes.as_mut_ptr(),
@@ -166,7 +178,7 @@ pub fn make(tower: &[u8], text: &[u8], out: &mut [u8], areas: [&mut [u8]; MAKER_
 
 /// The checker.
 pub fn check(tower: &[u8], text: &[u8], table: &[u8], areas: [&mut [u8]; CHECKER_AREAS]) -> Answer {
-    let [nodes, pairs, index, graph] = areas;
+    let [nodes, pairs, index, graph, sets, room] = areas;
     // SAFETY: each pointer and its length are of one slice; the areas are exclusive, so they overlap
     // neither each other nor tower, text and table.
     unsafe {
@@ -185,6 +197,10 @@ pub fn check(tower: &[u8], text: &[u8], table: &[u8], areas: [&mut [u8]; CHECKER
             index.len(),
             graph.as_mut_ptr(),
             graph.len(),
+            sets.as_mut_ptr(),
+            sets.len(),
+            room.as_mut_ptr(),
+            room.len(),
         )
     }
 }

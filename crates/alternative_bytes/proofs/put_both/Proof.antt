@@ -1,20 +1,20 @@
 -- `alternative_bytes::put_both` meets its contract, by the laws of Ways.
 use Prim.Native.Nat.{_-_}
 use borrow.Author.Needs.{needs}
-use Rattle.alternative_bytes.proofs.Ways.{BothByte, Filling, filling-start, node-there, filling-on, both-end}
+use Rattle.alternative_bytes.proofs.Ways.{Merging, merging-start, node-there, merging-on, fewer-cells, merging-end}
 use Rattle.alternative_bytes.proofs.put_both.Statement.{statement}
 use Rattle.alternative_bytes.proofs.put_both.Tie as tie
 
-ruleset all = (needs, filling-start, node-there, filling-on, both-end)
+ruleset all = (needs, merging-start, node-there, merging-on, fewer-cells, merging-end)
 
 abbrev Inv-loop : tie.InvT-loop
-Inv-loop book n sets p q room₀ to k₀ room k = Filling (BothByte book sets p q) room₀ to n room k
+Inv-loop book n sets p q room₀ to k₀ room k = Merging book n sets p q room₀ to room k
 
 abbrev μ-loop : tie.MeasureT-loop
 μ-loop book n sets p q room₀ to k₀ room k = n - k
 
 pub put-both-spec : {M : Type 1} → statement M
 put-both-spec =
-    tie.close (tie.spec Inv-loop μ-loop (λ c. search all) (λ c. search all) (λ c. search all) (λ c. search all) (λ c. search all)
-    (λ c κs. search all) (λ c. search all) (λ c. search all) (λ c. search all) (λ c. search all) (λ c. search all) (λ c. search all)
-    (λ c. search all))
+    tie.close (tie.spec Inv-loop μ-loop (λ c κs. (search all, search all)) (λ c κs. (search all, search all)) (λ c. search all)
+    (λ c. search all) (λ c. search all) (λ c. search all) (λ c. search all) (λ c κs. search all) (λ c. search all) (λ c. search all)
+    (λ c. search all) (λ c κs. (search all, search all)) (λ c. search all) (λ c. search all) (λ c. search all) (λ c. search all))

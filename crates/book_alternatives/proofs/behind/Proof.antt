@@ -10,7 +10,7 @@ behind-spec =
     (tie.spec
     (λ c κs. (search (needs, none-few), search needs))
     (λ c κs. (search (needs, nodes-step), search needs))
-    (λ c κs. (search needs, (search needs, lines-step _ _ _ _ _ _ (c .before .before .before .before .before .before .before .before .before .before .before .before .before .before .before .before .before .pre) _ (c .before .before .before .before .before .before .before .before .before .before .before .combine-none .ensures) _ _ _ _ _ (c .before .before .before .before .before .before .combine-nodes .ensures))))
+    (λ c κs. (search needs, (search needs, lines-step _ _ _ _ _ _ (c .before .before .before .before .before .before .before .before .before .before .before .before .before .before .before .before .before .pre) _ _ (c .before .before .before .before .before .before .before .before .before .before .before .combine-none .ensures) _ _ _ _ (c .before .before .before .before .before .before .combine-nodes .ensures))))
     (λ c. search needs)
     (λ c. search needs)
-    (λ c. behind-done _ _ _ _ _ _ (c .before .before .before .before .before .before .before .before .before .before .before .before .before .before .before .before .before .before .before .before .before .before .pre) _ (c .before .before .before .before .before .before .before .before .before .before .before .before .before .before .before .before .combine-none .ensures) _ _ _ _ _ (c .before .before .before .before .before .before .before .before .before .before .before .combine-nodes .ensures) _ _ _ (c .before .before .before .before .combine-lines .ensures)))
+    (λ c. behind-done _ _ _ _ _ _ (c .before .before .before .before .before .before .before .before .before .before .before .before .before .before .before .before .before .before .before .before .before .before .pre) _ _ (c .before .before .before .before .before .before .before .before .before .before .before .before .before .before .before .before .combine-none .ensures) _ _ _ _ (c .before .before .before .before .before .before .before .before .before .before .before .combine-nodes .ensures) _ _ _ (c .before .before .before .before .combine-lines .ensures)))

@@ -1,7 +1,8 @@
 -- `book_alternatives::combine_nodes` meets its contract, by the laws of Combining.
 use Prim.Native.Nat.{_-_}
 use borrow.Author.Needs.{needs}
-use Rattle.book_alternatives.proofs.Combining.{NodesGoing, nodes-first, nodes-end, nodes-next, nodes-ready}
+use Rattle.book_progression.proofs.Stepping.{fewer-left}
+use Rattle.book_alternatives.proofs.Combining.{NodesGoing, nodes-first, nodes-end, nodes-on, nodes-ready}
 use Rattle.book_alternatives.proofs.combine_nodes.Statement.{statement}
 use Rattle.book_alternatives.proofs.combine_nodes.Tie as tie
 
@@ -20,8 +21,9 @@ combine-nodes-spec =
     (λ c. search needs)
     (λ c κs. (search (needs, nodes-ready), search needs))
     (λ c. search needs)
-    (λ c. search needs)
-    (λ c. search (needs, nodes-next))
+    (λ c κs. (search needs, search needs))
+    (λ c. search (needs, fewer-left))
+    (λ c. search (needs, nodes-on))
     (λ c. search needs)
     (λ c. search needs)
     (λ c. search (needs, nodes-end)))

@@ -1,6 +1,6 @@
 -- `book_alternatives::join_behind` meets its contract, by the laws of Joining.
 use borrow.Author.Needs.{needs}
-use Rattle.book_alternatives.proofs.Joining.{nodes-there, join-sets, behind-joined}
+use Rattle.book_alternatives.proofs.Joining.{nodes-there, copy-room, behind-copied, join-sets, behind-joined}
 use Rattle.book_alternatives.proofs.join_behind.Statement.{statement}
 use Rattle.book_alternatives.proofs.join_behind.Tie as tie
 
@@ -9,6 +9,10 @@ join-behind-spec =
     tie.close
     (tie.spec
     (λ c κs. search needs)
+    (λ c κs. search (needs, copy-room))
+    (λ c. search needs)
+    (λ c. search needs)
+    (λ c. search (needs, behind-copied))
     (λ c κs. (search (needs, nodes-there), search (needs, join-sets)))
     (λ c. search needs)
     (λ c. search needs)

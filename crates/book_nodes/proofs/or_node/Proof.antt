@@ -10,4 +10,4 @@ ruleset all = (needs, or-untimed, or-timed)
 pub or-node-spec : {M : Type 1} → statement M
 or-node-spec =
     tie.close
-    (tie.spec (λ c κs. search all) (λ c κs. search all) (λ c. search all) (λ c. search all) (λ c κs. search all) (λ c κs. search all) (λ c κs. search all) (λ c. search all) (λ c. search all))
+    (tie.spec (λ c κs. search all) (λ c κs. search all) (λ c. search all) (λ c. search all) (λ c κs. search all) (λ c κs. search all) (λ c. search all) (λ c. search all))

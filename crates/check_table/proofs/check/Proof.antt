@@ -8,4 +8,4 @@ ruleset all = (needs, check-way)
 
 pub check-spec : {M : Type 1} → statement M
 check-spec = tie.close (tie.spec
-    (λ c. search all) (λ c. search all) (λ c. search all) (λ c. search all) (λ c κs. search all) (λ c. search all))
+    (λ c. search all) (λ c. search all) (λ c. search all) (λ c. search all) (λ c. search all) (λ c. search all) (λ c κs. search all) (λ c. search all))

@@ -8,6 +8,7 @@ pub check-table-spec : {M : Type 1} → statement M
 check-table-spec =
     tie.close
     (tie.spec
-    (λ c κs. search needs) (λ c. search needs) (λ c κs. (search needs, (search rows-there, (search needs, (search needs, search needs)))))
-    (λ c. search needs) (λ c. search needs) (λ c. search needs) (λ c. search needs) (λ c. search needs)
-    (λ c. search rows-right) (λ c. search rows-wrong) (λ c. search table-refuses))
+    (λ c κs. search needs) (λ c. search needs)
+    (λ c κs. (search needs, (search rows-there, (search needs, (search needs, (search needs, (search needs, search needs)))))))
+    (λ c. search needs) (λ c. search needs) (λ c. search needs) (λ c. search needs) (λ c. search needs) (λ c. search needs) (λ c. search needs)
+    (λ c. search (rows-right, c .before .before .before .before .before .before .before .before .before .before .before .before .before .before .before .before .before .before .test-table .ensures)) (λ c. search rows-wrong) (λ c. search table-refuses))

@@ -8,5 +8,5 @@ ruleset all = (needs, made-way)
 
 pub make-spec : {M : Type 1} → statement M
 make-spec = tie.close (tie.spec
-    (λ c. search all) (λ c. search all) (λ c. search all) (λ c. search all) (λ c. search all) (λ c. search all) (λ c κs. search all)
+    (λ c. search all) (λ c. search all) (λ c. search all) (λ c. search all) (λ c. search all) (λ c. search all) (λ c. search all) (λ c. search all) (λ c κs. search all)
     (λ c. search all))

@@ -1,12 +1,12 @@
 -- `maker::long_enough` meets its contract.
 use borrow.Author.Needs.{needs}
-use Rattle.maker.proofs.Ways.{short-nodes, short-pairs, short-index, short-graph, short-flags, classes-decide}
+use borrow.Author.Tests.{not-true, not-false}
+use Rattle.maker.proofs.Ways.{short-lent, short-flags, classes-decide}
 use Rattle.maker.proofs.long_enough.Statement.{statement}
 use Rattle.maker.proofs.long_enough.Tie as tie
-
-ruleset all = (needs, short-nodes, short-pairs, short-index, short-graph, short-flags, classes-decide)
 
 pub long-enough-spec : {M : Type 1} → statement M
 long-enough-spec =
     tie.close
-    (tie.spec (λ c. search all) (λ c. search all) (λ c. search all) (λ c. search all) (λ c. search all) (λ c. search all))
+    (tie.spec (λ c κs. search needs) (λ c. search (short-lent, not-true, needs)) (λ c. short-flags _ _ _ _ _ _ _ _ (search needs))
+    (λ c. search (classes-decide, not-false, needs)))

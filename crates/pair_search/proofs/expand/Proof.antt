@@ -1,18 +1,20 @@
 -- `pair_search::expand` meets its contract.
 use borrow.Author.Needs.{needs}
-use Rattle.pair_search.proofs.Entering.{entry-inside}
 use Rattle.pair_search.proofs.Following.{pair-room-below}
-use Rattle.pair_search.proofs.Exploring.{state-written}
+use Rattle.pair_search.proofs.Blocking.{state-written}
 use Rattle.pair_search.proofs.expand.Statement.{statement}
 use Rattle.pair_search.proofs.expand.Tie as tie
 
-ruleset all = (needs, entry-inside, pair-room-below, state-written)
+ruleset all = (needs, pair-room-below, state-written)
 
 pub expand-spec : {M : Type 1} → statement M
 expand-spec =
     tie.close
     (tie.spec
-    (λ c κs. search all)
+    (λ c κs. (search all, search all))
     (λ c κs. (search all, search all))
     (λ c κs. search (needs, state-written))
-    (λ c. search all) (λ c. search all) (λ c. search all) (λ c. search all))
+    (λ c. search all)
+    (λ c. search all)
+    (λ c. search all)
+    (λ c. search all))

@@ -1,6 +1,6 @@
 -- `pair_search::start` meets its contract.
 use borrow.Author.Needs.{needs}
-use Rattle.pair_search.proofs.Walking.{start-row, start-state}
+use Rattle.pair_trial.proofs.Walking.{start-row, start-state}
 use Rattle.pair_search.proofs.start.Statement.{statement}
 use Rattle.pair_search.proofs.start.Tie as tie
 

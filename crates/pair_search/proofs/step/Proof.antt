@@ -10,5 +10,10 @@ step-spec =
     (tie.spec
     (λ c κs. (search needs, search needs))
     (λ c κs. (search needs, (search (needs, pair-room-below), search (needs, move-room-below))))
-    (λ c. search needs) (λ c. search needs) (λ c. search needs)
-    (λ c. search (needs, step-done)))
+    (λ c. search needs)
+    (λ c. search needs)
+    (λ c. search needs)
+    (λ c. let asked = c .before .before .before .before .before .before .before .before .before .before .before .before .before .before .before .before .before .before .before .pre in
+    let ready = asked .0 .turning in
+    step-done _ _ _ _ _ _ _ _ _ _ _ _ (c .before .before .before .before .before .before .before .before .follow .ensures) (c .before .before .put-move .ensures)
+    (ready .right) (ready .world .files .search) (asked .1) (ready .low) (ready .most) (ready .graph-room)))

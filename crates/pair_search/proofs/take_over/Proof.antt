@@ -1,12 +1,17 @@
 -- `pair_search::take_over` meets its contract.
 use borrow.Author.Needs.{needs}
-use Rattle.pair_search.proofs.Entering.{take-broken, take-inside, take-copied}
+use Rattle.pair_search.proofs.Entering.{take-broken, take-inside, take-few, take-copied}
 use Rattle.pair_search.proofs.take_over.Statement.{statement}
 use Rattle.pair_search.proofs.take_over.Tie as tie
 
-ruleset all = (needs, take-broken, take-inside, take-copied)
+ruleset all = (needs, take-broken, take-inside, take-few, take-copied)
 
 pub take-over-spec : {M : Type 1} → statement M
 take-over-spec =
     tie.close
-    (tie.spec (λ c κs. search all) (λ c. search all) (λ c κs. (search all, (search all, (search all, (search all, search all))))) (λ c. search all) (λ c. search all))
+    (tie.spec
+    (λ c κs. (search all, (search all, search all)))
+    (λ c. search all)
+    (λ c κs. (search all, (search all, (search all, search all))))
+    (λ c. search all)
+    (λ c. search all))

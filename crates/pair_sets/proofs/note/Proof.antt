@@ -9,4 +9,11 @@ ruleset all = (needs, note-old, note-new, not-found-new)
 
 pub note-spec : {M : Type 1} → statement M
 note-spec =
-    tie.close (tie.spec (λ c κs. search all) (λ c. search all) (λ c. search all) (λ c κs. search all) (λ c. search all) (λ c. search all) (λ c. search all))
+    tie.close
+    (tie.spec
+    (λ c κs. search all)
+    (λ c κs. search all)
+    (λ c. search all)
+    (λ c. search all)
+    (λ c κs. (search all, (search all, (search all, (search all, (search all, (search all, search all)))))))
+    (λ c. search all) (λ c. search all) (λ c. search all))

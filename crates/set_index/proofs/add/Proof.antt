@@ -9,4 +9,4 @@ ruleset all = (needs, bucket-there, add-entry)
 pub add-spec : {M : Type 1} → statement M
 add-spec =
     tie.close
-    (tie.spec (λ c κs. search all) (λ c κs. (search all, search needs)) (λ c. search all) (λ c. search all))
+    (tie.spec (λ c κs. (search all, search needs)) (λ c. search all) (λ c. search all))

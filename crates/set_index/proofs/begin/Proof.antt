@@ -10,4 +10,8 @@ ruleset all = (needs, indexed-cleared, none-before)
 pub begin-spec : {M : Type 1} → statement M
 begin-spec =
     tie.close
-    (tie.spec (λ c κs. search all) (λ c κs. (search (indexed-cleared, c .before .before .before .clear .ensures), (search all, (search all, (search all, (search all, search all)))))) (λ c. search all) (λ c. search all))
+    (tie.spec
+    (λ c κs. search all)
+    (λ c κs. (search all, (search all, search all)))
+    (λ c κs. (search (indexed-cleared, c .before .before .before .before .clear .ensures), (search all, (search all, (search all, (search all, (search all, search all)))))))
+    (λ c. search all) (λ c. search all))

@@ -8,10 +8,10 @@ use Rattle.set_index.proofs.find.Tie as tie
 ruleset all = (needs, find-start, find-less, find-hit, find-miss, find-end)
 
 abbrev Inv-loop : tie.InvT-loop
-Inv-loop entries index n at₀ at = SearchingBucket entries n at
+Inv-loop entries index n h at₀ at = SearchingBucket entries n at
 
 abbrev μ-loop : tie.MeasureT-loop
-μ-loop entries index n at₀ at = at
+μ-loop entries index n h at₀ at = at
 
 pub find-spec : {M : Type 1} → statement M
 find-spec =

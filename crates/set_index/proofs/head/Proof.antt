@@ -9,4 +9,4 @@ ruleset all = (needs, bucket-there, head-read)
 pub head-spec : {M : Type 1} → statement M
 head-spec =
     tie.close
-    (tie.spec (λ c κs. search all) (λ c κs. search all) (λ c. search all))
+    (tie.spec (λ c κs. search all) (λ c. search all))

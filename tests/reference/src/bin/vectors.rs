@@ -1,7 +1,6 @@
 //! Runs the vectors, also those of the folders in theirs. The folder may be given as an argument.
 
 use reference::vectors::{self, Answer, FILES};
-use reference::TWO_TIMED;
 use std::fs;
 use std::path::{Path, PathBuf};
 use std::process::ExitCode;
@@ -42,8 +41,7 @@ fn run_file(name: &str, path: &Path, answer: Answer) -> bool {
     for (number, line) in text.lines().enumerate() {
         let (inputs, expected) = line.split_once(" = ").unwrap_or((line, ""));
         let inputs: Vec<&str> = inputs.split(' ').collect();
-        let found =
-            answer(TWO_TIMED, &inputs).unwrap_or_else(|| "a line that cannot be read".to_string());
+        let found = answer(&inputs).unwrap_or_else(|| "a line that cannot be read".to_string());
         if found == expected {
             right += 1;
         } else {

@@ -150,7 +150,7 @@ pub fn either_book(random: &mut Random, marks: usize) -> (Vec<u8>, Book) {
             text += line.trim_end();
             text += "\n";
         }
-        match book::read_with(true, marks, text.as_bytes()) {
+        match book::read(marks, text.as_bytes()) {
             Ok(book) => return (text.into_bytes(), book),
             Err(refusal) => assert_eq!(refusal.number, 9, "{text}"),
         }

@@ -1,5 +1,0 @@
-pub mod Entries
-pub mod Turns
-pub mod Seen
-mod Ways
-mod Copying

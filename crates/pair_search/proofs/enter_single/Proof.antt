@@ -1,0 +1,23 @@
+-- `pair_search::enter_single` meets its contract.
+use borrow.Author.Needs.{needs}
+use Rattle.pair_search.proofs.Entering.{state-inside, tower-state-inside, single-files, single-open, single-one, single-action, single-low, earlier-leads, earlier-room, enter-taken, enter-asked}
+use Rattle.pair_search.proofs.enter_single.Statement.{statement}
+use Rattle.pair_search.proofs.enter_single.Tie as tie
+
+ruleset all = (needs, state-inside, tower-state-inside, single-files, single-open, single-one, single-action, single-low, earlier-leads, earlier-room, enter-taken, enter-asked)
+
+pub enter-single-spec : {M : Type 1} → statement M
+enter-single-spec =
+    tie.close
+    (tie.spec
+    (λ c κs. (search all, search all))
+    (λ c κs. (search all, search all))
+    (λ c κs. (search all, (search all, (search all, (search all, search all)))))
+    (λ c κs. (search all, (search all, (search all, (search all, (search all, search all))))))
+    (λ c. search all)
+    (λ c. search all)
+    (λ c κs. (search all, (search all, search all)))
+    (λ c κs. (search all, search all))
+    (λ c κs. (search all, (search all, (search all, search all))))
+    (λ c. search all)
+    (λ c. search all))
