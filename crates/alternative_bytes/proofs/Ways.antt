@@ -30,7 +30,7 @@ use Rattle.book_progression.proofs.Cells.{cell-there, cell-one-more}
 use Rattle.book_progression.proofs.Nodes.{by-kind, by-always, by-until}
 use Rattle.book_progression.proofs.Areas.{beside-none, beside-both}
 use Rattle.alternative_bytes.specs.AlternativeBytes.{alternative-in}
-use Rattle.alternative_bytes.specs.Contracts.{CellNoMore, CellBoth, EqualTo, DifferAt, NoMore, BothPut, Copied}
+use Rattle.alternative_bytes.specs.Contracts.{CellNoMore, CellBoth, EqualTo, DifferAt, NoMore, Related, BothPut, Copied}
 use Rattle.alternative_bytes.proofs.Laws.{cell-number-of, alternative-length, alternative-cell, both-cell-at}
 
 -- ---- one cell asks no more
@@ -218,6 +218,31 @@ asking-on bytes n area p q k r b differ going cells passes low fits fits′ =
 
 pub fewer-left : (n : ℕ) (area : List ℕ) (p q k r : ℕ) → DifferAt n area p q (k + 1) r → k < n → n - r < n - k
 fewer-left n area p q k r differ low = omega (arith, differ .before .least)
+
+-- ---- how two are related
+
+-- They differ first where they do the other way round.
+pub differ-turned : (n : ℕ) (area : List ℕ) (p q k r : ℕ) → DifferAt n area p q k r → DifferAt n area q p k r
+differ-turned n area p q k r differ =
+    record {
+      before = record {
+        least = differ .before .least;
+        most = differ .before .most;
+        equal = λ j from below. sym (differ .before .equal j from below);
+      };
+      apart = λ low same. differ .apart low (sym same);
+    }
+
+module _ (bytes : List ℕ) (n : ℕ) (area : List ℕ) (p q : ℕ) (a : Bool) (one : NoMore a bytes n area p q) where
+  pub related-no-more : a ≡ true → Related 1 bytes n area p q
+  related-no-more is =
+      record { no-more = λ e. rw (← is) one; more = λ other. absurd (other refl); apart = λ e. absurd (omega arith) }
+
+  pub related-no-less : a ≡ false → Related 2 bytes n area p q
+  related-no-less is = record { no-more = λ e. absurd (omega arith); more = λ other. rw (← is) one; apart = λ e. absurd (omega arith) }
+
+  pub related-apart : (b : Bool) → NoMore b bytes n area q p → a ≡ false → b ≡ false → Related 0 bytes n area p q
+  related-apart b two is is-too = record { no-more = λ e. absurd (omega arith); more = λ other. rw (← is) one; apart = λ e. rw (← is-too) two }
 
 -- ---- which comes first
 

@@ -1,7 +1,7 @@
 -- What the functions of this crate promise. Where the nodes matter, the promise is for the formulas that the book's bytes hold.
 use Prim.Native.Nat.{ℕ, _+_, _≤_, _<_}
 use mathlib.Core.Path.{_≡_}
-use mathlib.Core.Bool.{Bool}
+use mathlib.Core.Bool.{Bool, true, false}
 use mathlib.Core.List.{List}
 use Rattle.base.specs.Bytes.{byte-at}
 use Rattle.logic.specs.Book.{Formula}
@@ -33,6 +33,13 @@ pub record DifferAt (n : ℕ) (area : List ℕ) (p q k r : ℕ) : Type 0 where
 -- The alternative at p asks no more than that at q.
 pub record NoMore (answer : Bool) (bytes : List ℕ) (n : ℕ) (area : List ℕ) (p q : ℕ) : Type 0 where
   pub says : (fs : List Formula) → AreNodes bytes n fs → answer ≡ asks-no-more fs (alternative-in area n p) (alternative-in area n q)
+
+-- How the alternatives at p and q are related: 1 exactly if the first asks no more; 0 only if neither asks no more. What else 2 means is left open:
+-- whoever is told 2 compares again.
+pub record Related (answer : ℕ) (bytes : List ℕ) (n : ℕ) (area : List ℕ) (p q : ℕ) : Type 0 where
+  pub no-more : answer ≡ 1 → NoMore true bytes n area p q
+  pub more : (answer ≡ 1 → ⊥) → NoMore false bytes n area p q
+  pub apart : answer ≡ 0 → NoMore false bytes n area q p
 
 -- The alternative at `to` becomes both of those at p and q of another area. Every other byte stays.
 pub record BothPut (bytes : List ℕ) (n : ℕ) (area : List ℕ) (p q : ℕ) (room : List ℕ) (to : ℕ) (after : List ℕ) : Type 0 where

@@ -7,11 +7,19 @@ ghost use Rattle.alternatives.specs.Alternatives.{earlier};
 ghost use Rattle.book_progression.specs.NodeBytes.{IsNode};
 ghost use Rattle.book_progression.specs.Contracts.{HasNodes};
 ghost use Rattle.alternative_bytes.specs.AlternativeBytes.{alternative-in};
-ghost use Rattle.alternative_bytes.specs.Contracts.{CellNoMore, EqualTo, DifferAt, NoMore, CellBoth, BothPut, Copied};
+ghost use Rattle.alternative_bytes.specs.Contracts.{CellNoMore, EqualTo, DifferAt, NoMore, Related, CellBoth, BothPut, Copied};
 use area_bytes::eight_bytes;
 use book_progression::node;
 use book_progression::past_empty;
 use logic::Tick;
+
+// How two alternatives are related: each asks more somewhere; the first asks no more; only the second
+// asks no more.
+pub const APART: u8 = 0;
+
+pub const NO_MORE: u8 = 1;
+
+pub const NO_LESS: u8 = 2;
 
 // Whether of node k a cell asks no more than another: where the bytes differ, nothing asks least, of A
 // the smaller number asks less, of U the larger; no other node has two numbers.
@@ -73,15 +81,16 @@ fn next_difference(n: usize, area: &[u8], p: usize, q: usize, k: usize) -> usize
     i
 }
 
-// Whether the alternative at p asks no more than that at q at any node: where their bytes are equal it
-// does not.
-pub fn asks_no_more(book: &[u8], n: usize, area: &[u8], p: usize, q: usize) -> bool
+// Whether the alternative at p asks no more than that at q at any node, the first two bytes that differ
+// being known: where their bytes are equal it does not.
+fn asks_from(book: &[u8], n: usize, area: &[u8], p: usize, q: usize, first: usize) -> bool
     requires { ⌜ HasNodes (now book) n ⌝ }
     requires { ⌜ p + n ≤ length (now area) ⌝ }
     requires { ⌜ q + n ≤ length (now area) ⌝ }
+    requires { ⌜ DifferAt n (now area) p q 0 first ⌝ }
     ensures { λ b. ⌜ NoMore b (now (book .entry)) n (now (area .entry)) p q ⌝ }
 {
-    let mut k = next_difference(n, area, p, q, 0);
+    let mut k = first;
     while k < n {
         if !cell_no_more(book, k, area[p + k], area[q + k]) {
             return false;
@@ -89,6 +98,35 @@ pub fn asks_no_more(book: &[u8], n: usize, area: &[u8], p: usize, q: usize) -> b
         k = next_difference(n, area, p, q, k + 1);
     }
     true
+}
+
+// Whether the alternative at p asks no more than that at q at any node.
+pub fn asks_no_more(book: &[u8], n: usize, area: &[u8], p: usize, q: usize) -> bool
+    requires { ⌜ HasNodes (now book) n ⌝ }
+    requires { ⌜ p + n ≤ length (now area) ⌝ }
+    requires { ⌜ q + n ≤ length (now area) ⌝ }
+    ensures { λ b. ⌜ NoMore b (now (book .entry)) n (now (area .entry)) p q ⌝ }
+{
+    let first = next_difference(n, area, p, q, 0);
+    asks_from(book, n, area, p, q, first)
+}
+
+// Whether the alternative at p asks no more than that at q, else whether that at q asks no more, or
+// neither. What they have in common is passed over once.
+pub fn related(book: &[u8], n: usize, area: &[u8], p: usize, q: usize) -> u8
+    requires { ⌜ HasNodes (now book) n ⌝ }
+    requires { ⌜ p + n ≤ length (now area) ⌝ }
+    requires { ⌜ q + n ≤ length (now area) ⌝ }
+    ensures { λ r. ⌜ Related r (now (book .entry)) n (now (area .entry)) p q ⌝ }
+{
+    let first = next_difference(n, area, p, q, 0);
+    if asks_from(book, n, area, p, q, first) {
+        return NO_MORE;
+    }
+    if asks_from(book, n, area, q, p, first) {
+        return NO_LESS;
+    }
+    APART
 }
 
 // Whether the alternative at p comes before that at q: the lowest node of which they say two things

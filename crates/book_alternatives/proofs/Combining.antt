@@ -3,7 +3,7 @@ use Prim.Native.Nat.{ℕ, zero, suc, _+_, _-_, _*_, _≤_, _<_}
 use native.Mathlib.Omega.{arith}
 use native.Mathlib.Numerals.{add-one}
 use mathlib.Core.Path.{_≡_, refl, sym, _∙_, ap₂}
-use mathlib.Core.Bool.{false}
+use mathlib.Core.Bool.{Bool, true, false}
 use mathlib.Core.Option.{Option, none, some}
 use mathlib.Core.List.{List, _∷_}
 use lib.ListN.{length, getD, drop, drop-of-length-le}
@@ -18,8 +18,8 @@ use Rattle.alternatives.specs.Alternatives.{Alternatives, combined}
 use Rattle.alternatives.specs.Progression.{if-so, alternatives-of, combined-nodes, combined-rule, combined-rules}
 use Rattle.alternatives.proofs.Sized.{combined-stands}
 use Rattle.book_progression.specs.PendingBytes.{cell-of}
-use Rattle.book_progression.specs.NodeBytes.{form-of, formula-of, fresh-of, Stored, HeldBook, MarkedState}
-use Rattle.book_progression.specs.Contracts.{AreNodes, EmptyTo, IsLine}
+use Rattle.book_progression.specs.NodeBytes.{code-of, first-of, form-of, formula-of, fresh-of, Stored, HeldBook, MarkedState}
+use Rattle.book_progression.specs.Contracts.{AreNodes, EmptyTo, IsLine, Passes}
 use Rattle.book_progression.proofs.Cells.{cell-there}
 use Rattle.book_progression.proofs.Nodes.{fresh-is, fresh-low}
 use Rattle.book_progression.proofs.Lines.{line-node}
@@ -31,6 +31,7 @@ use Rattle.set_bytes.specs.Contracts.{Combines, SetsReady}
 use Rattle.book_alternatives.specs.declared.SetAt.{SetAt}
 use Rattle.book_alternatives.specs.Looking.{looked-at}
 use Rattle.book_alternatives.specs.Offers.{combined-at, joined-at, Rooted, OfferReady, Offered, Looked, CombinedStands, StepReady, CombineReady, StepLeaves, NodeCombined, combined-cell, CellCombined, NodesCombined, LineCombined, LinesCombined}
+use Rattle.book_alternatives.proofs.Looking.{looks-or-first-holds}
 use Rattle.book_alternatives.proofs.Sets.{changed-none, changed-both, changed-wider, changed-beside, candidates-none, candidates-both, kept-behind}
 
 -- ---- what is left
@@ -290,6 +291,19 @@ pub line-ready : (bytes : List ℕ) (n i k : ℕ) (q : Tick) (mask count : ℕ) 
 line-ready bytes n i k q mask count sets room place new line all ready =
     combine-ready bytes n k q mask count sets room (omega (arith, place ∙ line .is .place, line .is .low))
     (rw new (fresh-low bytes k (line-node bytes i k place line))) ready
+
+-- Nothing comes of a line that passes.
+pub line-passes : (bytes : List ℕ) (n i mask : ℕ) (d : Tick) (count : ℕ) (sets room : List ℕ) (form k : ℕ) (b : Bool) → Passes b bytes k mask → b ≡ true
+    → form ≡ form-of bytes i → k ≡ formula-of bytes i → form ≡ 1 → IsLine bytes i → n ≡ nodes-in bytes → StepReady bytes n mask count sets room
+    → LineCombined count bytes n i mask d count sets room sets room
+line-passes bytes n i mask d count sets room form k b pass is-so at-form place one line all ready =
+    let q = ticks (fresh-of bytes k) in
+    let six = pass .code is-so in
+    let looked = looks-or-first-holds bytes k q mask d (code-of bytes k) refl (omega arith) (omega arith) (λ four. omega arith) (λ five. omega arith)
+    (first-of bytes k) b refl (pass .first is-so) is-so in
+    line-combined bytes n i mask d count sets room form at-form k q count sets room
+    (node-passes bytes n k q mask d count sets room 1 looked refl (line-ready bytes n i k q mask count sets room place refl line all ready))
+    place refl one line all ready
 
 -- ---- all lines
 

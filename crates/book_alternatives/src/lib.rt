@@ -413,7 +413,7 @@ fn combine_in_place(
     0
 }
 
-// The same: what stands so far where nothing comes of the node, else in place where it may be.
+// The same: in place where it may be; else what stands so far where nothing comes of the node.
 fn combine_node(
     book: &[u8],
     n: usize,
@@ -428,13 +428,13 @@ fn combine_node(
     requires { ⌜ CombineReady (now book) n k r mask count (now sets) (now room) ⌝ }
     ensures { λ out. ⌜ NodeCombined out (now (book .entry)) n k r mask d count (now (sets .entry)) (now (room .entry)) (now (sets .exit)) (now (room .exit)) ⌝ }
 {
-    if looks(book, k, r, mask, d) == PASSES {
-        return count;
-    }
     if count == 1 {
         if is_one_sided(book, k) {
             return combine_in_place(book, n, k, r, mask, d, sets);
         }
+    }
+    if looks(book, k, r, mask, d) == PASSES {
+        return count;
     }
     combine_general(book, n, k, r, mask, d, count, sets, room)
 }
@@ -496,7 +496,7 @@ fn combine_nodes(
     left
 }
 
-// Line i is combined with what stands so far, if it is an `always` line.
+// Line i is combined with what stands so far, if it is an `always` line. Most lines pass at most states.
 fn combine_line(
     book: &[u8],
     n: usize,
@@ -516,6 +516,9 @@ fn combine_line(
         return count;
     }
     let k = line::formula(book, i);
+    if book_progression::passes(book, k, mask) {
+        return count;
+    }
     combine_node(book, n, k, node::fresh(book, k), mask, d, count, sets, room)
 }
 

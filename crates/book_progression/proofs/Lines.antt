@@ -18,7 +18,7 @@ use Rattle.book_progression.specs.PendingBytes.{pending-of, outcome}
 use Rattle.book_progression.specs.NodeBytes.{form-of, formula-of, fresh-of, Stored, IsNode, HeldBook, MarkedState}
 use Rattle.book_progression.specs.Contracts.{NodeReady, PutsNode, Progresses, Passes, LineIs, IsLine, LineSteps, LinesProgress, LineBegins, LinesBegin}
 use Rattle.book_progression.proofs.Nodes.{is-node, fresh-is, fresh-low}
-use Rattle.book_progression.proofs.Progressing.{child}
+use Rattle.book_progression.proofs.Progressing.{child, passed}
 use Rattle.book_progression.proofs.BookHeld.{rule-at, nodes-before, nodes-before-next, held-line}
 
 -- ---- one line
@@ -54,7 +54,7 @@ module _ (bytes : List ℕ) (i : ℕ) (cells : List ℕ) (form : ℕ) (at-form :
   pub line-passes : (mask : ℕ) (d : Tick) (k : ℕ) (b : Bool) → form ≡ 1 → k ≡ formula-of bytes i → Passes b bytes k mask → b ≡ true
       → LineSteps true bytes i mask d cells cells
   line-passes mask d k b one place pass is-so =
-      line-progresses mask d k (ticks (fresh-of bytes k)) true cells one place refl (pass .says is-so (ticks (fresh-of bytes k)) d cells)
+      line-progresses mask d k (ticks (fresh-of bytes k)) true cells one place refl (passed bytes k mask b pass is-so (ticks (fresh-of bytes k)) d cells)
 
   pub line-waits : form ≡ 1 → LineBegins bytes i cells cells
   unfolding begin-rule

@@ -201,13 +201,20 @@ module _ (bytes : List ℕ) (k : ℕ) (r : Tick) (mask : ℕ) (d : Tick) (cells 
 -- Nothing comes of an or whose untimed first side holds.
 module _ (bytes : List ℕ) (k mask : ℕ) where
   pub not-passing : Passes false bytes k mask
-  not-passing = record { says = λ is-so. let z : _≡_ {A = ℕ} 0 1 = cc in absurd (omega arith) }
+  not-passing =
+      record {
+        code = λ is-so. let z : _≡_ {A = ℕ} 0 1 = cc in absurd (omega arith);
+        first = λ is-so. let z : _≡_ {A = ℕ} 0 1 = cc in absurd (omega arith);
+      }
 
   pub passing : (code p : ℕ) (h : Bool) → code ≡ code-of bytes k → code ≡ 6 → p ≡ first-of bytes k → HoldsAt h bytes p mask → Passes h bytes k mask
-  passing code p h e six first held =
-      record {
-        says = λ is-so r d cells. progress-or-first-holds bytes k r mask d cells code e (omega arith) (omega arith) (λ four. omega arith) (λ five. omega arith) p h first held is-so;
-      }
+  passing code p h e six first held = record { code = λ is-so. sym e ∙ six; first = λ is-so. rw (← first) held }
+
+  pub passed : (b : Bool) → Passes b bytes k mask → b ≡ true → (r d : Tick) (cells : List ℕ) → Progresses true bytes k r mask d cells cells
+  passed b pass is-so r d cells =
+      let six = pass .code is-so in
+      progress-or-first-holds bytes k r mask d cells (code-of bytes k) refl (omega arith) (omega arith) (λ four. omega arith) (λ five. omega arith)
+      (first-of bytes k) b refl (pass .first is-so) is-so
 
 -- What is asked of a part before it progresses, t being the number that falls.
 module _ (bytes : List ℕ) (k p code : ℕ) (q : Tick) (cells : List ℕ) where

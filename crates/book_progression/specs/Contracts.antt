@@ -15,7 +15,7 @@ use Rattle.logic.specs.declared.Tick.{Tick}
 use Rattle.pending.specs.Pending.{Pending, holds, coming, put, progress, progress-nodes, progress-rule, progress-rules, none-pending, progressed, begin-rule, begin-rules, first-pending}
 use Rattle.reading.specs.BookArea.{lines-at, line-size, nodes-in, comparison-code, form-code}
 use Rattle.book_progression.specs.PendingBytes.{cell-of, pending-of, part, outcome}
-use Rattle.book_progression.specs.NodeBytes.{code-of, form-of, formula-of, Stored, IsNode, HeldBook, MarkedState}
+use Rattle.book_progression.specs.NodeBytes.{code-of, first-of, form-of, formula-of, Stored, IsNode, HeldBook, MarkedState}
 
 -- The answer says whether node k holds at a state with these marks.
 pub record HoldsAt (answer : Bool) (bytes : List ℕ) (k mask : ℕ) : Type 0 where
@@ -62,9 +62,10 @@ pub record Progresses (answer : Bool) (bytes : List ℕ) (k : ℕ) (r : Tick) (m
   pub says : (f : Formula) → Stored bytes f k → (at : MarkedState mask)
       → progress (at .tower) (at .state) d f k r (pending-of cells) ≡ outcome answer after
 
--- Where the answer is yes, nothing comes of node k, whatever its ticks and the step.
+-- Where the answer is yes, node k is an or whose first side is untimed, and that side holds.
 pub record Passes (answer : Bool) (bytes : List ℕ) (k mask : ℕ) : Type 0 where
-  pub says : answer ≡ true → (r d : Tick) (cells : List ℕ) → Progresses true bytes k r mask d cells cells
+  pub code : answer ≡ true → code-of bytes k ≡ 6
+  pub first : answer ≡ true → HoldsAt answer bytes (first-of bytes k) mask
 
 -- ---- all nodes
 

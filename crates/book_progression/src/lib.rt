@@ -284,8 +284,8 @@ fn progress_nodes(
     true
 }
 
-// Node k is an or whose first side is untimed and holds, so that nothing comes of it.
-fn passes(book: &[u8], k: usize, mask: usize) -> bool
+// Whether node k is an or whose first side is untimed and holds, so that nothing comes of it.
+pub fn passes(book: &[u8], k: usize, mask: usize) -> bool
     requires { ⌜ IsNode (now book) k ⌝ }
     ensures { λ b. ⌜ Passes b (now (book .entry)) k mask ⌝ }
 {

@@ -1,4 +1,4 @@
--- Two loops over the chosen candidates: whether one of them asks no more than candidate c, and which stay since candidate c does not ask as little.
+-- Two loops over the chosen candidates: which stay since candidate c does not ask as little, and how all of them are related to it.
 use Prim.Native.Nat.{ℕ, _+_, _*_, _≤_, _<_}
 use native.Mathlib.Omega.{arith}
 use native.Mathlib.Decide.{decLt}
@@ -16,9 +16,9 @@ use Rattle.pending.specs.Pending.{Pending}
 use Rattle.alternatives.specs.Least.{without}
 use Rattle.alternatives.specs.Alternatives.{asks-no-more, earlier}
 use Rattle.book_progression.specs.Contracts.{AreNodes}
-use Rattle.alternative_bytes.specs.Contracts.{NoMore}
+use Rattle.alternative_bytes.specs.Contracts.{NoMore, Related}
 use Rattle.set_bytes.specs.SetBytes.{alternative-size, candidate, chosen}
-use Rattle.set_bytes.specs.Contracts.{Below, IsCovered, Without}
+use Rattle.set_bytes.specs.Contracts.{Below, IsCovered, Without, LookedOver}
 use Rattle.set_bytes.proofs.Chosen.{chosen-length, chosen-at, chosen-next, chosen-set}
 
 -- What an answer on two candidates says.
@@ -174,6 +174,75 @@ drop-end bytes n room first m c order i left going all =
       most = omega (arith, going .fewer);
       below = going .below;
       says = λ fs are. going .says fs are ∙ ap (λ (k : ℕ). without (asks-no-more fs) earlier (candidate room n c) (chosen room n first k)) e;
+    }
+
+-- One more stays where it is.
+drop-stays : (bytes : List ℕ) (n : ℕ) (room order : List ℕ) (m c i : ℕ) → Dropping bytes n room order m c order i i
+    → NoMore false bytes n room (60 * c) (60 * getD order i 0) → i < m → m ≤ length order → Dropping bytes n room order m c order (i + 1) (i + 1)
+drop-stays bytes n room order m c i going answer low few =
+    record {
+      size = refl;
+      done = omega arith;
+      fewer = omega arith;
+      rest = λ j l. refl;
+      below = λ limit h. record { low = λ j l. h .low j (omega arith) };
+      says = λ fs are. chosen-next room n order i (omega arith) ∙ sym (next false bytes n room order m c order i i going answer fs are low few);
+    }
+
+-- ---- how the chosen are related to a candidate
+
+-- None of the first i covers candidate c, and all of them stay if none was found of which it asks no more.
+pub record LookingOver (bytes : List ℕ) (n : ℕ) (room order : List ℕ) (m c i found : ℕ) : Type 0 where
+  pub low : i ≤ m
+  pub needed : found ≡ 1 → ⊥
+  pub none : NoneCovers bytes n room order i c
+  pub stay : found ≡ 0 → Dropping bytes n room order m c order i i
+
+pub look-start : (bytes : List ℕ) (n : ℕ) (room order : List ℕ) (m c : ℕ) → LookingOver bytes n room order m c 0 0
+look-start bytes n room order m c =
+    record {
+      low = omega arith;
+      needed = λ e. omega arith;
+      none = covers-none bytes n room order c;
+      stay = λ e. drop-start bytes n room order m c;
+    }
+
+module _ (bytes : List ℕ) (n : ℕ) (room order : List ℕ) (m c i r : ℕ) (one : Related r bytes n room (60 * getD order i 0) (60 * c)) where
+  pub look-covered : r ≡ 1 → i < m → m ≤ length order → LookedOver 1 bytes n room order m c
+  look-covered is low few =
+      record {
+        covered = λ e. covers-found true bytes n room order i m c (one .no-more is) refl low few;
+        needed = λ other. absurd (other refl);
+        apart = λ e. absurd (omega arith);
+      }
+
+  pub look-needless : (found : ℕ) → LookingOver bytes n room order m c i found → (r ≡ 1 → ⊥) → i < m → LookingOver bytes n room order m c (i + 1) 2
+  look-needless found going other low =
+      record {
+        low = omega arith;
+        needed = λ e. omega arith;
+        none = covers-not false bytes n room order i c (going .none) (one .more other) refl;
+        stay = λ e. absurd (omega arith);
+      }
+
+  pub look-apart : (found : ℕ) → LookingOver bytes n room order m c i found → r ≡ 0 → i < m → m ≤ length order
+      → LookingOver bytes n room order m c (i + 1) found
+  look-apart found going is low few =
+      record {
+        low = omega arith;
+        needed = going .needed;
+        none = covers-not false bytes n room order i c (going .none) (one .more (λ e. omega arith)) refl;
+        stay = λ e. drop-stays bytes n room order m c i (going .stay e) (one .apart is) low few;
+      }
+
+pub look-end : (bytes : List ℕ) (n : ℕ) (room order : List ℕ) (m c i found : ℕ) → LookingOver bytes n room order m c i found → m ≤ i
+    → m ≤ length order → LookedOver found bytes n room order m c
+look-end bytes n room order m c i found going all few =
+    let e : i ≡ m = omega (arith, going .low) in
+    record {
+      covered = λ is. absurd (going .needed is);
+      needed = λ other. covers-end bytes n room order i m c (going .none) all few;
+      apart = λ is. rw e at (drop-end bytes n room order m c order i i (going .stay is) all);
     }
 
 -- The next number is a byte,

@@ -16,40 +16,57 @@ use Rattle.alternatives.specs.Alternatives.{Alternatives, over, these, most-alt
 use Rattle.set_bytes.specs.SetBytes.{answered, set-in, candidate, chosen, either-of, pairs-of}
 use Rattle.book_progression.specs.Contracts.{AreNodes}
 use Rattle.book_progression.proofs.Areas.{beside-none}
-use Rattle.set_bytes.specs.Contracts.{IsCovered, Without, Placed, Added, Gathered, PutOut, Finished, Leaves, Combines, Joins, SetsReady, RoomFor}
+use Rattle.set_bytes.specs.Contracts.{LookedOver, Without, Placed, Replaced, Added, Gathered, PutOut, Finished, Leaves, Combines, Joins, SetsReady, RoomFor}
 use Rattle.set_bytes.proofs.Chosen.{chosen-length}
 
 -- ---- one more candidate
 
 -- One of the chosen asks no more: they stay as they are.
-pub add-covered : (b : Bool) (bytes : List ℕ) (n : ℕ) (room order : List ℕ) (m c : ℕ) → IsCovered b bytes n room order m c → b ≡ true
+pub add-covered : (r : ℕ) (bytes : List ℕ) (n : ℕ) (room order : List ℕ) (m c : ℕ) → LookedOver r bytes n room order m c → r ≡ 1
     → Added m bytes n room order m c order
 unfolding with-one-more
-add-covered b bytes n room order m c answer is =
+add-covered r bytes n room order m c seen is =
     record {
       size = refl;
       most = omega arith;
       below = λ below. record { low = λ i l. omega (arith, below .low i l) };
       says = λ fs are.
           let some : some-of (λ (y : Pending). asks-no-more fs y (candidate room n c)) (chosen room n order m) ≡ true =
-          sym (answer .says fs are) ∙ is in
+          sym (seen .covered is .says fs are) in
           rw some refl;
     }
 
--- None does: it takes its place among those that stay.
-pub add-placed : (b : Bool) (bytes : List ℕ) (n : ℕ) (room order : List ℕ) (m c left : ℕ) (mid after : List ℕ) → IsCovered b bytes n room order m c
-    → b ≡ false → Without left bytes n room order m c mid → Placed n room mid left c after → Added (left + 1) bytes n room order m c after
-unfolding with-one-more
-add-placed b bytes n room order m c left mid after answer is stay there =
+-- It takes its place among those that stay.
+pub replaced : (bytes : List ℕ) (n : ℕ) (room order : List ℕ) (m c left : ℕ) (mid after : List ℕ) → Without left bytes n room order m c mid
+    → Placed n room mid left c after → Replaced (left + 1) bytes n room order m c after
+replaced bytes n room order m c left mid after stay there =
     record {
       size = there .size ∙ stay .size;
       most = omega (arith, stay .most);
       below = λ below. there .below (stay .below c below);
+      says = λ fs are. there .says fs ∙ ap (placed (asks-no-more fs) earlier (candidate room n c)) (stay .says fs are);
+    }
+
+-- None of the chosen asks no more: some may be dropped,
+pub add-replaced : (r : ℕ) (bytes : List ℕ) (n : ℕ) (room order : List ℕ) (m c left : ℕ) (after : List ℕ) → Replaced left bytes n room order m c after
+    → LookedOver r bytes n room order m c → (r ≡ 1 → ⊥) → Added left bytes n room order m c after
+unfolding with-one-more
+add-replaced r bytes n room order m c left after there seen other =
+    record {
+      size = there .size;
+      most = there .most;
+      below = there .below;
       says = λ fs are.
           let none : some-of (λ (y : Pending). asks-no-more fs y (candidate room n c)) (chosen room n order m) ≡ false =
-          sym (answer .says fs are) ∙ is in
-          rw none (there .says fs ∙ ap (placed (asks-no-more fs) earlier (candidate room n c)) (stay .says fs are));
+          sym (seen .needed other .says fs are) in
+          rw none (there .says fs are);
     }
+
+-- or all stay.
+pub add-apart : (r : ℕ) (bytes : List ℕ) (n : ℕ) (room order : List ℕ) (m c : ℕ) (after : List ℕ) → Placed n room order m c after
+    → LookedOver r bytes n room order m c → r ≡ 0 → Added (m + 1) bytes n room order m c after
+add-apart r bytes n room order m c after there seen is =
+    add-replaced r bytes n room order m c (m + 1) after (replaced bytes n room order m c m order after (seen .apart is) there) seen (λ e. omega arith)
 
 -- ---- what is left
 

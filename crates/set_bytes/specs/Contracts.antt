@@ -31,6 +31,12 @@ pub record Without (r : ℕ) (bytes : List ℕ) (n : ℕ) (room order : List ℕ
   pub says : (fs : List Formula) → AreNodes bytes n fs
       → chosen room n after r ≡ without (asks-no-more fs) earlier (candidate room n c) (chosen room n order m)
 
+-- How the chosen are related to candidate c: 1 exactly if it is covered; 0 only if all stay beside it. 2 leaves that open.
+pub record LookedOver (answer : ℕ) (bytes : List ℕ) (n : ℕ) (room order : List ℕ) (m c : ℕ) : Type 0 where
+  pub covered : answer ≡ 1 → IsCovered true bytes n room order m c
+  pub needed : (answer ≡ 1 → ⊥) → IsCovered false bytes n room order m c
+  pub apart : answer ≡ 0 → Without m bytes n room order m c order
+
 -- Candidate c belongs at place r among the chosen: before the first that it is earlier than.
 pub record IsPlace (r n : ℕ) (room order : List ℕ) (m c : ℕ) : Type 0 where
   pub most : r ≤ m
@@ -49,6 +55,15 @@ pub record Placed (n : ℕ) (room order : List ℕ) (m c : ℕ) (after : List �
   pub below : Below order m c → Below after (m + 1) (c + 1)
   pub says : (fs : List Formula)
       → chosen room n after (m + 1) ≡ placed (asks-no-more fs) earlier (candidate room n c) (chosen room n order m)
+
+-- Candidate c takes its place among those that are not dropped.
+pub record Replaced (r : ℕ) (bytes : List ℕ) (n : ℕ) (room order : List ℕ) (m c : ℕ) (after : List ℕ) : Type 0 where
+  pub size : length after ≡ length order
+  pub most : r ≤ m + 1
+  pub below : Below order m c → Below after r (c + 1)
+  pub says : (fs : List Formula) → AreNodes bytes n fs
+      → chosen room n after r
+      ≡ placed (asks-no-more fs) earlier (candidate room n c) (without (asks-no-more fs) earlier (candidate room n c) (chosen room n order m))
 
 -- One more candidate.
 pub record Added (r : ℕ) (bytes : List ℕ) (n : ℕ) (room order : List ℕ) (m c : ℕ) (after : List ℕ) : Type 0 where

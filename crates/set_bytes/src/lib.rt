@@ -6,7 +6,11 @@ ghost use Prim.Native.Nat.{_+_, _*_, _<_, _≤_};
 ghost use lib.ListN.{length};
 ghost use Rattle.book_progression.specs.Contracts.{HasNodes};
 ghost use Rattle.set_bytes.specs.SetBytes.{alternative-size, set-size, most-candidates, candidates-size, copy-of, copies-of, either-of, pair-of, row-of, pairs-of};
-ghost use Rattle.set_bytes.specs.Contracts.{IsCovered, Without, IsPlace, Moved, Placed, Added, Gathered, PutOut, Finished, Combines, Joins, SetsReady, RoomFor};
+ghost use Rattle.set_bytes.specs.Contracts.{LookedOver, Without, IsPlace, Moved, Placed, Replaced, Added, Gathered, PutOut, Finished, Combines, Joins, SetsReady, RoomFor};
+use alternative_bytes::APART;
+use alternative_bytes::NO_LESS;
+use alternative_bytes::NO_MORE;
+use alternative_bytes::related;
 
 // From one alternative to the next.
 const SIZE: usize = 60;
@@ -18,23 +22,30 @@ pub const OVER: usize = 17;
 
 // ---- the chosen candidates
 
-// Whether one of the m chosen asks no more than candidate c.
-fn covered(book: &[u8], n: usize, room: &[u8], order: &[u8], m: usize, c: usize) -> bool
+// How the m chosen are related to candidate c: NO_MORE if one of them asks no more; else APART if of
+// none of them c asks no more, and NO_LESS if of some.
+fn look_over(book: &[u8], n: usize, room: &[u8], order: &[u8], m: usize, c: usize) -> u8
     requires { ⌜ HasNodes (now book) n ⌝ }
     requires { ⌜ n ≤ alternative-size ⌝ }
     requires { ⌜ candidates-size ≤ length (now room) ⌝ }
     requires { ⌜ m ≤ length (now order) ⌝ }
     requires { ⌜ c < most-candidates ⌝ }
-    ensures { λ b. ⌜ IsCovered b (now (book .entry)) n (now (room .entry)) (now (order .entry)) m c ⌝ }
+    ensures { λ r. ⌜ LookedOver r (now (book .entry)) n (now (room .entry)) (now (order .entry)) m c ⌝ }
 {
     let mut i = 0;
+    let mut found = APART;
     while i < m {
-        if alternative_bytes::asks_no_more(book, n, room, SIZE * (order[i] as usize), SIZE * c) {
-            return true;
-        }
+        let at = i;
         i += 1;
+        let one = related(book, n, room, SIZE * (order[at] as usize), SIZE * c);
+        if one == NO_MORE {
+            return NO_MORE;
+        }
+        if one != APART {
+            found = NO_LESS;
+        }
     }
-    false
+    found
 }
 
 // Drops those of the m chosen of which candidate c asks no more. Answers how many are left.
@@ -104,8 +115,23 @@ fn place(n: usize, room: &[u8], order: &mut [u8], m: usize, c: usize)
     order[at] = c as u8;
 }
 
+// Candidate c takes its place among those of the m chosen that are not needless beside it. Answers how
+// many are chosen then.
+fn replace(book: &[u8], n: usize, room: &[u8], order: &mut [u8], m: usize, c: usize) -> usize
+    requires { ⌜ HasNodes (now book) n ⌝ }
+    requires { ⌜ n ≤ alternative-size ⌝ }
+    requires { ⌜ candidates-size ≤ length (now room) ⌝ }
+    requires { ⌜ m < length (now order) ⌝ }
+    requires { ⌜ c < most-candidates ⌝ }
+    ensures { λ r. ⌜ Replaced r (now (book .entry)) n (now (room .entry)) (now (order .entry)) m c (now (order .exit)) ⌝ }
+{
+    let left = drop_needless(book, n, room, order, m, c);
+    place(n, room, order, left, c);
+    left + 1
+}
+
 // One more candidate: it is dropped if one of the m chosen asks no more, and else takes its place
-// among those that stay. Answers how many are chosen then.
+// among those that stay. Most often all stay. Answers how many are chosen then.
 pub fn add(book: &[u8], n: usize, room: &[u8], order: &mut [u8], m: usize, c: usize) -> usize
     requires { ⌜ HasNodes (now book) n ⌝ }
     requires { ⌜ n ≤ alternative-size ⌝ }
@@ -114,12 +140,15 @@ pub fn add(book: &[u8], n: usize, room: &[u8], order: &mut [u8], m: usize, c: us
     requires { ⌜ c < most-candidates ⌝ }
     ensures { λ r. ⌜ Added r (now (book .entry)) n (now (room .entry)) (now (order .entry)) m c (now (order .exit)) ⌝ }
 {
-    if covered(book, n, room, order, m, c) {
+    let found = look_over(book, n, room, order, m, c);
+    if found == NO_MORE {
         return m;
     }
-    let left = drop_needless(book, n, room, order, m, c);
-    place(n, room, order, left, c);
-    left + 1
+    if found == APART {
+        place(n, room, order, m, c);
+        return m + 1;
+    }
+    replace(book, n, room, order, m, c)
 }
 
 // ---- sets

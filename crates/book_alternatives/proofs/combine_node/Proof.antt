@@ -11,11 +11,11 @@ combine-node-spec =
     tie.close
     (tie.spec
     (λ c κs. search (needs, offer-node))
-    (λ c. search (needs, node-passes))
-    (λ c κs. search (needs, offer-node))
     (λ c κs. search (needs, in-place-ready))
     (λ c. search needs)
     (λ c. search (needs, node-in-place))
+    (λ c κs. search (needs, offer-node))
+    (λ c. search (needs, node-passes))
     (λ c κs. search needs)
     (λ c. search needs)
     (λ c. search needs)

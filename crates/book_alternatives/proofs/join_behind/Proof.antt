@@ -12,7 +12,8 @@ join-behind-spec =
     (λ c κs. search (needs, copy-room))
     (λ c. search needs)
     (λ c. search needs)
-    (λ c. search (needs, behind-copied))
+    (λ c. behind-copied _ _ _ _ _ _ (search needs) _ _ _ _ _ (c .before .before .before .before .before .before .before .before .before .behind .ensures) _ _
+    (c .before .before .copy-combined .ensures) (search needs))
     (λ c κs. (search (needs, nodes-there), search (needs, join-sets)))
     (λ c. search needs)
     (λ c. search needs)
