@@ -31,7 +31,7 @@ use std::time::Duration;
 /// The sizes at which the checker and the maker are measured.
 const SIZES: [usize; 3] = [250, 500, 1_000];
 
-/// How many times plain Rust's time a log may take.
+/// How many times plain Rust's time a log may take, and a book with two timed sides.
 const MOST_OF_PLAIN: f64 = 1.0;
 
 /// What is measured, in the lines of tables.
@@ -155,8 +155,8 @@ impl Report {
         }
     }
 
-    /// Judges the times of the logs, each beside plain Rust's.
-    fn judge_logs(&mut self, times: &[Times]) {
+    /// Judges times, each beside plain Rust's.
+    fn judge_ratios(&mut self, times: &[Times], failure: &'static str) {
         let ratios = times
             .iter()
             .map(|times| measure::ratio(times.proved, times.plain));
@@ -165,8 +165,7 @@ impl Report {
             "\nThe largest ratio is {largest:.2} (at most {MOST_OF_PLAIN:.1})."
         ));
         if largest > MOST_OF_PLAIN {
-            self.failures
-                .push("a log takes longer than with plain Rust");
+            self.failures.push(failure);
         }
     }
 }
@@ -397,7 +396,7 @@ fn read_logs(report: &mut Report) {
             largest().with_log(ten_digits, bytes),
         ),
     ];
-    report.judge_logs(&times);
+    report.judge_ratios(&times, "a log takes longer than with plain Rust");
 }
 
 /// Makes and checks a table under a book with two timed sides of `|`. A library from before item 3 refuses
@@ -436,7 +435,7 @@ fn keep_either_promise(report: &mut Report) {
         answer
     };
     report.compare(make, plain.map(|length| [length, 0]));
-    report.measure_with(
+    let making = report.measure_with(
         &input("making", *made),
         Work::Calls(1),
         |library| {
@@ -457,7 +456,7 @@ fn keep_either_promise(report: &mut Report) {
     assert_eq!(tuned_checker.met_sets(), *checked);
     let plain = plain.map(|()| [0, 0]);
     report.compare(|library| library.check(tower, book, table), plain);
-    report.measure_with(
+    let checking = report.measure_with(
         &input("checking", *checked),
         Work::Calls(1),
         |library| {
@@ -470,6 +469,8 @@ fn keep_either_promise(report: &mut Report) {
             let _ = black_box(tuned_checker.check(black_box(tower), book, table));
         }),
     );
+    let failure = "a book with two timed sides takes longer than with plain Rust";
+    report.judge_ratios(&[making, checking], failure);
 }
 
 fn main() -> ExitCode {

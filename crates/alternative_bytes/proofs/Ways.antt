@@ -21,7 +21,7 @@ use Rattle.logic.specs.declared.Tick.{Tick}
 use Rattle.pending.specs.Pending.{Pending, coming}
 use Rattle.alternatives.specs.Alternatives.{first-cell, later-cells, no-more-ticks, no-more-cell, asks-no-more, cell-number, earlier, both-cells, both}
 use Rattle.alternatives.proofs.Orders.{no-more-cell-refl}
-use Rattle.alternatives.proofs.Canonical.{both-sized}
+use Rattle.alternatives.proofs.Antichain.{both-sized}
 use Rattle.area_bytes.proofs.Numbers.{same-bytes}
 use Rattle.book_progression.specs.PendingBytes.{cell-of}
 use Rattle.book_progression.specs.NodeBytes.{code-of, IsNode}

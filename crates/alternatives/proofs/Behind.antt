@@ -17,7 +17,7 @@ use Rattle.pending.specs.Pending.{Pending, holds, fresh, merge, coming, put, pr
 use Rattle.pending.proofs.Nodes.{Stand, stand-left, stand-right, Sits, sits-first, sits-second, sits-only, sits-root, sits-within, sits-node, Any, any-inherited, AllSit, book-sits}
 use Rattle.pending.proofs.Asked.{book-stands}
 use Rattle.alternatives.specs.Alternatives.{first-cell, later-cells, both-cells, both}
-use Rattle.alternatives.proofs.Canonical.{both-sized}
+use Rattle.alternatives.proofs.Antichain.{both-sized}
 
 -- ---- both of two alternatives
 

@@ -1,4 +1,4 @@
--- The least of several things: what is in it, that it covers them all, that it is canonical, and that no other canonical list covers them.
+-- The least of several things: what is in it, that it covers them all, that it is an ordered antichain, and that no other one covers them.
 use Prim.Native.Nat.{suc, _+_, _≤_}
 use mathlib.Core.Path.{_≡_, refl, sym, ap, ap₂, _∙_, subst}
 use mathlib.Core.Logic.{_⊎_, inl, inr, ⊎-elim}
@@ -11,7 +11,7 @@ use Rattle.base.specs.Choice.{pick}
 use Rattle.base.specs.Lists.{some-of}
 use Rattle.base.proofs.Lists.{whether, never-both, some-at, some-none, none-of}
 use Rattle.alternatives.specs.Least.{without, placed, with-one-more, with-more, least}
-use Rattle.alternatives.specs.Canonical.{StandsBefore, Canonical}
+use Rattle.alternatives.specs.Antichain.{StandsBefore, Antichain}
 
 -- What is asked of the two tests: `no-more` is reflexive and transitive, and `earlier` is a strict total order.
 pub record OrderLaws {X : Type 0} (no-more earlier : X → X → Bool) : Type 0 where
@@ -149,33 +149,33 @@ module _ {X : Type 0} (no-more : X → X → Bool) (earlier : X → X → Bool) 
   unfolding least
   least-length xs = omega (arith, more-length [] xs)
 
-  -- ---- In a canonical list
+  -- ---- In an antichain
 
-  canonical-without : (x : X) (ys : List X) → Canonical no-more earlier ys → Canonical no-more earlier (without no-more earlier x ys)
-  unfolding Canonical without
-  canonical-without x [] c = tt
-  canonical-without x (y ∷ ys) c =
-      pick-by (λ zs. Canonical no-more earlier zs) (no-more x y) _ _ (λ _. canonical-without x ys (c .1))
-      (λ _. (λ z m. c .0 z (without-out x ys m .0), canonical-without x ys (c .1)))
+  antichain-without : (x : X) (ys : List X) → Antichain no-more earlier ys → Antichain no-more earlier (without no-more earlier x ys)
+  unfolding Antichain without
+  antichain-without x [] c = tt
+  antichain-without x (y ∷ ys) c =
+      pick-by (λ zs. Antichain no-more earlier zs) (no-more x y) _ _ (λ _. antichain-without x ys (c .1))
+      (λ _. (λ z m. c .0 z (without-out x ys m .0), antichain-without x ys (c .1)))
 
-  -- Of two parts of a canonical list each of the first stands before each of the second.
-  pub canonical-parts : (ys xs : List X) → Canonical no-more earlier (ys ++ xs) → {y x : X} → List·Memᴰ y ys → List·Memᴰ x xs
+  -- Of two parts of an antichain each of the first stands before each of the second.
+  pub antichain-parts : (ys xs : List X) → Antichain no-more earlier (ys ++ xs) → {y x : X} → List·Memᴰ y ys → List·Memᴰ x xs
       → StandsBefore no-more earlier y x
-  unfolding Canonical
-  canonical-parts [] xs c m k = absurd (List·Memᴰ·not-nil m)
-  canonical-parts (z ∷ ys) xs c {y} {x} m k =
+  unfolding Antichain
+  antichain-parts [] xs c m k = absurd (List·Memᴰ·not-nil m)
+  antichain-parts (z ∷ ys) xs c {y} {x} m k =
       ⊎-elim (λ p. subst (λ w. StandsBefore no-more earlier w x) (sym p) (c .0 x (Memᴰ·append-right ys k)))
-      (λ i. canonical-parts ys xs (c .1) i k) (List·Memᴰ·cases-cons m)
+      (λ i. antichain-parts ys xs (c .1) i k) (List·Memᴰ·cases-cons m)
 
-  -- Of two in a canonical list one asks no more than the other only if they are the same.
-  pub canonical-one : (xs : List X) → Canonical no-more earlier xs → {x y : X} → List·Memᴰ x xs → List·Memᴰ y xs → no-more x y ≡ true
+  -- Of two in an antichain one asks no more than the other only if they are the same.
+  pub antichain-one : (xs : List X) → Antichain no-more earlier xs → {x y : X} → List·Memᴰ x xs → List·Memᴰ y xs → no-more x y ≡ true
       → x ≡ y
-  unfolding Canonical
-  canonical-one [] c m k e = absurd (List·Memᴰ·not-nil m)
-  canonical-one (z ∷ xs) c {x} {y} m k e =
+  unfolding Antichain
+  antichain-one [] c m k e = absurd (List·Memᴰ·not-nil m)
+  antichain-one (z ∷ xs) c {x} {y} m k e =
       ⊎-elim
       (λ p. ⊎-elim (λ q. p ∙ sym q) (λ j. never-both (ap (λ (w : X). no-more w y) (sym p) ∙ e) (c .0 y j .first-asks)) (List·Memᴰ·cases-cons k))
-      (λ i. ⊎-elim (λ q. never-both (ap (no-more x) (sym q) ∙ e) (c .0 x i .second-asks)) (λ j. canonical-one xs (c .1) i j e)
+      (λ i. ⊎-elim (λ q. never-both (ap (no-more x) (sym q) ∙ e) (c .0 x i .second-asks)) (λ j. antichain-one xs (c .1) i j e)
       (List·Memᴰ·cases-cons k))
       (List·Memᴰ·cases-cons m)
 
@@ -246,7 +246,7 @@ module _ {X : Type 0} (no-more : X → X → Bool) (earlier : X → X → Bool) 
     unfolding least
     least-covers xs m = more-new [] xs m
 
-    -- ---- Canonical
+    -- ---- Antichain
 
     -- of two that differ the one is earlier if the other is not
     turned : (x y : X) → no-more x y ≡ false → earlier x y ≡ false → earlier y x ≡ true
@@ -254,15 +254,15 @@ module _ {X : Type 0} (no-more : X → X → Bool) (earlier : X → X → Bool) 
         ⊎-elim (λ e. never-both (ap (no-more x) (sym e) ∙ laws .itself x) more) (λ h. ⊎-elim (λ p. never-both p late) (λ p. p) h)
         (laws .one-first x y)
 
-    -- One that neither asks no more than any nor is asked no more by any takes its place in a canonical list: it stays canonical.
-    pub canonical-placed : (x : X) (ys : List X) → Canonical no-more earlier ys
+    -- One that neither asks no more than any nor is asked no more by any takes its place in an antichain: it stays one.
+    pub antichain-placed : (x : X) (ys : List X) → Antichain no-more earlier ys
         → ((y : X) → List·Memᴰ y ys → (no-more x y ≡ false) × (no-more y x ≡ false))
-        → Canonical no-more earlier (placed no-more earlier x ys)
-    unfolding Canonical placed
-    canonical-placed x [] c apart = (λ y m. absurd (List·Memᴰ·not-nil m), tt)
-    canonical-placed x (y ∷ ys) c apart =
-        pick-by (λ zs. Canonical no-more earlier zs) (earlier x y) _ _ (λ e. (first e, c))
-        (λ e. (behind e, canonical-placed x ys (c .1) (λ z m. apart z (List·Memᴰ·tail m))))
+        → Antichain no-more earlier (placed no-more earlier x ys)
+    unfolding Antichain placed
+    antichain-placed x [] c apart = (λ y m. absurd (List·Memᴰ·not-nil m), tt)
+    antichain-placed x (y ∷ ys) c apart =
+        pick-by (λ zs. Antichain no-more earlier zs) (earlier x y) _ _ (λ e. (first e, c))
+        (λ e. (behind e, antichain-placed x ys (c .1) (λ z m. apart z (List·Memᴰ·tail m))))
       where
         first : earlier x y ≡ true → (z : X) → List·Memᴰ z (y ∷ ys) → StandsBefore no-more earlier x z
         first e z m =
@@ -286,26 +286,26 @@ module _ {X : Type 0} (no-more : X → X → Bool) (earlier : X → X → Bool) 
             (λ k. c .0 z k)
             (placed-from x ys m)
 
-    -- With one more a canonical list stays canonical,
-    pub canonical-one-more : (x : X) (ys : List X) → Canonical no-more earlier ys → Canonical no-more earlier (with-one-more no-more earlier x ys)
+    -- With one more an antichain stays one,
+    pub antichain-one-more : (x : X) (ys : List X) → Antichain no-more earlier ys → Antichain no-more earlier (with-one-more no-more earlier x ys)
     unfolding with-one-more
-    canonical-one-more x ys c =
-        pick-by (λ zs. Canonical no-more earlier zs) (some-of (λ y. no-more y x) ys) _ _ (λ _. c)
-        (λ e. canonical-placed x (without no-more earlier x ys) (canonical-without x ys c)
+    antichain-one-more x ys c =
+        pick-by (λ zs. Antichain no-more earlier zs) (some-of (λ y. no-more y x) ys) _ _ (λ _. c)
+        (λ e. antichain-placed x (without no-more earlier x ys) (antichain-without x ys c)
         (λ y m. (without-out x ys m .1, some-none (λ z. no-more z x) e (without-out x ys m .0))))
 
     -- and so with some more.
-    pub canonical-more : (ys xs : List X) → Canonical no-more earlier ys → Canonical no-more earlier (with-more no-more earlier ys xs)
+    pub antichain-more : (ys xs : List X) → Antichain no-more earlier ys → Antichain no-more earlier (with-more no-more earlier ys xs)
     unfolding with-more
-    canonical-more ys [] c = c
-    canonical-more ys (x ∷ xs) c = canonical-more (with-one-more no-more earlier x ys) xs (canonical-one-more x ys c)
+    antichain-more ys [] c = c
+    antichain-more ys (x ∷ xs) c = antichain-more (with-one-more no-more earlier x ys) xs (antichain-one-more x ys c)
 
-    -- What stays is canonical.
-    pub least-canonical : (xs : List X) → Canonical no-more earlier (least no-more earlier xs)
-    unfolding least Canonical
-    least-canonical xs = canonical-more [] xs tt
+    -- What stays is an antichain.
+    pub least-antichain : (xs : List X) → Antichain no-more earlier (least no-more earlier xs)
+    unfolding least Antichain
+    least-antichain xs = antichain-more [] xs tt
 
-    -- ---- A canonical list stays as it is
+    -- ---- An antichain stays as it is
 
     placed-last : (x : X) (ys : List X) → ((y : X) → List·Memᴰ y ys → StandsBefore no-more earlier y x)
         → placed no-more earlier x ys ≡ ys ++ (x ∷ [])
@@ -325,17 +325,17 @@ module _ {X : Type 0} (no-more : X → X → Bool) (earlier : X → X → Bool) 
         (λ e. never-both e (none-of (λ y. no-more y x) ys (λ y m. h y m .first-asks)))
         (λ _. ap (placed no-more earlier x) (without-none x ys h) ∙ placed-last x ys h)
 
-    more-last : (ys xs : List X) → Canonical no-more earlier (ys ++ xs) → with-more no-more earlier ys xs ≡ ys ++ xs
+    more-last : (ys xs : List X) → Antichain no-more earlier (ys ++ xs) → with-more no-more earlier ys xs ≡ ys ++ xs
     unfolding with-more
     more-last ys [] c = sym (append-nil ys)
     more-last ys (x ∷ xs) c =
         ap (λ (zs : List X). with-more no-more earlier zs xs)
-        (one-more-last x ys (λ y m. canonical-parts ys (x ∷ xs) c m (List·Memᴰ·head refl)))
-        ∙ more-last (ys ++ (x ∷ [])) xs (subst (Canonical no-more earlier) (sym (append-snoc ys x xs)) c)
+        (one-more-last x ys (λ y m. antichain-parts ys (x ∷ xs) c m (List·Memᴰ·head refl)))
+        ∙ more-last (ys ++ (x ∷ [])) xs (subst (Antichain no-more earlier) (sym (append-snoc ys x xs)) c)
         ∙ append-snoc ys x xs
 
-    -- Of a canonical list everything stays.
-    pub least-kept : (xs : List X) → Canonical no-more earlier xs → least no-more earlier xs ≡ xs
+    -- Of an antichain everything stays.
+    pub least-kept : (xs : List X) → Antichain no-more earlier xs → least no-more earlier xs ≡ xs
     unfolding least
     least-kept xs c = more-last [] xs c
 
@@ -344,28 +344,28 @@ module _ {X : Type 0} (no-more : X → X → Bool) (earlier : X → X → Bool) 
     unfolding least
     least-first xs ys =
         more-append [] xs ys
-        ∙ ap (λ (zs : List X). with-more no-more earlier zs ys) (sym (least-kept (least no-more earlier xs) (least-canonical xs)))
+        ∙ ap (λ (zs : List X). with-more no-more earlier zs ys) (sym (least-kept (least no-more earlier xs) (least-antichain xs)))
         ∙ sym (more-append [] (least no-more earlier xs) ys)
 
-    -- ---- One canonical list
+    -- ---- One antichain
 
-    -- one of a canonical list that is in another with the same head is in its tail
+    -- one of an antichain that is in another with the same head is in its tail
     in-tail : (x y : X) (xs ys : List X) → x ≡ y → ((z : X) → List·Memᴰ z xs → StandsBefore no-more earlier x z)
         → ((z : X) → List·Memᴰ z (x ∷ xs) → List·Memᴰ z (y ∷ ys)) → (z : X) → List·Memᴰ z xs → List·Memᴰ z ys
     in-tail x y xs ys e behind to z m =
         ⊎-elim (λ p. never-both (behind z m .before) (ap (earlier x) (p ∙ sym e) ∙ laws .not-itself x)) (λ k. k)
         (List·Memᴰ·cases-cons (to z (List·Memᴰ·tail m)))
 
-    -- Two canonical lists with the same elements are equal.
-    pub canonical-same : (xs ys : List X) → Canonical no-more earlier xs → Canonical no-more earlier ys
+    -- Two antichains with the same elements are equal.
+    pub antichain-same : (xs ys : List X) → Antichain no-more earlier xs → Antichain no-more earlier ys
         → ((z : X) → List·Memᴰ z xs → List·Memᴰ z ys) → ((z : X) → List·Memᴰ z ys → List·Memᴰ z xs) → xs ≡ ys
-    unfolding Canonical
-    canonical-same [] [] c d to fro = refl
-    canonical-same [] (y ∷ ys) c d to fro = absurd (List·Memᴰ·not-nil (fro y (List·Memᴰ·head refl)))
-    canonical-same (x ∷ xs) [] c d to fro = absurd (List·Memᴰ·not-nil (to x (List·Memᴰ·head refl)))
-    canonical-same (x ∷ xs) (y ∷ ys) c d to fro =
+    unfolding Antichain
+    antichain-same [] [] c d to fro = refl
+    antichain-same [] (y ∷ ys) c d to fro = absurd (List·Memᴰ·not-nil (fro y (List·Memᴰ·head refl)))
+    antichain-same (x ∷ xs) [] c d to fro = absurd (List·Memᴰ·not-nil (to x (List·Memᴰ·head refl)))
+    antichain-same (x ∷ xs) (y ∷ ys) c d to fro =
         ap₂ (λ (z : X) (zs : List X). z ∷ zs) heads
-        (canonical-same xs ys (c .1) (d .1) (in-tail x y xs ys heads (c .0) to) (in-tail y x ys xs (sym heads) (d .0) fro))
+        (antichain-same xs ys (c .1) (d .1) (in-tail x y xs ys heads (c .0) to) (in-tail y x ys xs (sym heads) (d .0) fro))
       where
         heads : x ≡ y
         heads =
@@ -377,28 +377,28 @@ module _ {X : Type 0} (no-more : X → X → Bool) (earlier : X → X → Bool) 
 
     -- P holds of all elements; where it does, two that ask no more than each other are the same
     module _ (P : X → Type 0) (antisym : (x y : X) → P x → P y → no-more x y ≡ true → no-more y x ≡ true → x ≡ y) where
-      covered-is-in : (xs ys : List X) → Canonical no-more earlier xs → ((x : X) → List·Memᴰ x xs → P x) → ((y : X) → List·Memᴰ y ys → P y)
+      covered-is-in : (xs ys : List X) → Antichain no-more earlier xs → ((x : X) → List·Memᴰ x xs → P x) → ((y : X) → List·Memᴰ y ys → P y)
           → ((x : X) → List·Memᴰ x xs → Covered no-more ys x) → ((y : X) → List·Memᴰ y ys → Covered no-more xs y)
           → (x : X) → List·Memᴰ x xs → List·Memᴰ x ys
       covered-is-in xs ys c all-xs all-ys to fro x m =
           let (y, k, e) = to x m in
           let (z, j, f) = fro y k in
-          let same : z ≡ x = canonical-one xs c j m (laws .chained z y x f e) in
+          let same : z ≡ x = antichain-one xs c j m (laws .chained z y x f e) in
           Memᴰ·cast (antisym x y (all-xs x m) (all-ys y k) (ap (λ (w : X). no-more w y) (sym same) ∙ f) e) k
 
-      -- Two canonical lists that cover each other are equal.
-      pub canonical-unique : (xs ys : List X) → Canonical no-more earlier xs → Canonical no-more earlier ys
+      -- Two antichains that cover each other are equal.
+      pub antichain-unique : (xs ys : List X) → Antichain no-more earlier xs → Antichain no-more earlier ys
           → ((x : X) → List·Memᴰ x xs → P x) → ((y : X) → List·Memᴰ y ys → P y)
           → ((x : X) → List·Memᴰ x xs → Covered no-more ys x) → ((y : X) → List·Memᴰ y ys → Covered no-more xs y) → xs ≡ ys
-      canonical-unique xs ys c d all-xs all-ys to fro =
-          canonical-same xs ys c d (covered-is-in xs ys c all-xs all-ys to fro) (covered-is-in ys xs d all-ys all-xs fro to)
+      antichain-unique xs ys c d all-xs all-ys to fro =
+          antichain-same xs ys c d (covered-is-in xs ys c all-xs all-ys to fro) (covered-is-in ys xs d all-ys all-xs fro to)
 
       -- Of two lists that cover each other the same stays.
       pub least-same : (xs ys : List X) → ((x : X) → List·Memᴰ x xs → P x) → ((y : X) → List·Memᴰ y ys → P y)
           → ((x : X) → List·Memᴰ x xs → Covered no-more ys x) → ((y : X) → List·Memᴰ y ys → Covered no-more xs y)
           → least no-more earlier xs ≡ least no-more earlier ys
       least-same xs ys all-xs all-ys to fro =
-          canonical-unique (least no-more earlier xs) (least no-more earlier ys) (least-canonical xs) (least-canonical ys)
+          antichain-unique (least no-more earlier xs) (least no-more earlier ys) (least-antichain xs) (least-antichain ys)
           (λ x m. all-xs x (least-from xs m)) (λ y m. all-ys y (least-from ys m))
           (λ x m. covered-on ys (least no-more earlier ys) (to x (least-from xs m)) (λ y k. least-covers ys k))
           (λ y m. covered-on xs (least no-more earlier xs) (fro y (least-from ys m)) (λ x k. least-covers xs k))

@@ -1,7 +1,7 @@
 pub mod Theorems
 pub mod Least
 pub mod Orders
-pub mod Canonical
+pub mod Antichain
 pub mod Meets
 pub mod Offers
 pub mod Exact

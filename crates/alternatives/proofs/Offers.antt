@@ -14,7 +14,7 @@ use Rattle.pending.specs.Pending.{Pending}
 use Rattle.pending.specs.Asks.{with-left}
 use Rattle.alternatives.specs.Alternatives.{Alternatives, over, these, broken, both, together, set-of, most-alternatives, counted, combined, joined-with}
 use Rattle.alternatives.specs.Progression.{nothing-pending, alone-pending, if-so}
-use Rattle.alternatives.proofs.Canonical.{set-from, set-covers}
+use Rattle.alternatives.proofs.Antichain.{set-from, set-covers}
 use Rattle.alternatives.proofs.Meets.{Merging, Met, met-none, met-alone, met-both, met-less}
 
 -- Each of ps together with each of qs: what is there comes of one of either.

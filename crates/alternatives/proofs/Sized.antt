@@ -1,4 +1,4 @@
--- Every alternative that progression gives has a cell for each node, and every set is canonical and has at most 16.
+-- Every alternative that progression gives has a cell for each node, and every set is an ordered antichain and has at most 16.
 use Prim.Native.Nat.{ℕ, _≤_}
 use native.Mathlib.Omega.{arith}
 use mathlib.Core.Path.{_≡_, refl, _∙_, ap, ap₂}
@@ -14,10 +14,10 @@ use Rattle.logic.specs.Book.{Formula, nodes, Book}
 use Rattle.logic.specs.declared.Tick.{Tick}
 use Rattle.pending.specs.Pending.{Pending}
 use Rattle.alternatives.specs.Alternatives.{Alternatives, over, these, broken, asks-no-more, earlier, together, set-of, most-alternatives, counted, combined, joined-with}
-use Rattle.alternatives.specs.Progression.{nothing-pending, alone-pending, alternatives-behind, progressed-set}
-use Rattle.alternatives.specs.Canonical.{Canonical}
-use Rattle.alternatives.proofs.Canonical.{AllSized, together-sized, append-sized, set-sized, set-canonical, set-of-canonical}
-use Rattle.alternatives.proofs.Closed.{Closed, behind-has, progressed-has}
+use Rattle.alternatives.specs.Progression.{nothing-pending, alone-pending, alternatives-of, alternatives-behind, progressed-set}
+use Rattle.alternatives.specs.Antichain.{Antichain}
+use Rattle.alternatives.proofs.Antichain.{AllSized, together-sized, append-sized, set-sized, set-antichain, set-of-antichain}
+use Rattle.alternatives.proofs.Closed.{Closed, of-has, behind-has, progressed-has}
 use Rattle.alternatives.proofs.Behind.{blank, both-blank-right}
 
 -- What holds of all that is left after counting.
@@ -93,10 +93,10 @@ module _ (fs : List Formula) where
   -- They are in the one form.
   abbrev pub Ordered : Alternatives → Type 0
   Ordered over = Unit {0}
-  Ordered (these ps) = Canonical (asks-no-more fs) earlier ps
+  Ordered (these ps) = Antichain (asks-no-more fs) earlier ps
 
   ordered-closed : Closed fs Ordered
-  unfolding nothing-pending alone-pending combined joined-with Canonical
+  unfolding nothing-pending alone-pending combined joined-with Antichain
   ordered-closed =
       record {
         nothing = (λ p m. absurd (List·Memᴰ·not-nil m), tt);
@@ -110,12 +110,12 @@ module _ (fs : List Formula) where
       ordered-both over t h k = tt
       ordered-both (these ps) over h k = tt
       ordered-both (these ps) (these qs) h k =
-          counted-by Ordered (set-of fs (together fs ps qs)) tt (λ few. set-canonical fs (together fs ps qs))
+          counted-by Ordered (set-of fs (together fs ps qs)) tt (λ few. set-antichain fs (together fs ps qs))
 
       ordered-either : (s t : Alternatives) → Ordered s → Ordered t → Ordered (joined-with fs s t)
       ordered-either over t h k = tt
       ordered-either (these ps) over h k = tt
-      ordered-either (these ps) (these qs) h k = counted-by Ordered (set-of fs (ps ++ qs)) tt (λ few. set-canonical fs (ps ++ qs))
+      ordered-either (these ps) (these qs) h k = counted-by Ordered (set-of fs (ps ++ qs)) tt (λ few. set-antichain fs (ps ++ qs))
 
   -- ---- sets that stand
 
@@ -128,7 +128,26 @@ module _ (fs : List Formula) where
   pub joined-none : (s : Alternatives) → Ordered s → Few s → joined-with fs broken s ≡ s
   unfolding joined-with
   joined-none over ordered few = refl
-  joined-none (these ps) ordered few = rw (set-of-canonical fs ps ordered) (counted-few ps few)
+  joined-none (these ps) ordered few = rw (set-of-antichain fs ps ordered) (counted-few ps few)
+
+  -- So it is with none,
+  pub none-stands : joined-with fs broken broken ≡ broken
+  none-stands = joined-none broken (ordered-closed .none-left) (few-closed .none-left)
+
+  -- with what was joined,
+  pub joined-stands : (s t : Alternatives) → joined-with fs broken (joined-with fs s t) ≡ joined-with fs s t
+  unfolding joined-with
+  joined-stands over t = refl
+  joined-stands (these ps) over = refl
+  joined-stands (these ps) (these qs) =
+      counted-by (λ s. joined-with fs broken s ≡ s) (set-of fs (ps ++ qs)) refl
+      (λ few. joined-none (these (set-of fs (ps ++ qs))) (set-antichain fs (ps ++ qs)) few)
+
+  -- and with the alternatives of a node.
+  pub of-alone : (tower : Tower) (x : ℕ) (d : Tick) (f : Formula) (k : ℕ) (r : Tick)
+      → joined-with fs broken (alternatives-of tower fs x d f k r) ≡ alternatives-of tower fs x d f k r
+  of-alone tower x d f k r =
+      joined-none (alternatives-of tower fs x d f k r) (of-has fs Ordered ordered-closed tower x d f k r) (of-has fs Few few-closed tower x d f k r)
 
   -- each of some together with the one in which nothing is pending
   together-nothing : (ps : List Pending) → AllSized fs ps → together fs ps (blank fs ∷ []) ≡ ps
@@ -137,10 +156,10 @@ module _ (fs : List Formula) where
   together-nothing (p ∷ ps) sized =
       ap₂ _∷_ (both-blank-right fs p (sized p (List·Memᴰ·head refl))) (together-nothing ps (λ q m. sized q (List·Memᴰ·tail m)))
 
-  nothing-kept : (ps : List Pending) → AllSized fs ps → Canonical (asks-no-more fs) earlier ps → length ps ≤ most-alternatives
+  nothing-kept : (ps : List Pending) → AllSized fs ps → Antichain (asks-no-more fs) earlier ps → length ps ≤ most-alternatives
       → combined fs (these ps) (nothing-pending fs) ≡ these ps
   unfolding combined nothing-pending
-  nothing-kept ps sized ordered few = rw (together-nothing ps sized, set-of-canonical fs ps ordered) (counted-few ps few)
+  nothing-kept ps sized ordered few = rw (together-nothing ps sized, set-of-antichain fs ps ordered) (counted-few ps few)
 
   -- What is combined stays where nothing more comes,
   pub combined-stands : (s t : Alternatives) → combined fs (combined fs s t) (nothing-pending fs) ≡ combined fs s t
@@ -150,7 +169,7 @@ module _ (fs : List Formula) where
   combined-stands (these ps) (these qs) =
       counted-by (λ s. combined fs s (nothing-pending fs) ≡ s) (set-of fs (together fs ps qs)) refl
       (λ few. nothing-kept (set-of fs (together fs ps qs)) (set-sized fs (together fs ps qs) (together-sized fs ps qs))
-      (set-canonical fs (together fs ps qs)) few)
+      (set-antichain fs (together fs ps qs)) few)
 
   -- and so does nothing itself.
   pub nothing-stands : combined fs (nothing-pending fs) (nothing-pending fs) ≡ nothing-pending fs

@@ -1,5 +1,5 @@
 -- 02, item 3: the progression of sets is exactly the logic, over all fit books. The statements stand here; the files beside this one prove them.
--- `Least` and `Canonical` have the laws of dropping, `Meets` and `Offers` what alternatives ask, `Exact` that a step offers what the formulas
+-- `Least` and `Antichain` have the laws of dropping, `Meets` and `Offers` what alternatives ask, `Exact` that a step offers what the formulas
 -- ask, `Steps` the pairs along a run, `OnePairs` the books with no two timed sides.
 use Prim.Native.Nat.{ℕ}
 use mathlib.Core.Path.{_≡_, refl, subst}

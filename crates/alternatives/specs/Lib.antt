@@ -1,5 +1,5 @@
 pub mod Least
-pub mod Canonical
+pub mod Antichain
 pub mod Alternatives
 pub mod Progression
 pub mod Pairs

@@ -10,10 +10,10 @@ use lib.ListN.{length, getD, drop, drop-of-length-le}
 use lib.Seq.{drop-cons}
 use Rattle.logic.specs.Time.{ticks}
 use Rattle.logic.specs.Tower.{Tower}
-use Rattle.logic.specs.Book.{Formula, constant, size, root, Form, at-start, everywhere, Book}
+use Rattle.logic.specs.Book.{Formula, constant, size, root, Book}
 use Rattle.logic.specs.declared.Tick.{Tick}
 use Rattle.pending.specs.Pending.{Pending, fresh}
-use Rattle.reading.specs.BookArea.{form-code, nodes-in, lines-in}
+use Rattle.reading.specs.BookArea.{nodes-in, lines-in}
 use Rattle.alternatives.specs.Alternatives.{Alternatives, combined}
 use Rattle.alternatives.specs.Progression.{if-so, alternatives-of, combined-nodes, combined-rule, combined-rules}
 use Rattle.alternatives.proofs.Sized.{combined-stands}
@@ -22,8 +22,8 @@ use Rattle.book_progression.specs.NodeBytes.{code-of, first-of, form-of, formul
 use Rattle.book_progression.specs.Contracts.{AreNodes, EmptyTo, IsLine, Passes}
 use Rattle.book_progression.proofs.Cells.{cell-there}
 use Rattle.book_progression.proofs.Nodes.{fresh-is, fresh-low}
-use Rattle.book_progression.proofs.Lines.{line-node}
-use Rattle.book_progression.proofs.BookHeld.{rule-at, nodes-before, nodes-before-next, held-line}
+use Rattle.book_progression.proofs.Lines.{starts, is-everywhere, line-node, book-from, before-next}
+use Rattle.book_progression.proofs.BookHeld.{rule-at, nodes-before, held-line}
 use Rattle.alternative_bytes.specs.AlternativeBytes.{alternative-in}
 use Rattle.alternative_bytes.proofs.Laws.{alternative-length, alternative-cell}
 use Rattle.set_bytes.specs.SetBytes.{answered}
@@ -246,17 +246,6 @@ nodes-on bytes n mask d old from count first first-room left k sets room r out a
 
 -- ---- one line
 
--- a line whose code is not 1 is a `start` line, and else an `always` line
-starts : (form : Form) → (form-code form ≡ 1 → ⊥) → form ≡ at-start
-unfolding form-code
-starts at-start not-one = refl
-starts everywhere not-one = absurd (not-one refl)
-
-always : (form : Form) → form-code form ≡ 1 → form ≡ everywhere
-unfolding form-code
-always at-start one = absurd (omega arith)
-always everywhere one = refl
-
 module _ (bytes : List ℕ) (n i mask : ℕ) (d : Tick) (count : ℕ) (sets room : List ℕ) (form : ℕ) (at-form : form ≡ form-of bytes i) where
   pub line-passed : (form ≡ 1 → ⊥) → StepReady bytes n mask count sets room → LineCombined count bytes n i mask d count sets room sets room
   unfolding combined-rule
@@ -277,7 +266,7 @@ module _ (bytes : List ℕ) (n i mask : ℕ) (d : Tick) (count : ℕ) (sets room
         stands = node-stands out bytes n k q mask d count sets room after after-room node
             (ready .rooted k (omega (arith, place ∙ is .is .place, is .is .low)));
         says = λ rule m line fs are at.
-            rw (always (rule .form) (sym (at-form ∙ line .form) ∙ one))
+            rw (is-everywhere (rule .form) (sym (at-form ∙ line .form) ∙ one))
             (said (rule .formula) (root m (rule .formula)) (place ∙ line .place) (rw (place ∙ line .place) (line .stored)) fs are at);
       }
     where
@@ -306,14 +295,6 @@ line-passes bytes n i mask d count sets room form k b pass is-so at-form place o
     place refl one line all ready
 
 -- ---- all lines
-
--- line i of the book, with the lines behind it
-book-from : (book : Book) (i : ℕ) → i < length book → drop i book ≡ rule-at book i ∷ drop (i + 1) book
-unfolding rule-at
-book-from book i low = rw add-one (drop-cons book i (record { form = at-start; formula = constant false }) low)
-
-before-next : (book : Book) (i : ℕ) → i < length book → nodes-before book (i + 1) ≡ nodes-before book i + size (rule-at book i .formula)
-before-next book i low = rw add-one (nodes-before-next book i low)
 
 -- How far the lines are combined: those from number i on are left to do.
 pub record LinesGoing (bytes : List ℕ) (n mask : ℕ) (d : Tick) (count : ℕ) (first first-room : List ℕ) (lines left i : ℕ) (sets room : List ℕ) : Type 0 where

@@ -1,39 +1,33 @@
 -- What comes of the old alternatives, joined one after the other: the ways through `behind`, `join_behind` and `progressed`.
-use Prim.Native.Nat.{ℕ, zero, suc, _+_, _*_, _≤_, _<_}
+use Prim.Native.Nat.{ℕ, suc, _+_, _*_, _≤_, _<_}
 use native.Mathlib.Omega.{arith}
 use native.Mathlib.Numerals.{add-one}
 use mathlib.Core.Path.{_≡_, refl, sym, _∙_, ap, ap₂}
 use mathlib.Core.Bool.{false}
-use mathlib.Core.List.{List, [], _∷_}
+use mathlib.Core.List.{List, _∷_}
 use lib.ListN.{length, getD, drop, length-map, List·getD-map, drop-of-length-le}
 use lib.Seq.{drop-cons}
 use Rattle.base.specs.Lists.{below}
 use Rattle.base.proofs.Lists.{length-below, getD-below}
-use Rattle.logic.specs.Book.{Formula, constant, nodes, Book}
+use Rattle.logic.specs.Book.{constant, nodes, Book}
 use Rattle.logic.specs.declared.Tick.{Tick}
 use Rattle.pending.specs.Pending.{Pending}
-use Rattle.pending.proofs.Nodes.{Sits, AllSit, TimedRight, fit-sits}
+use Rattle.pending.proofs.Nodes.{fit-sits}
 use Rattle.reading.specs.BookArea.{nodes-in}
 use Rattle.alternatives.specs.Alternatives.{joined-with}
 use Rattle.alternatives.specs.Progression.{combined-nodes, combined-rules, alternatives-behind, joined-behind, progressed-set}
-use Rattle.alternatives.proofs.Sized.{nothing-stands, behind-alone}
+use Rattle.alternatives.proofs.Sized.{none-stands, joined-stands, nothing-stands, behind-alone}
 use Rattle.book_progression.specs.NodeBytes.{HeldBook, IsHeld, MarkedState}
 use Rattle.book_progression.specs.Contracts.{HasNodes}
-use Rattle.book_progression.proofs.BookHeld.{held-nodes, has-nodes}
+use Rattle.book_progression.proofs.BookHeld.{sits-at, held-nodes, has-nodes}
 use Rattle.alternative_bytes.specs.AlternativeBytes.{alternative-in}
 use Rattle.set_bytes.specs.SetBytes.{candidates-size, set-in, answered}
-use Rattle.set_bytes.specs.Contracts.{Candidates, Joins, SetsReady}
-use Rattle.book_alternatives.specs.Offers.{combined-at, joined-at, sets-size, Rooted, StepReady, NodesCombined, LinesCombined, NoneCombined, AlternativeReady, Behind, CombinedCopied, BehindJoined, Progressed}
+use Rattle.set_bytes.specs.Contracts.{Candidates, JoinsSets, SetsReady}
+use Rattle.book_alternatives.specs.Offers.{combined-at, joined-at, sets-size, Rooted, StepReady, NodesCombined, LinesCombined, NoneCombined, AlternativeReady, Behind, JoinedStands, CombinedCopied, BehindJoined, Progressed}
 use Rattle.book_alternatives.proofs.Sets.{changed-beside, candidates-none, candidates-both, kept-behind, none-answered}
 use Rattle.book_alternatives.proofs.Combining.{leaves-both, still-ready}
 
 -- ---- the nodes of a book that is held
-
--- a node that is one of many that sit
-sits-at : (all fs : List Formula) (k i n : ℕ) → AllSit TimedRight all fs k → i < length fs → n ≡ k + i → Sits all (getD fs i (constant false)) n
-sits-at all [] k i n sit low e = absurd (omega arith)
-sits-at all (f ∷ fs) k zero n sit low e = let same : n ≡ k = omega arith in rw same (sit .0 .0)
-sits-at all (f ∷ fs) k (suc i) n sit low e = sits-at all fs (suc k) i n (sit .1) (omega arith) (omega arith)
 
 -- Every node is rooted.
 pub rooted-held : (bytes : List ℕ) (book : Book) (n k : ℕ) → HeldBook bytes book → n ≡ nodes-in bytes → k < n → Rooted bytes 0 k
@@ -103,17 +97,30 @@ module _ (bytes : List ℕ) (n : ℕ) (old : List ℕ) (from : ℕ) (sets room :
         }
 
     pub behind-joined : (out count : ℕ) (after after-room : List ℕ)
-        → Joins out bytes n mid joined-at count combined-at next joined-at mid-room after after-room
+        → JoinsSets out bytes n mid joined-at count combined-at next joined-at mid-room after after-room → JoinedStands bytes n mask count sets
         → BehindJoined out bytes n mask d old from count sets room after after-room
-    behind-joined out count after after-room join =
+    behind-joined out count after after-room join stands =
         record {
           most = join .leaves .most;
           size = join .leaves .beside .size ∙ done .leaves .changed .size;
           candidates = candidates-both room mid-room after-room (done .leaves .candidates) (join .leaves .candidates);
-          says = λ book held at.
-              join .says (nodes book) (held-nodes bytes book held n (ready .all))
-              ∙ ap₂ (joined-with (nodes book)) (kept-behind sets 0 joined-at mid n joined-at count (done .leaves .changed) (omega arith)) (done .says book held at);
+          stands = record {
+            says = λ book held at.
+                rw (said book held at)
+                (joined-stands (nodes book) (answered sets n joined-at count) (alternatives-behind (at .tower) book (at .state) d (alternative-in old n from)));
+          };
+          says = said;
         }
+      where
+        kept : answered mid n joined-at count ≡ answered sets n joined-at count
+        kept = kept-behind sets 0 joined-at mid n joined-at count (done .leaves .changed) (omega arith)
+
+        said : (book : Book) → HeldBook bytes book → (at : MarkedState mask)
+            → answered after n joined-at out
+            ≡ joined-with (nodes book) (answered sets n joined-at count) (alternatives-behind (at .tower) book (at .state) d (alternative-in old n from))
+        said book held at =
+            join .says (nodes book) (held-nodes bytes book held n (ready .all)) (rw kept (stands .says book held at))
+            ∙ ap₂ (joined-with (nodes book)) kept (done .says book held at)
 
     -- Where none stands so far it is copied.
     pub behind-copied : (count : ℕ) (after : List ℕ) → CombinedCopied next mid after → count ≡ 0
@@ -123,6 +130,10 @@ module _ (bytes : List ℕ) (n : ℕ) (old : List ℕ) (from : ℕ) (sets room :
           most = done .leaves .most;
           size = copied .size ∙ done .leaves .changed .size;
           candidates = done .leaves .candidates;
+          stands = record {
+            says = λ book held at.
+                rw (copied .says n none-few ∙ done .says book held at) (behind-alone (at .tower) book (at .state) d (alternative-in old n from));
+          };
           says = λ book held at.
               copied .says n none-few ∙ done .says book held at
               ∙ sym (rw (none-yet, none-answered sets n joined-at) (behind-alone (at .tower) book (at .state) d (alternative-in old n from)));
@@ -153,6 +164,7 @@ pub record Joining (bytes : List ℕ) (n mask : ℕ) (d : Tick) (old : List ℕ)
   pub most : left ≤ 17
   pub size : length sets ≡ length first
   pub candidates : Candidates first-room 0 room
+  pub stands : JoinedStands bytes n mask left sets
   pub says : (book : Book) → HeldBook bytes book → (at : MarkedState mask)
       → progressed-set (at .tower) book (at .state) d (set-in old n from count)
       ≡ joined-behind (at .tower) book (at .state) d (drop i (set-in old n from count)) (answered sets n joined-at left)
@@ -166,6 +178,7 @@ joining-first bytes n mask d old from count sets room =
       most = omega arith;
       size = refl;
       candidates = candidates-none room;
+      stands = record { says = λ book held at. rw (none-answered sets n joined-at) (none-stands (nodes book)) };
       says = λ book held at. rw (none-answered sets n joined-at) refl;
     }
 
@@ -191,6 +204,7 @@ module _ (bytes : List ℕ) (n mask : ℕ) (d : Tick) (old : List ℕ) (from cou
         most = joined .most;
         size = joined .size ∙ going .size;
         candidates = candidates-both first-room room after-room (going .candidates) (joined .candidates);
+        stands = joined .stands;
         says = λ book held at. going .says book held at ∙ rw (set-element old n from count i low, joined .says book held at) refl;
       }
 

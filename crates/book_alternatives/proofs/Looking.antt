@@ -5,7 +5,6 @@ use mathlib.Core.Path.{_≡_, refl, sym, _∙_, ap}
 use mathlib.Core.Bool.{Bool, true, false}
 use mathlib.Core.List.{List}
 use borrow.Author.Tests.{le-leb, lt-leb}
-use Rattle.base.specs.Choice.{pick}
 use Rattle.logic.specs.Time.{ticks, at-most}
 use Rattle.logic.specs.Book.{Comparison, Formula, constant, proposition, or, next, compares, timed}
 use Rattle.logic.specs.declared.Tick.{Tick}
@@ -14,17 +13,9 @@ use Rattle.alternatives.specs.Progression.{if-so, alternatives-of}
 use Rattle.book_progression.specs.NodeBytes.{code-of, number-of, first-of, second-of, Stored, MarkedState}
 use Rattle.book_progression.specs.Contracts.{HoldsAt, Compares}
 use Rattle.book_progression.proofs.Nodes.{by-kind, by-and, by-or, by-always, by-until, or-first, or-second, until-second}
+use Rattle.book_progression.proofs.Progressing.{first-timed, first-untimed}
 use Rattle.book_alternatives.specs.Looking.{first-comes, second-comes, part-pending, stays, staying, of-two, looked-at}
 use Rattle.book_alternatives.specs.Offers.{TimedAt, Looked}
-
--- the timed side of an or, by its code
-pub first-timed : (b : Bool) → pick {X = ℕ} b (λ _. 5) (λ _. 6) ≡ 5 → b ≡ true
-first-timed true e = refl
-first-timed false e = absurd (omega arith)
-
-pub first-untimed : (b : Bool) → (pick {X = ℕ} b (λ _. 5) (λ _. 6) ≡ 5 → ⊥) → b ≡ false
-first-untimed true e = absurd (e refl)
-first-untimed false e = refl
 
 module _ (bytes : List ℕ) (k : ℕ) (r : Tick) (mask : ℕ) (d : Tick) (code : ℕ) (e : code ≡ code-of bytes k) where
   -- the statement at a formula

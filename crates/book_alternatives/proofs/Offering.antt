@@ -13,7 +13,9 @@ use Rattle.logic.specs.Book.{Formula, first-part, second-part}
 use Rattle.logic.specs.declared.Tick.{Tick}
 use Rattle.pending.specs.Pending.{fresh}
 use Rattle.reading.specs.BookArea.{node-first, node-second}
+use Rattle.alternatives.specs.Alternatives.{broken, joined-with}
 use Rattle.alternatives.specs.Progression.{alone-pending, alternatives-of}
+use Rattle.alternatives.proofs.Sized.{of-alone}
 use Rattle.book_progression.specs.NodeBytes.{code-of, first-of, second-of, fresh-of, Stored, IsNode, MarkedState}
 use Rattle.book_progression.specs.Contracts.{AreNodes}
 use Rattle.book_progression.proofs.Nodes.{by-kind, and-first, and-second, or-first, or-second, until-first, until-second, next-part, always-part, is-node, fresh-is, fresh-low}
@@ -277,13 +279,20 @@ module _ (bytes : List ℕ) (n k : ℕ) (r : Tick) (mask : ℕ) (d : Tick) (sets
                         (candidates-both mid-room last-room after-room (other .leaves .candidates) (both .leaves .candidates));
                   };
                   says = λ f s fs are at.
-                      both .says f s fs are
+                      both .says f s fs are (stands fs are at)
                       ∙ ap₂ (of-two fs f)
                       (first-kept ∙ sym (first-said bytes n p q mask d one sets room mid mid-room call new fs are at k f s (part .first (omega arith))
                       (looked .second (omega arith)) (looked .first (omega arith))))
                       (sym (second-said bytes n p₂ q₂ mask d two mid mid-room last last-room other new₂ fs are at k f s second (looked .second (omega arith))))
                       ∙ sym (looked .says f s fs at ∙ rw five refl);
                 }
+              where
+                -- it is what comes of the part
+                stands : (fs : List Formula) → AreNodes bytes n fs → MarkedState mask
+                    → joined-with fs broken (answered last n (one .at) (one .count)) ≡ answered last n (one .at) (one .count)
+                stands fs are at =
+                    let root = part-rooted bytes k r mask d look p looked part more 0 (ready .rooted) .0 in
+                    rw (first-kept ∙ call .says (root .formula) (root .stored) fs are at) (of-alone fs (at .tower) (at .state) d (root .formula) p q)
 
 -- ---- what else is asked
 

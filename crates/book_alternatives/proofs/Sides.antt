@@ -1,10 +1,11 @@
--- Whether no `|` in a node has two timed sides, by the ways through `is_one_sided`.
+-- Whether no `|` in a node has two timed sides, by the ways through `is_one_sided` and `has_leaf_parts`.
 use Prim.Native.Nat.{ℕ, _≤_, _<_}
 use native.Mathlib.Omega.{arith}
 use mathlib.Core.Path.{_≡_, refl, sym, _∙_}
 use mathlib.Core.Bool.{Bool, true, false, not, false≢true}
 use mathlib.Core.List.{List}
-use borrow.Author.Tests.{not-false}
+use lib.Dec.{leb}
+use borrow.Author.Tests.{not-false, leb-true}
 use Rattle.base.proofs.Lists.{not-in, and-both}
 use Rattle.logic.specs.Sides.{one-sided}
 use Rattle.book_progression.specs.NodeBytes.{code-of, first-of, second-of}
@@ -13,6 +14,9 @@ use Rattle.book_alternatives.specs.Offers.{two-sided, TwoSidedAt, OneSid
 
 pub sides-two : (bytes : List ℕ) (k : ℕ) → OneSidedAt false bytes k
 sides-two bytes k = record { says = λ e. absurd (false≢true e) }
+
+pub sides-so : (b : Bool) (bytes : List ℕ) (k : ℕ) → OneSidedAt b bytes k → b ≡ true → OneSidedAt true bytes k
+sides-so b bytes k one so = record { says = λ _. one .says so }
 
 module _ (bytes : List ℕ) (k code : ℕ) (e : code ≡ code-of bytes k) where
   pub sides-leaf : code ≤ 3 → OneSidedAt true bytes k
@@ -58,3 +62,18 @@ module _ (bytes : List ℕ) (k code : ℕ) (e : code ≡ code-of bytes k) where
                 (and-both (left .says yes-it-is g (or-first bytes k p g h s first)) (right .says (not-false b so) h (or-second bytes k q g h s second))))
                 (λ a b c s lo up. absurd (omega arith)) (λ a b s at. absurd (omega arith)) (λ a b c s at. absurd (omega arith));
           }
+
+-- ---- has_leaf_parts
+
+module _ (bytes : List ℕ) (k code q part : ℕ) (e : code ≡ code-of bytes k) (second : q ≡ second-of bytes k) (low : part ≡ code-of bytes q)
+    (leaf : part ≤ 3) where
+  pub leaf-only : 7 ≤ code → (code ≡ 12 → ⊥) → OneSidedAt true bytes k
+  leaf-only high other = sides-only bytes k code e q true second (sides-leaf bytes q part low leaf) refl high other
+
+  pub leaf-both : (p other : ℕ) → p ≡ first-of bytes k → other ≡ code-of bytes p → code ≡ 12 → OneSidedAt (leb other 3) bytes k
+  leaf-both p other first at-p until =
+      record {
+        says = λ few f s.
+            sides-until bytes k code e q true second (sides-leaf bytes q part low leaf) refl p true first
+            (sides-leaf bytes p other at-p (leb-true other 3 few)) until .says refl f s;
+      }

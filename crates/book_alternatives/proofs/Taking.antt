@@ -26,7 +26,7 @@ use Rattle.book_progression.proofs.Putting.{put-stored}
 use Rattle.alternative_bytes.specs.AlternativeBytes.{alternative-in}
 use Rattle.alternative_bytes.proofs.Laws.{alternative-length}
 use Rattle.set_bytes.specs.SetBytes.{answered}
-use Rattle.set_bytes.specs.Contracts.{Combines, Joins, SetsReady}
+use Rattle.set_bytes.specs.Contracts.{Combines, JoinsSets, SetsReady}
 use Rattle.book_alternatives.specs.declared.SetAt.{SetAt}
 use Rattle.book_alternatives.specs.Looking.{stays, staying, of-two}
 use Rattle.book_alternatives.specs.Offers.{OwnReady, Alone, PutIn, StayReady, Stayed, TwoReady, OfTwo}
@@ -184,20 +184,22 @@ module _ (bytes : List ℕ) (n k : ℕ) (one two : SetAt) (sets room : List ℕ)
       record {
         place = refl;
         leaves = comb .leaves;
-        says = λ f s fs are. by-and bytes k
+        says = λ f s fs are stands. by-and bytes k
             (λ f. answered after n (960 * k) count ≡ of-two fs f (answered sets n (one .at) (one .count)) (answered sets n (two .at) (two .count)))
             f s (omega arith) (λ f g s. comb .says fs are);
       }
 
-  pub two-or : Joins count bytes n sets (one .at) (one .count) (two .at) (two .count) (960 * k) room after after-room
+  pub two-or : JoinsSets count bytes n sets (one .at) (one .count) (two .at) (two .count) (960 * k) room after after-room
       → code ≡ code-of bytes k → (code ≡ 4 → ⊥) → OfTwo (set-at (960 * k) count) bytes n k one two sets room after after-room
   unfolding of-two
   two-or join e not-four =
       record {
         place = refl;
         leaves = join .leaves;
-        says = λ f s fs are. by-kind bytes k
+        says = λ f s fs are stands.
+            let said = join .says fs are stands in
+            by-kind bytes k
             (λ f. answered after n (960 * k) count ≡ of-two fs f (answered sets n (one .at) (one .count)) (answered sets n (two .at) (two .count)))
-            f s (λ b s lo. join .says fs are) (λ a b s lo up. join .says fs are) (λ a b s at. absurd (not-four (e ∙ at)))
-            (λ a b s lo up. join .says fs are) (λ a b c s lo up. join .says fs are) (λ a b s at. join .says fs are) (λ a b c s at. join .says fs are);
+            f s (λ b s lo. said) (λ a b s lo up. said) (λ a b s at. absurd (not-four (e ∙ at))) (λ a b s lo up. said) (λ a b c s lo up. said)
+            (λ a b s at. said) (λ a b c s at. said);
       }

@@ -12,9 +12,9 @@ use Rattle.reading.specs.BookArea.{node-code, nodes-in}
 use Rattle.book_progression.specs.NodeBytes.{code-of, second-of, Stored, IsNode, HeldBook, IsHeld}
 use Rattle.book_progression.specs.Contracts.{AreNodes}
 use Rattle.book_progression.proofs.Nodes.{by-kind, by-or, or-second}
+use Rattle.book_progression.proofs.Progressing.{first-timed, first-untimed}
 use Rattle.book_progression.proofs.BookHeld.{held-nodes, has-nodes}
 use Rattle.book_alternatives.specs.Offers.{TimedAt, two-sided, TwoSidedAt, TwoTimed}
-use Rattle.book_alternatives.proofs.Looking.{first-timed, first-untimed}
 
 -- ---- one node
 

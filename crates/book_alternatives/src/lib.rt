@@ -7,7 +7,7 @@ ghost use Rattle.reading.specs.BookArea.{nodes-in};
 ghost use Rattle.book_progression.specs.NodeBytes.{IsNode, IsHeld};
 ghost use Rattle.book_progression.specs.Contracts.{IsLine};
 ghost use Rattle.set_bytes.specs.SetBytes.{candidates-size};
-ghost use Rattle.book_alternatives.specs.Offers.{sets-size, TimedAt, TwoSidedAt, OneSidedAt, TwoTimed, OwnReady, Tested, Alone, Looked, LookedPart, PutIn, StayReady, Stayed, TwoReady, OfTwo, OfferReady, Offered, InPlaceReady, OfferedOne, StepReady, CombineReady, NodeCombined, CombinedInPlace, CellCombined, NodesCombined, LineCombined, LinesCombined, NoneCombined, AlternativeReady, Behind, CombinedCopied, BehindJoined, Progressed};
+ghost use Rattle.book_alternatives.specs.Offers.{sets-size, TimedAt, TwoSidedAt, OneSidedAt, TwoTimed, OwnReady, Tested, Alone, Looked, LookedPart, PutIn, StayReady, Stayed, TwoReady, OfTwo, OfferReady, Offered, InPlaceReady, OfferedOne, StepReady, CombineReady, NodeCombined, CombinedInPlace, CellCombined, NodesCombined, LineCombined, LinesCombined, NoneCombined, AlternativeReady, Behind, JoinedStands, CombinedCopied, BehindJoined, Progressed};
 use book_progression::line;
 use book_progression::node;
 use logic::Tick;
@@ -93,6 +93,35 @@ fn is_one_sided(book: &[u8], k: usize) -> bool
         return true;
     }
     is_one_sided(book, node::first(book, k))
+}
+
+// Whether node k is N, A or U and its parts are leaves, as most that are pending.
+fn has_leaf_parts(book: &[u8], k: usize) -> bool
+    requires { ⌜ IsNode (now book) k ⌝ }
+    ensures { λ b. ⌜ OneSidedAt b (now (book .entry)) k ⌝ }
+{
+    let code = node::code(book, k);
+    if code < node::NO_MORE {
+        return false;
+    }
+    if node::WANTED < node::code(book, node::second(book, k)) {
+        return false;
+    }
+    if code != node::UNTIL {
+        return true;
+    }
+    node::code(book, node::first(book, k)) <= node::WANTED
+}
+
+// Whether no or in node k has two timed sides, so that it gives one alternative at most.
+fn gives_one(book: &[u8], k: usize) -> bool
+    requires { ⌜ IsNode (now book) k ⌝ }
+    ensures { λ b. ⌜ OneSidedAt b (now (book .entry)) k ⌝ }
+{
+    if has_leaf_parts(book, k) {
+        return true;
+    }
+    is_one_sided(book, k)
 }
 
 // Whether some or of the book has two timed sides.
@@ -332,7 +361,7 @@ pub fn offer(
     requires { ⌜ OfferReady (now book) n k r (now sets) (now room) ⌝ }
     ensures { λ out. ⌜ Offered out (now (book .entry)) n k r mask d (now (sets .entry)) (now (room .entry)) (now (sets .exit)) (now (room .exit)) ⌝ }
 {
-    if is_one_sided(book, k) {
+    if gives_one(book, k) {
         return offer_one(book, n, k, r, mask, d, sets);
     }
     let look = looks(book, k, r, mask, d);
@@ -429,7 +458,7 @@ fn combine_node(
     ensures { λ out. ⌜ NodeCombined out (now (book .entry)) n k r mask d count (now (sets .entry)) (now (room .entry)) (now (sets .exit)) (now (room .exit)) ⌝ }
 {
     if count == 1 {
-        if is_one_sided(book, k) {
+        if gives_one(book, k) {
             return combine_in_place(book, n, k, r, mask, d, sets);
         }
     }
@@ -604,6 +633,7 @@ fn join_behind(
     room: &mut [u8],
 ) -> usize
     requires { ⌜ AlternativeReady (now book) n (now old) from (now sets) (now room) ⌝ }
+    requires { ⌜ JoinedStands (now book) n mask count (now sets) ⌝ }
     ensures { λ out. ⌜ BehindJoined out (now (book .entry)) n mask d (now (old .entry)) from count (now (sets .entry)) (now (room .entry)) (now (sets .exit)) (now (room .exit)) ⌝ }
 {
     let next = behind(book, n, mask, d, old, from, sets, room);

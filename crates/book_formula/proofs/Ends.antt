@@ -9,7 +9,6 @@ use lib.ListN.{length}
 use lib.Dec.{eqb}
 use borrow.Author.Tests.{eqb-true}
 use Rattle.base.specs.Choice.{pick}
-use Rattle.base.specs.Text.{byte}
 use Rattle.base.specs.Bytes.{byte-at}
 use Rattle.base.proofs.Recursion.{Falls, run-known, run-eq}
 use Rattle.logic.specs.Book.{Formula, and, or}

@@ -213,7 +213,7 @@ module _ (bytes : List ℕ) (all : List Formula) (part : take (4 * length all) b
       )
 
 -- a node that is one of many that sit
-sits-at : (all fs : List Formula) (k i n : ℕ) → AllSit TimedRight all fs k → i < length fs → n ≡ k + i → Sits all (getD fs i (constant false)) n
+pub sits-at : (all fs : List Formula) (k i n : ℕ) → AllSit TimedRight all fs k → i < length fs → n ≡ k + i → Sits all (getD fs i (constant false)) n
 sits-at all [] k i n sit low e = absurd (omega arith)
 sits-at all (f ∷ fs) k zero n sit low e = let same : n ≡ k = omega arith in rw same (sit .0 .0)
 sits-at all (f ∷ fs) k (suc i) n sit low e = sits-at all fs (suc k) i n (sit .1) (omega arith) (omega arith)

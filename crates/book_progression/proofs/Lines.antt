@@ -24,15 +24,15 @@ use Rattle.book_progression.proofs.BookHeld.{rule-at, nodes-before, nod
 -- ---- one line
 
 -- a line whose code is not 1 is a `start` line, and else an `always` line
-starts : (form : Form) → (form-code form ≡ 1 → ⊥) → form ≡ at-start
+pub starts : (form : Form) → (form-code form ≡ 1 → ⊥) → form ≡ at-start
 unfolding form-code
 starts at-start not-one = refl
 starts everywhere not-one = absurd (not-one refl)
 
-always-for : (form : Form) → form-code form ≡ 1 → form ≡ everywhere
+pub is-everywhere : (form : Form) → form-code form ≡ 1 → form ≡ everywhere
 unfolding form-code
-always-for at-start one = absurd (omega arith)
-always-for everywhere one = refl
+is-everywhere at-start one = absurd (omega arith)
+is-everywhere everywhere one = refl
 
 module _ (bytes : List ℕ) (i : ℕ) (cells : List ℕ) (form : ℕ) (at-form : form ≡ form-of bytes i) where
   pub line-starts : (mask : ℕ) (d : Tick) → (form ≡ 1 → ⊥) → LineSteps true bytes i mask d cells cells
@@ -46,7 +46,7 @@ module _ (bytes : List ℕ) (i : ℕ) (cells : List ℕ) (form : ℕ) (at-form :
   unfolding progress-rule
   line-progresses mask d k q b after one place new call =
       record {
-        says = λ rule n line at. rw (always-for (rule .form) (sym (at-form ∙ line .form) ∙ one))
+        says = λ rule n line at. rw (is-everywhere (rule .form) (sym (at-form ∙ line .form) ∙ one))
             (child bytes mask d k (root n (rule .formula)) q b cells after (rule .formula) (place ∙ line .place)
             (rw (place ∙ line .place) (line .stored)) new call at);
       }
@@ -58,7 +58,7 @@ module _ (bytes : List ℕ) (i : ℕ) (cells : List ℕ) (form : ℕ) (at-form :
 
   pub line-waits : form ≡ 1 → LineBegins bytes i cells cells
   unfolding begin-rule
-  line-waits one = record { says = λ rule n line. rw (always-for (rule .form) (sym (at-form ∙ line .form) ∙ one)) }
+  line-waits one = record { says = λ rule n line. rw (is-everywhere (rule .form) (sym (at-form ∙ line .form) ∙ one)) }
 
   pub line-begins : (k : ℕ) (q : Tick) (after : List ℕ) → (form ≡ 1 → ⊥) → k ≡ formula-of bytes i
       → q ≡ ticks (fresh-of bytes k) → PutsNode bytes k q cells after → LineBegins bytes i cells after
@@ -88,11 +88,11 @@ line-ready bytes i k q cells place new line all =
 -- ---- all lines
 
 -- line i of the book, with the lines behind it
-book-from : (book : Book) (i : ℕ) → i < length book → drop i book ≡ rule-at book i ∷ drop (i + 1) book
+pub book-from : (book : Book) (i : ℕ) → i < length book → drop i book ≡ rule-at book i ∷ drop (i + 1) book
 unfolding rule-at
 book-from book i low = rw add-one (drop-cons book i (record { form = at-start; formula = constant false }) low)
 
-before-next : (book : Book) (i : ℕ) → i < length book → nodes-before book (i + 1) ≡ nodes-before book i + size (rule-at book i .formula)
+pub before-next : (book : Book) (i : ℕ) → i < length book → nodes-before book (i + 1) ≡ nodes-before book i + size (rule-at book i .formula)
 before-next book i low = rw add-one (nodes-before-next book i low)
 
 -- How far the lines have progressed: the lines from i on are left to do.

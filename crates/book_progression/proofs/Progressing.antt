@@ -25,11 +25,11 @@ provided-outcome true cells = refl
 provided-outcome false cells = refl
 
 -- the timed side of an or, by its code
-first-timed : (b : Bool) → pick {X = ℕ} b (λ _. 5) (λ _. 6) ≡ 5 → b ≡ true
+pub first-timed : (b : Bool) → pick {X = ℕ} b (λ _. 5) (λ _. 6) ≡ 5 → b ≡ true
 first-timed true e = refl
 first-timed false e = absurd (omega arith)
 
-first-untimed : (b : Bool) → (pick {X = ℕ} b (λ _. 5) (λ _. 6) ≡ 5 → ⊥) → b ≡ false
+pub first-untimed : (b : Bool) → (pick {X = ℕ} b (λ _. 5) (λ _. 6) ≡ 5 → ⊥) → b ≡ false
 first-untimed true e = absurd (e refl)
 first-untimed false e = refl
 

@@ -1,5 +1,5 @@
 -- What is pending as bytes: a byte for each node, 0 for nothing and r + 1 for r ticks left.
-use Prim.Native.Nat.{ℕ, zero, suc, _+_}
+use Prim.Native.Nat.{ℕ, zero, suc}
 use mathlib.Core.Bool.{Bool, true, false}
 use mathlib.Core.Option.{Option, none, some}
 use mathlib.Core.List.{List, map}

@@ -1,5 +1,5 @@
 -- 01, 'Runs and broken rules': runs, positions, T(i), kept and broken. The logic is that of document 004, with whole ticks.
-use Prim.Native.Nat.{ℕ, _≤_, _<_}
+use Prim.Native.Nat.{ℕ, _<_}
 use mathlib.Core.Path.{_≡_}
 use mathlib.Core.Logic.{_⊎_}
 use mathlib.Core.Bool.{true}

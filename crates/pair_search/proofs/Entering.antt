@@ -13,7 +13,7 @@ use Rattle.logic.specs.Book.{Book}
 use Rattle.logic.specs.declared.Tick.{Tick}
 use Rattle.alternatives.specs.Alternatives.{Alternatives, over, these, broken}
 use Rattle.alternatives.specs.Progression.{progressed-set}
-use Rattle.alternatives.specs.Pairs.{Pair, alternatives-by, over-full, pair-at}
+use Rattle.alternatives.specs.Pairs.{Pair, alternatives-by, over-full, pair-at, pair-step}
 use Rattle.alternatives.proofs.Steps.{tried-step-at, pair-step-spare, pair-step-out}
 use Rattle.reading.specs.BookArea.{nodes-in}
 use Rattle.book_progression.specs.NodeBytes.{IsHeld}
@@ -138,6 +138,15 @@ pair-at-none y over few e = absurd (few refl)
 pair-at-none y (these []) few e = refl
 pair-at-none y (these (p ∷ ps)) few e = let z : _≡_ {A = ℕ} 0 1 = cc in absurd (omega arith)
 
+-- The pair that a move names is the one that the action leads to.
+pub says-leads : (tower : Tower) (book : Book) (nodes area : List ℕ) (n : ℕ) (v : Pair) (a j : ℕ) (m : Move) → SaysMove tower book nodes area n v a m
+    → m ≡ to j → (j < n) × (pair-step tower book v a ≡ some (pair-in nodes area j))
+says-leads tower book nodes area n v a j _ (moves-not e) f = let z : _≡_ {A = ℕ} 0 1 = cc in absurd (omega arith)
+says-leads tower book nodes area n v a j _ (moves-broken y e g) f = let z : _≡_ {A = ℕ} 0 1 = cc in absurd (omega arith)
+says-leads tower book nodes area n v a j _ (moves-to k l e) f =
+    let same : k ≡ j = cc in
+    (omega arith, e ∙ ap (λ (z : ℕ). some (pair-in nodes area z)) same)
+
 module _ (tower : Tower) (book : Book) (nodes area : List ℕ) (n : ℕ) (v : Pair) (a : ℕ) (spare : over-full tower book v ≡ false)
     (few : alternatives-by tower book v a ≡ over → ⊥) where
   says-broken : (m : Move) → SaysMove tower book nodes area n v a m → m ≡ Graph.broken → alternatives-by tower book v a ≡ broken
@@ -147,14 +156,11 @@ module _ (tower : Tower) (book : Book) (nodes area : List ℕ) (n : ℕ) (v : Pa
       (sym (tried-step-at tower book v a y e) ∙ sym (pair-step-spare tower book v a spare) ∙ g)
   says-broken _ (moves-to j l e) f = let z : _≡_ {A = ℕ} 0 1 = cc in absurd (omega arith)
 
-  says-to : (j : ℕ) (m : Move) → SaysMove tower book nodes area n v a m → m ≡ to j
-      → (j < n) × (alternatives-by tower book v a ≡ these (pair-in nodes area j .pending))
-  says-to j _ (moves-not e) f = let z : _≡_ {A = ℕ} 0 1 = cc in absurd (omega arith)
-  says-to j _ (moves-broken y e g) f = let z : _≡_ {A = ℕ} 0 1 = cc in absurd (omega arith)
-  says-to j _ (moves-to k l e) f =
-      let same : k ≡ j = cc in
-      let next = pair-step-out tower book v (pair-in nodes area k) a e .1 in
-      (omega arith, next ∙ ap (λ (z : ℕ). these (pair-in nodes area z .pending)) same)
+says-to : (tower : Tower) (book : Book) (nodes area : List ℕ) (n : ℕ) (v : Pair) (a j : ℕ) (m : Move) → SaysMove tower book nodes area n v a m
+    → m ≡ to j → (j < n) × (alternatives-by tower book v a ≡ these (pair-in nodes area j .pending))
+says-to tower book nodes area n v a j m says f =
+    let (l, e) = says-leads tower book nodes area n v a j m says f in
+    (l, pair-step-out tower book v (pair-in nodes area j) a e .1)
 
 module _ (tower table : List ℕ) (rows : Bool) (nodes area : List ℕ) (n : ℕ) (graph : List ℕ) (i a : ℕ)
     (ready : Single tower table rows nodes area n graph i a) where
@@ -185,9 +191,7 @@ module _ (tower table : List ℕ) (rows : Bool) (nodes area : List ℕ) (n : ℕ
     earlier-to : (h : IsHeld nodes) (j : ℕ) → move-at graph i b ≡ to j
         → (j < n) × (alternatives-by (walked tower table rows) (h .book) (pair-in nodes area i) b ≡ these (pair-in nodes area j .pending))
     earlier-to h j e =
-        says-to (walked tower table rows) (h .book) nodes area n (pair-in nodes area i) b
-        (entry-spare (walked tower table rows) nodes false area n i refl (ready .filled) (ready .low) narrow h)
-        (entry-few (walked tower table rows) nodes false area n i refl (ready .filled) (ready .low) narrow h b) j (move-at graph i b) (earlier-says h) e
+        says-to (walked tower table rows) (h .book) nodes area n (pair-in nodes area i) b j (move-at graph i b) (earlier-says h) e
 
     pub earlier-leads : MoveLeads graph area i b n
     earlier-leads =

@@ -37,7 +37,7 @@ use Rattle.pair_search.specs.declared.Way.{Way}
 use Rattle.pair_search.proofs.PairEntries.{pairs-same, state-of-pair, noted-pairs, filled-stays, one-left, entry-single}
 use Rattle.pair_search.proofs.Entering.{pending-of-pair}
 
--- ---- what the callees of `lead` want
+-- ---- what the callees of `look_up` want
 
 -- The index is still that of the entries before n.
 pub still-indexed : (b : Bool) (tower : Tower) (nodes area : List ℕ) (i a y n : ℕ) (after index : List ℕ)
@@ -86,7 +86,7 @@ pub follow-goes : (tower : Tower) (area : List ℕ) (i a x y : ℕ) (r : Reached
     → r ≡ State y → tower .target (entry-number area i) a ≡ some y
 follow-goes tower area i a x y r at-r at-x is = ap (λ (z : ℕ). tower .target z a) (sym at-x) ∙ state-reached (tower .target x a) r y at-r is
 
--- ---- the ways of `lead`
+-- ---- the ways of `look_up`
 
 -- Alternatives that are left make a pair.
 pair-at-left : (y : ℕ) (ps : List Pending) → 0 < length ps → pair-at y (these ps) ≡ some (record { state = y; pending = ps })
@@ -113,9 +113,9 @@ module _ (tower table : List ℕ) (rows : Bool) (nodes : List ℕ) (wide : Bool)
   still-filled = filled-stays (walked tower table rows) nodes wide area n after (was .turning .filled) (was .turning .light) (entered .stays)
 
   -- The step is broken.
-  pub lead-broken : b ≡ false → ActionFollowed (record { code = 1; met = n }) (walked tower table rows) nodes wide area i a n after index
+  pub looked-broken : b ≡ false → ActionFollowed (record { code = 1; met = n }) (walked tower table rows) nodes wide area i a n after index
   unfolding with-one move-of
-  lead-broken f =
+  looked-broken f =
       record {
         least = omega arith;
         most = omega arith;
@@ -156,8 +156,8 @@ module _ (tower table : List ℕ) (rows : Bool) (nodes : List ℕ) (wide : Bool)
         (holds h .set-is)
         ∙ ap (λ (k : ℕ). entry-first after n + k) one
 
-    pub lead-to : ActionFollowed (record { code = out .at + 2; met = out .met }) (walked tower table rows) nodes wide area i a n after later
-    lead-to =
+    pub looked-up : ActionFollowed (record { code = out .at + 2; met = out .met }) (walked tower table rows) nodes wide area i a n after later
+    looked-up =
         record {
           least = noted .least;
           most = noted .most;

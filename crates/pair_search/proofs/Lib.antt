@@ -2,6 +2,7 @@ mod PairEntries
 mod Turns
 mod Entering
 mod Following
+mod Repeating
 mod Growing
 mod Blocking
 mod Exploring

@@ -1,7 +1,6 @@
 -- 01, 'Rule book' and 'Why a call is turned down': lines, limits, and the book of a text or why there is none.
 use Prim.Native.Nat.{ℕ, _+_, _-_}
 use mathlib.Core.Bool.{Bool, false, _||_, not}
-use mathlib.Core.Option.{none}
 use mathlib.Core.List.{List, [], _∷_, _++_}
 use lib.ListN.{length, drop}
 use lib.Dec.{leb, ltb}

@@ -1,11 +1,12 @@
 -- Candidates are gathered, one by one and then in loops: what is left of all of them.
 use Prim.Native.Nat.{ℕ, _+_, _-_, _*_, _≤_, _<_}
 use native.Mathlib.Omega.{arith}
+use native.Mathlib.Decide.{decLt}
 use native.Mathlib.Nat.{mul-add, mul-le-mul}
 use mathlib.Core.Path.{_≡_, refl, sym, _∙_, ap, ap₂, subst}
 use mathlib.Core.List.{List, [], _∷_, _++_}
-use lib.ListN.{take, drop}
-use lib.Seq.{take-take}
+use lib.ListN.{length, getD, set, take, drop, length-set}
+use lib.Seq.{take-take, getD-set-same, getD-set-other}
 use mir.Syntax.{w64}
 use mir.Val.{Fits}
 use Rattle.base.specs.Lists.{count-from, below}
@@ -18,11 +19,11 @@ use Rattle.alternatives.proofs.Least.{more-append}
 use Rattle.book_progression.specs.Contracts.{AreNodes, Beside}
 use Rattle.alternative_bytes.specs.AlternativeBytes.{alternative-in}
 use Rattle.alternative_bytes.specs.Contracts.{BothPut, Copied}
-use Rattle.set_bytes.specs.SetBytes.{set-in, candidate, chosen, copy-of, copies-of, either-of, pair-of, row-of, pairs-of}
-use Rattle.set_bytes.specs.Contracts.{Below, Added, Candidates, Gathered, RoomFor}
+use Rattle.set_bytes.specs.SetBytes.{set-in, candidate, chosen, copy-of, copies-of, pair-of, row-of, pairs-of}
+use Rattle.set_bytes.specs.Contracts.{Below, Added, Candidates, Gathered, AllTaken, EitherGathered, RoomFor}
 use Rattle.set_bytes.proofs.Elsewhere.{beside-wider}
-use Rattle.set_bytes.proofs.Chosen.{chosen-same}
-use Rattle.set_bytes.proofs.Sets.{copies-next, row-next, pairs-next}
+use Rattle.set_bytes.proofs.Chosen.{chosen-same, chosen-set}
+use Rattle.set_bytes.proofs.Sets.{set-next, copies-next, row-next, pairs-next}
 
 -- ---- one candidate
 
@@ -220,31 +221,65 @@ row-room r bytes n more room order a b i room₁ order₁ going low most-a most-
 
 -- ---- two sets of copies
 
-pub first-room : (n : ℕ) (room order : List ℕ) (a : ℕ) → RoomFor 256 n room order 0 0 → a ≤ 16 → RoomFor a n room order 0 0
-first-room n room order a for most =
+-- The first set is taken as it is, one alternative after the other.
+pub taken-start : (n : ℕ) (sets : List ℕ) (p : ℕ) (room order : List ℕ) → AllTaken n sets p 0 room order room order
+unfolding chosen set-in below count-from
+taken-start n sets p room order =
     record {
-      nodes = for .nodes;
-      candidates = for .candidates;
-      numbers = for .numbers;
-      few = omega arith;
-      limit = omega arith;
+      size = refl;
+      below = record { low = λ i l. absurd (omega arith) };
+      candidates = record { size = refl; before = refl; behind = refl };
+      is = refl;
     }
 
-pub second-room : (r : ℕ) (bytes : List ℕ) (n : ℕ) (more : List Formula → List Pending) (room order : List ℕ) (a b : ℕ) (room₁ order₁ : List ℕ)
-    → Gathered r bytes n more room order 0 0 a room₁ order₁ → RoomFor 256 n room order 0 0 → a ≤ 16 → b ≤ 16 → RoomFor b n room₁ order₁ r a
-second-room r bytes n more room order a b room₁ order₁ going for most-a most-b =
-    record {
-      nodes = for .nodes;
-      candidates = omega (arith, for .candidates, going .candidates .size);
-      numbers = omega (arith, for .numbers, going .size);
-      few = omega (arith, going .most);
-      limit = omega arith;
-    }
+module _ (n : ℕ) (sets : List ℕ) (p i : ℕ) (room order room₁ order₁ : List ℕ) (going : AllTaken n sets p i room order room₁ order₁) where
+  pub taken-more : (a : ℕ) (room₂ : List ℕ) → Copied n sets (p + 60 * i) room₁ (60 * i) room₂ → i < a → a ≤ 16 → RoomFor 256 n room order 0 0
+      → AllTaken n sets p (i + 1) room order room₂ (set order₁ i i)
+  unfolding candidate
+  taken-more a room₂ put low most for =
+      record {
+        size = length-set order₁ i i ∙ going .size;
+        below = record { low = λ j l. numbered j (decLt j i) l };
+        candidates = candidates-both room 0 i room₁ room₂ (omega arith) (going .candidates)
+            (candidate-written room₁ i n room₂ (for .nodes) (omega arith) (put .beside));
+        is = chosen-set room₂ n order₁ i i listed
+            ∙ ap₂ (λ (ys : List Pending) (x : Pending). ys ++ (x ∷ []))
+            (chosen-same room₁ room₂ n order₁ i i (for .nodes) (omega arith) (put .beside .before) (going .below) ∙ going .is) (put .is)
+            ∙ sym (set-next sets n p i);
+      }
+    where
+      listed : i < length order₁
+      listed = omega (arith, going .size, for .numbers)
 
-pub either-gathered : (r s : ℕ) (bytes : List ℕ) (n : ℕ) (sets : List ℕ) (p a q b : ℕ) (room order room₁ order₁ room₂ order₂ : List ℕ)
-    → Gathered s bytes n (copies-of sets n q b) room₁ order₁ r a b room₂ order₂ → Gathered r bytes n (copies-of sets n p a) room order 0 0 a room₁ order₁
-    → Gathered s bytes n (either-of sets n p a q b) room order 0 0 (a + b) room₂ order₂
-unfolding either-of copies-of
-either-gathered r s bytes n sets p a q b room order room₁ order₁ room₂ order₂ two one =
-    gathered-more r s bytes n (copies-of sets n p a) (copies-of sets n q b) (either-of sets n p a q b) room order 0 0 a a b room₁ order₁ room₂ order₂
-    (omega arith) (λ fs. refl) (a + b) refl one two
+      numbered : (j : ℕ) → Dec (j < i) → j < i + 1 → getD (set order₁ i i) j 0 < i + 1
+      numbered j (yes l) k = let e = getD-set-other order₁ i j i 0 (λ e. omega arith) in omega (arith, going .below .low j l)
+      numbered j (no l) k = let e : j ≡ i = omega arith in rw (e, getD-set-same order₁ i i 0 listed) (omega arith)
+
+  pub taken-end : (a : ℕ) → i ≤ a → a ≤ i → AllTaken n sets p a room order room₁ order₁
+  taken-end a low all = let e : a ≡ i = omega arith in rw e going
+
+module _ (n : ℕ) (sets : List ℕ) (p a : ℕ) (room order room₁ order₁ : List ℕ) (taken : AllTaken n sets p a room order room₁ order₁) where
+  -- Then the others.
+  pub second-room : (b : ℕ) → RoomFor 256 n room order 0 0 → a ≤ 16 → b ≤ 16 → RoomFor b n room₁ order₁ a a
+  second-room b for most-a most-b =
+      record {
+        nodes = for .nodes;
+        candidates = omega (arith, for .candidates, taken .candidates .size);
+        numbers = omega (arith, for .numbers, taken .size);
+        few = omega arith;
+        limit = omega arith;
+      }
+
+  pub either-gathered : (r : ℕ) (bytes : List ℕ) (q b : ℕ) (room₂ order₂ : List ℕ)
+      → Gathered r bytes n (copies-of sets n q b) room₁ order₁ a a b room₂ order₂
+      → EitherGathered r bytes n sets p a q b room order room₂ order₂
+  unfolding copies-of
+  either-gathered r bytes q b room₂ order₂ others =
+      record {
+        size = others .size ∙ taken .size;
+        most = others .most;
+        candidates = candidates-both room 0 a room₁ room₂ (omega arith) (taken .candidates) (others .candidates);
+        says = λ fs are.
+            others .says (taken .below) fs are
+            ∙ ap (λ (ys : List Pending). with-more (asks-no-more fs) earlier ys (set-in sets n q b)) (taken .is);
+      }

@@ -4,19 +4,21 @@ use native.Mathlib.Omega.{arith}
 use native.Mathlib.Nat.{mul-le-mul}
 use mathlib.Core.Path.{_≡_, refl, sym, _∙_, ap}
 use mathlib.Core.Bool.{Bool, true, false}
-use mathlib.Core.List.{List}
+use mathlib.Core.List.{List, [], _++_}
 use lib.ListN.{length}
 use lib.Dec.{ltb}
 use borrow.Author.Tests.{lt-ltb, le-ltb}
+use Rattle.base.specs.Choice.{pick}
 use Rattle.base.specs.Lists.{some-of}
 use Rattle.logic.specs.Book.{Formula}
 use Rattle.pending.specs.Pending.{Pending}
-use Rattle.alternatives.specs.Least.{placed, with-one-more, least}
-use Rattle.alternatives.specs.Alternatives.{Alternatives, over, these, most-alternatives, asks-no-more, earlier, set-of, counted, combined, joined-with}
-use Rattle.set_bytes.specs.SetBytes.{answered, set-in, candidate, chosen, either-of, pairs-of}
+use Rattle.alternatives.specs.Least.{placed, with-one-more, with-more, least}
+use Rattle.alternatives.specs.Alternatives.{Alternatives, over, these, broken, most-alternatives, asks-no-more, earlier, set-of, counted, combined, joined-with}
+use Rattle.alternatives.proofs.Least.{more-append}
+use Rattle.set_bytes.specs.SetBytes.{answered, set-in, candidate, chosen, pairs-of}
 use Rattle.book_progression.specs.Contracts.{AreNodes}
 use Rattle.book_progression.proofs.Areas.{beside-none}
-use Rattle.set_bytes.specs.Contracts.{LookedOver, Without, Placed, Replaced, Added, Gathered, PutOut, Finished, Leaves, Combines, Joins, SetsReady, RoomFor}
+use Rattle.set_bytes.specs.Contracts.{LookedOver, Without, Placed, Replaced, Added, Gathered, EitherGathered, PutOut, Finished, Leaves, Combines, JoinsSets, SetsReady, RoomFor}
 use Rattle.set_bytes.proofs.Chosen.{chosen-length}
 
 -- ---- one more candidate
@@ -127,11 +129,11 @@ module _ (bytes : List ℕ) (n : ℕ) (sets : List ℕ) (p a q b to : ℕ) (room
       let e = answered-over sets n p a many in
       record { leaves = leaves-all sets to room; says = λ fs are. answered-over sets n to 17 (omega arith) ∙ sym (rw e refl) }
 
-  pub join-over : 16 < a → Joins 17 bytes n sets p a q b to room sets room
+  pub join-over : 16 < a → JoinsSets 17 bytes n sets p a q b to room sets room
   unfolding joined-with
   join-over many =
       let e = answered-over sets n p a many in
-      record { leaves = leaves-all sets to room; says = λ fs are. answered-over sets n to 17 (omega arith) ∙ sym (rw e refl) }
+      record { leaves = leaves-all sets to room; says = λ fs are _. answered-over sets n to 17 (omega arith) ∙ sym (rw e refl) }
 
   -- or the second.
   pub combine-over-too : 16 < b → Combines 17 bytes n sets p a q b to room sets room
@@ -143,11 +145,11 @@ module _ (bytes : List ℕ) (n : ℕ) (sets : List ℕ) (p a q b to : ℕ) (room
             ∙ sym (combined-over fs (answered sets n p a) (answered sets n q b) (answered-over sets n q b many));
       }
 
-  pub join-over-too : 16 < b → Joins 17 bytes n sets p a q b to room sets room
+  pub join-over-too : 16 < b → JoinsSets 17 bytes n sets p a q b to room sets room
   join-over-too many =
       record {
         leaves = leaves-all sets to room;
-        says = λ fs are.
+        says = λ fs are _.
             answered-over sets n to 17 (omega arith)
             ∙ sym (joined-over fs (answered sets n p a) (answered sets n q b) (answered-over sets n q b many));
       }
@@ -178,18 +180,40 @@ module _ (r left : ℕ) (bytes : List ℕ) (n : ℕ) (sets : List ℕ) (p a q b 
             ∙ sym (rw (e, f) refl);
       }
 
-  pub join-done : Gathered left bytes n (either-of sets n p a q b) room order 0 0 k room₁ order₁ → a ≤ 16 → b ≤ 16
-      → Joins r bytes n sets p a q b to room after room₁
-  unfolding either-of joined-with
-  join-done gathered few few-too =
-      let e = answered-these sets n p a few in
-      let f = answered-these sets n q b few-too in
-      record {
-        leaves = leaves-by (either-of sets n p a q b) gathered;
-        says = λ fs are.
-            finished .is ∙ ap counted (gathered-set left bytes n (either-of sets n p a q b) room order k room₁ order₁ gathered fs are)
-            ∙ sym (rw (e, f) refl);
-      }
+-- A set that is itself where it is joined with none has nothing to drop.
+counted-these : (ps qs : List Pending) → counted ps ≡ these qs → ps ≡ qs
+unfolding counted
+counted-these ps qs = go (ltb most-alternatives (length ps))
+  where
+    go : (b : Bool) → pick b (λ _. over) (λ _. these ps) ≡ these qs → ps ≡ qs
+    go true e = let z : _≡_ {A = ℕ} 0 1 = cc in absurd (omega arith)
+    go false e = cc
+
+nothing-dropped : (fs : List Formula) (s : Alternatives) (ps : List Pending) → s ≡ these ps → joined-with fs broken s ≡ s → set-of fs ps ≡ ps
+unfolding joined-with
+nothing-dropped fs s ps e stands = counted-these (set-of fs ps) ps (rw e at stands)
+
+-- The others are added to it as they would be to all.
+added-to : (fs : List Formula) (ps qs : List Pending) → set-of fs ps ≡ ps → with-more (asks-no-more fs) earlier ps qs ≡ set-of fs (ps ++ qs)
+unfolding set-of least
+added-to fs ps qs same =
+    ap (λ (ys : List Pending). with-more (asks-no-more fs) earlier ys qs) (sym same) ∙ sym (more-append (asks-no-more fs) earlier [] ps qs)
+
+pub join-done : (r left : ℕ) (bytes : List ℕ) (n : ℕ) (sets : List ℕ) (p a q b to : ℕ) (room order room₁ order₁ after : List ℕ)
+    → Finished r n room₁ order₁ left sets to after → EitherGathered left bytes n sets p a q b room order room₁ order₁ → a ≤ 16 → b ≤ 16
+    → JoinsSets r bytes n sets p a q b to room after room₁
+unfolding joined-with
+join-done r left bytes n sets p a q b to room order room₁ order₁ after finished gathered few few-too =
+    let e = answered-these sets n p a few in
+    let f = answered-these sets n q b few-too in
+    record {
+      leaves = record { most = finished .most; beside = finished .beside; candidates = gathered .candidates };
+      says = λ fs are stands.
+          finished .is
+          ∙ ap counted (gathered .says fs are
+          ∙ added-to fs (set-in sets n p a) (set-in sets n q b) (nothing-dropped fs (answered sets n p a) (set-in sets n p a) e stands))
+          ∙ sym (rw (e, f) refl);
+    }
 
 -- There is room for all candidates,
 pub sets-room : (n : ℕ) (sets : List ℕ) (p q to : ℕ) (room order : List ℕ) → SetsReady n sets p q to room → length order ≡ 256
@@ -210,6 +234,6 @@ pairs-listed left bytes n more room order a b room₁ order₁ gathered few few-
     let most : b * a ≤ 16 * 16 = mul-le-mul few-too few in
     omega (arith, gathered .most, gathered .size)
 
-pub either-listed : (left : ℕ) (bytes : List ℕ) (n : ℕ) (more : List Formula → List Pending) (room order : List ℕ) (a b : ℕ) (room₁ order₁ : List ℕ)
-    → Gathered left bytes n more room order 0 0 (a + b) room₁ order₁ → a ≤ 16 → b ≤ 16 → length order ≡ 256 → left ≤ length order₁
-either-listed left bytes n more room order a b room₁ order₁ gathered few few-too all = omega (arith, gathered .most, gathered .size)
+pub either-listed : (left : ℕ) (bytes : List ℕ) (n : ℕ) (sets : List ℕ) (p a q b : ℕ) (room order room₁ order₁ : List ℕ)
+    → EitherGathered left bytes n sets p a q b room order room₁ order₁ → a ≤ 16 → b ≤ 16 → length order ≡ 256 → left ≤ length order₁
+either-listed left bytes n sets p a q b room order room₁ order₁ gathered few few-too all = omega (arith, gathered .most, gathered .size)

@@ -8,7 +8,7 @@ use Rattle.base.specs.Lists.{some-of}
 use Rattle.logic.specs.Book.{Formula}
 use Rattle.pending.specs.Pending.{Pending}
 use Rattle.alternatives.specs.Least.{without, placed, with-one-more, with-more}
-use Rattle.alternatives.specs.Alternatives.{asks-no-more, earlier, counted, combined, joined-with}
+use Rattle.alternatives.specs.Alternatives.{broken, asks-no-more, earlier, counted, combined, joined-with}
 use Rattle.book_progression.specs.Contracts.{AreNodes, Beside}
 use Rattle.set_bytes.specs.SetBytes.{alternative-size, set-size, candidates-size, set-in, answered, candidate, chosen}
 
@@ -90,6 +90,21 @@ pub record Gathered (r : ℕ) (bytes : List ℕ) (n : ℕ) (more : List Formula 
   pub says : Below order m c → (fs : List Formula) → AreNodes bytes n fs
       → chosen after-room n after r ≡ with-more (asks-no-more fs) earlier (chosen room n order m) (more fs)
 
+-- The a alternatives from p on are the first a candidates, all chosen, in their order.
+pub record AllTaken (n : ℕ) (sets : List ℕ) (p a : ℕ) (room order after-room after : List ℕ) : Type 0 where
+  pub size : length after ≡ length order
+  pub below : Below after a a
+  pub candidates : Candidates room 0 after-room
+  pub is : chosen after-room n after a ≡ set-in sets n p a
+
+-- Beside those of one set, as they are, the b alternatives of the other are gathered one after the other.
+pub record EitherGathered (r : ℕ) (bytes : List ℕ) (n : ℕ) (sets : List ℕ) (p a q b : ℕ) (room order after-room after : List ℕ) : Type 0 where
+  pub size : length after ≡ length order
+  pub most : r ≤ a + b
+  pub candidates : Candidates room 0 after-room
+  pub says : (fs : List Formula) → AreNodes bytes n fs
+      → chosen after-room n after r ≡ with-more (asks-no-more fs) earlier (set-in sets n p a) (set-in sets n q b)
+
 -- The r chosen candidates, written to the set at `to`. Every byte beside it stays.
 pub record PutOut (n : ℕ) (room order : List ℕ) (r : ℕ) (sets : List ℕ) (to : ℕ) (after : List ℕ) : Type 0 where
   pub beside : Beside sets to set-size after
@@ -112,10 +127,11 @@ pub record Combines (r : ℕ) (bytes : List ℕ) (n : ℕ) (sets : List ℕ) (p 
   pub leaves : Leaves r sets to room after after-room
   pub says : (fs : List Formula) → AreNodes bytes n fs → answered after n to r ≡ combined fs (answered sets n p a) (answered sets n q b)
 
--- Two sets of which either is to be met.
-pub record Joins (r : ℕ) (bytes : List ℕ) (n : ℕ) (sets : List ℕ) (p a q b to : ℕ) (room after after-room : List ℕ) : Type 0 where
+-- Two sets of which either is to be met, where the first is itself if it is joined with none.
+pub record JoinsSets (r : ℕ) (bytes : List ℕ) (n : ℕ) (sets : List ℕ) (p a q b to : ℕ) (room after after-room : List ℕ) : Type 0 where
   pub leaves : Leaves r sets to room after after-room
-  pub says : (fs : List Formula) → AreNodes bytes n fs → answered after n to r ≡ joined-with fs (answered sets n p a) (answered sets n q b)
+  pub says : (fs : List Formula) → AreNodes bytes n fs → joined-with fs broken (answered sets n p a) ≡ answered sets n p a
+      → answered after n to r ≡ joined-with fs (answered sets n p a) (answered sets n q b)
 
 -- ---- what is asked
 

@@ -1,6 +1,6 @@
 -- Sets of alternatives as bytes: the alternatives of a set lie 60 bytes apart, one behind the other.
 use Prim.Native.Nat.{ℕ, _+_, _*_}
-use mathlib.Core.List.{List, [], _∷_, _++_, map}
+use mathlib.Core.List.{List, [], _∷_, map}
 use lib.ListN.{take}
 use lib.Dec.{ltb}
 use Rattle.base.specs.Choice.{pick}
@@ -47,10 +47,6 @@ copy-of area n p fs = alternative-in area n p ∷ []
 
 unfoldable pub copies-of : List ℕ → ℕ → ℕ → ℕ → List Formula → List Pending
 copies-of area n p a fs = set-in area n p a
-
--- the first a from p on, and the first b from q on
-unfoldable pub either-of : List ℕ → ℕ → ℕ → ℕ → ℕ → ℕ → List Formula → List Pending
-either-of area n p a q b fs = set-in area n p a ++ set-in area n q b
 
 -- the alternative at p together with that at q, with each of the first b from there on
 unfoldable pub pair-of : List ℕ → ℕ → ℕ → ℕ → List Formula → List Pending

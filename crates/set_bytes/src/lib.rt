@@ -5,8 +5,8 @@
 ghost use Prim.Native.Nat.{_+_, _*_, _<_, _≤_};
 ghost use lib.ListN.{length};
 ghost use Rattle.book_progression.specs.Contracts.{HasNodes};
-ghost use Rattle.set_bytes.specs.SetBytes.{alternative-size, set-size, most-candidates, candidates-size, copy-of, copies-of, either-of, pair-of, row-of, pairs-of};
-ghost use Rattle.set_bytes.specs.Contracts.{LookedOver, Without, IsPlace, Moved, Placed, Replaced, Added, Gathered, PutOut, Finished, Combines, Joins, SetsReady, RoomFor};
+ghost use Rattle.set_bytes.specs.SetBytes.{alternative-size, set-size, most-candidates, candidates-size, copy-of, copies-of, pair-of, row-of, pairs-of};
+ghost use Rattle.set_bytes.specs.Contracts.{LookedOver, Without, IsPlace, Moved, Placed, Replaced, Added, Gathered, AllTaken, EitherGathered, PutOut, Finished, Combines, JoinsSets, SetsReady, RoomFor};
 use alternative_bytes::APART;
 use alternative_bytes::NO_LESS;
 use alternative_bytes::NO_MORE;
@@ -282,7 +282,22 @@ fn gather_copies(
     left
 }
 
-// Each of the a alternatives from p on, and each of the b from q on.
+// Each of the a alternatives from p on is a candidate, and chosen, in their order: nothing is compared.
+fn take_copies(n: usize, sets: &[u8], p: usize, a: usize, room: &mut [u8], order: &mut [u8])
+    requires { ⌜ RoomFor 256 n (now room) (now order) 0 0 ⌝ }
+    requires { ⌜ p + set-size ≤ length (now sets) ⌝ }
+    requires { ⌜ a ≤ 16 ⌝ }
+    ensures { λ _. ⌜ AllTaken n (now (sets .entry)) p a (now (room .entry)) (now (order .entry)) (now (room .exit)) (now (order .exit)) ⌝ }
+{
+    let mut i = 0;
+    while i < a {
+        alternative_bytes::copy(n, sets, p + SIZE * i, room, SIZE * i);
+        order[i] = i as u8;
+        i += 1;
+    }
+}
+
+// Beside the a alternatives from p on, which are a set, each of the b from q on.
 fn gather_either(
     book: &[u8],
     n: usize,
@@ -300,10 +315,10 @@ fn gather_either(
     requires { ⌜ q + set-size ≤ length (now sets) ⌝ }
     requires { ⌜ a ≤ 16 ⌝ }
     requires { ⌜ b ≤ 16 ⌝ }
-    ensures { λ r. ⌜ Gathered r (now (book .entry)) n (either-of (now (sets .entry)) n p a q b) (now (room .entry)) (now (order .entry)) 0 0 (a + b) (now (room .exit)) (now (order .exit)) ⌝ }
+    ensures { λ r. ⌜ EitherGathered r (now (book .entry)) n (now (sets .entry)) p a q b (now (room .entry)) (now (order .entry)) (now (room .exit)) (now (order .exit)) ⌝ }
 {
-    let first = gather_copies(book, n, sets, p, a, room, order, 0, 0);
-    gather_copies(book, n, sets, q, b, room, order, first, a)
+    take_copies(n, sets, p, a, room, order);
+    gather_copies(book, n, sets, q, b, room, order, a, a)
 }
 
 // Writes the r chosen to the set at `to`.
@@ -406,7 +421,7 @@ fn join_by(
     requires { ⌜ SetsReady n (now sets) p q to (now room) ⌝ }
     requires { ⌜ a ≤ 16 ⌝ }
     requires { ⌜ b ≤ 16 ⌝ }
-    ensures { λ r. ⌜ Joins r (now (book .entry)) n (now (sets .entry)) p a q b to (now (room .entry)) (now (sets .exit)) (now (room .exit)) ⌝ }
+    ensures { λ r. ⌜ JoinsSets r (now (book .entry)) n (now (sets .entry)) p a q b to (now (room .entry)) (now (sets .exit)) (now (room .exit)) ⌝ }
 {
     let left = gather_either(book, n, sets, p, a, q, b, room, order);
     finish(n, room, order, left, sets, to)
@@ -426,7 +441,7 @@ pub fn join(
 ) -> usize
     requires { ⌜ HasNodes (now book) n ⌝ }
     requires { ⌜ SetsReady n (now sets) p q to (now room) ⌝ }
-    ensures { λ r. ⌜ Joins r (now (book .entry)) n (now (sets .entry)) p a q b to (now (room .entry)) (now (sets .exit)) (now (room .exit)) ⌝ }
+    ensures { λ r. ⌜ JoinsSets r (now (book .entry)) n (now (sets .entry)) p a q b to (now (room .entry)) (now (sets .exit)) (now (room .exit)) ⌝ }
 {
     if MOST < a {
         return OVER;

@@ -9,7 +9,7 @@ use Rattle.book_alternatives.proofs.offer.Reads as offer
 use Rattle.book_alternatives.proofs.offer.Kinds as offer-kinds
 use Rattle.book_alternatives.proofs.+offer.Lts-offer as offer-lts
 use Rattle.book_alternatives.proofs.alone.Reads as alone-reads
-use Rattle.book_alternatives.proofs.is_one_sided.Reads as is-one-sided-reads
+use Rattle.book_alternatives.proofs.gives_one.Reads as gives-one-reads
 use Rattle.book_alternatives.proofs.offer_one.Reads as offer-one-reads
 use Rattle.book_alternatives.proofs.looked_part.Reads as looked-part-reads
 use Rattle.book_alternatives.proofs.looks.Reads as looks-reads
@@ -31,7 +31,7 @@ abbrev offer-below : ℕ → In 3 offer-kinds.ps
 offer-below t = and 3 offer-kinds.ps (falls 3 offer-kinds.ps _<_ μ-offer t) offer.Pre
 
 pub +offer-spec : {M : Type 1} → statement M
-+offer-spec = close μ-offer λ t. offer-lts.spec (is-one-sided-reads.Asked, is-one-sided-reads.Learnt, offer-one-reads.Asked, offer-one-reads.Learnt, looks-reads.Asked, looks-reads.Learnt, tested-reads.Asked, tested-reads.Learnt, looked-part-reads.Asked, looked-part-reads.Learnt, fresh-reads.Asked, fresh-reads.Learnt, alone-reads.Asked, alone-reads.Learnt, offer-below t, offer.Post, stay-reads.Asked, stay-reads.Learnt, second-reads.Asked, second-reads.Learnt, of-two-reads.Asked, of-two-reads.Learnt) (offer-at t) offer.Post
++offer-spec = close μ-offer λ t. offer-lts.spec (gives-one-reads.Asked, gives-one-reads.Learnt, offer-one-reads.Asked, offer-one-reads.Learnt, looks-reads.Asked, looks-reads.Learnt, tested-reads.Asked, tested-reads.Learnt, looked-part-reads.Asked, looked-part-reads.Learnt, fresh-reads.Asked, fresh-reads.Learnt, alone-reads.Asked, alone-reads.Learnt, offer-below t, offer.Post, stay-reads.Asked, stay-reads.Learnt, second-reads.Asked, second-reads.Learnt, of-two-reads.Asked, of-two-reads.Learnt) (offer-at t) offer.Post
     (λ c κs. search (needs, offer-node))
     (λ c κs. search (needs, in-place-ready))
     (λ c. search needs)

@@ -19,7 +19,7 @@ progressed-spec =
     (λ c. search (needs, joining-first))
     (λ c. search needs)
     (λ c. search needs)
-    (λ c κs. search (needs, joining-ready))
+    (λ c κs. (search (needs, joining-ready), search needs))
     (λ c. search needs)
     (λ c. search needs)
     (λ c. search (needs, joining-next))

@@ -1,33 +1,19 @@
 -- `pair_search::lead` meets its contract.
 use borrow.Author.Needs.{needs}
-use borrow.Author.Tests.{not-true, not-false}
-use Rattle.pair_search.proofs.Following.{still-indexed, still-room, still-headed, move-fits, lead-broken, lead-to}
+use Rattle.pair_search.proofs.Repeating.{alike-ready, lead-again}
 use Rattle.pair_search.proofs.lead.Statement.{statement}
 use Rattle.pair_search.proofs.lead.Tie as tie
+
+ruleset all = (needs, alike-ready, lead-again)
 
 pub lead-spec : {M : Type 1} → statement M
 lead-spec =
     tie.close
     (tie.spec
+    (λ c κs. search all)
+    (λ c. search needs)
+    (λ c. search all)
     (λ c κs. (search needs, (search needs, search needs)))
     (λ c. search needs)
     (λ c. search needs)
-    (λ c. search (needs, not-true, lead-broken))
-    (λ c κs. let entered = c .before .before .before .before .before .enter .ensures in
-    let asked = c .before .before .before .before .before .before .before .before .before .before .before .before .before .before .before .pre .0 in (
-      still-indexed _ _ _ _ _ _ _ _ _ _ entered (asked .turning .indexed),
-      (
-        still-headed _ _ _ _ _ _ _ _ _ entered (search (needs, not-false)),
-        (
-          search needs,
-          (
-            still-room _ _ _ _ _ _ _ _ _ _ entered (asked .turning .filled),
-            search needs,
-          ),
-        ),
-      ),
-    ))
-    (λ c. search (needs, move-fits))
-    (λ c. search needs)
-    (λ c. search needs)
-    (λ c. search (needs, not-false, lead-to)))
+    (λ c. search needs))

@@ -1,4 +1,4 @@
--- Sets of alternatives: what is in them, what they cover, that they are canonical and do not depend on the order, and how many there are.
+-- Sets of alternatives: what is in them, what they cover, that they are ordered antichains and do not depend on the order, and how many there are.
 use Prim.Native.Nat.{suc, _*_, _≤_}
 use mathlib.Core.Path.{_≡_, refl, sym, ap, _∙_}
 use mathlib.Core.Logic.{⊎-elim}
@@ -8,7 +8,7 @@ use native.Mathlib.Omega.{arith}
 use lib.ListN.{length, length-append, length-map}
 use Rattle.logic.specs.Book.{Formula}
 use Rattle.pending.specs.Pending.{Pending}
-use Rattle.alternatives.specs.Canonical.{Canonical}
+use Rattle.alternatives.specs.Antichain.{Antichain}
 use Rattle.alternatives.specs.Alternatives.{later-cells, asks-no-more, earlier, set-of, both, together}
 use Rattle.alternatives.proofs.Least as Least
 use Rattle.alternatives.proofs.Least.{Covered}
@@ -53,19 +53,19 @@ module _ (fs : List Formula) where
   unfolding set-of
   set-covers ps m = Least.least-covers (asks-no-more fs) earlier (alternatives-ordered fs) ps m
 
-  -- A set is canonical.
-  pub set-canonical : (ps : List Pending) → Canonical (asks-no-more fs) earlier (set-of fs ps)
+  -- A set is an ordered antichain.
+  pub set-antichain : (ps : List Pending) → Antichain (asks-no-more fs) earlier (set-of fs ps)
   unfolding set-of
-  set-canonical ps = Least.least-canonical (asks-no-more fs) earlier (alternatives-ordered fs) ps
+  set-antichain ps = Least.least-antichain (asks-no-more fs) earlier (alternatives-ordered fs) ps
 
-  -- A canonical list is its own set.
-  pub set-of-canonical : (ps : List Pending) → Canonical (asks-no-more fs) earlier ps → set-of fs ps ≡ ps
+  -- An antichain is its own set.
+  pub set-of-antichain : (ps : List Pending) → Antichain (asks-no-more fs) earlier ps → set-of fs ps ≡ ps
   unfolding set-of
-  set-of-canonical ps c = Least.least-kept (asks-no-more fs) earlier (alternatives-ordered fs) ps c
+  set-of-antichain ps c = Least.least-kept (asks-no-more fs) earlier (alternatives-ordered fs) ps c
 
   -- A set of a set is the same set.
   pub set-again : (ps : List Pending) → set-of fs (set-of fs ps) ≡ set-of fs ps
-  set-again ps = set-of-canonical (set-of fs ps) (set-canonical ps)
+  set-again ps = set-of-antichain (set-of fs ps) (set-antichain ps)
 
   -- What comes first may be dropped first.
   pub set-first : (ps qs : List Pending) → set-of fs (ps ++ qs) ≡ set-of fs (set-of fs ps ++ qs)
@@ -81,12 +81,12 @@ module _ (fs : List Formula) where
   unfolding set-of
   set-length ps = Least.least-length (asks-no-more fs) earlier ps
 
-  -- Two canonical lists that cover each other are equal.
-  pub set-unique : (ps qs : List Pending) → AllSized fs ps → AllSized fs qs → Canonical (asks-no-more fs) earlier ps
-      → Canonical (asks-no-more fs) earlier qs → ((p : Pending) → List·Memᴰ p ps → Covered (asks-no-more fs) qs p)
+  -- Two antichains that cover each other are equal.
+  pub set-unique : (ps qs : List Pending) → AllSized fs ps → AllSized fs qs → Antichain (asks-no-more fs) earlier ps
+      → Antichain (asks-no-more fs) earlier qs → ((p : Pending) → List·Memᴰ p ps → Covered (asks-no-more fs) qs p)
       → ((q : Pending) → List·Memᴰ q qs → Covered (asks-no-more fs) ps q) → ps ≡ qs
   set-unique ps qs a b c d to fro =
-      Least.canonical-unique (asks-no-more fs) earlier (alternatives-ordered fs) (λ p. length p ≡ length fs) (no-more-antisym fs) ps qs c d a b
+      Least.antichain-unique (asks-no-more fs) earlier (alternatives-ordered fs) (λ p. length p ≡ length fs) (no-more-antisym fs) ps qs c d a b
       to fro
 
   -- Two lists that cover each other make the same set.

@@ -1,0 +1,151 @@
+-- An action that leads to the pair to which an earlier one led: what waits of both is the same, and so is the state.
+use Prim.Native.Nat.{ℕ, _+_, _-_, _*_, _≤_, _<_}
+use native.Mathlib.Omega.{arith}
+use mathlib.Core.Path.{_≡_, refl, sym, _∙_, ap, subst}
+use mathlib.Core.Bool.{Bool, true}
+use mathlib.Core.Option.{some}
+use mathlib.Core.List.{List}
+use Rattle.base.specs.Bytes.{byte-at, number-at}
+use Rattle.base.specs.Lists.{some-of}
+use Rattle.base.proofs.Lists.{some-of-mem, mem-getD}
+use Rattle.alternatives.specs.Alternatives.{these}
+use Rattle.alternatives.specs.Pairs.{same-pair, alternatives-by, pair-step}
+use Rattle.alternatives.proofs.Same.{same-pair-refl}
+use Rattle.alternatives.proofs.Steps.{Standing, tried-step-in, pair-step-spare, pair-step-out}
+use Rattle.book_progression.specs.NodeBytes.{IsHeld}
+use Rattle.set_index.specs.Entries.{entry-number}
+use Rattle.pair_graph.specs.Graph.{to}
+use Rattle.pair_graph.specs.Steps.{cell, move-of, move-at}
+use Rattle.pair_graph.proofs.Moves.{high-move}
+use Rattle.pair_trial.specs.Walked.{walked}
+use Rattle.pair_trial.specs.Trial.{pair-in, waiting-set}
+use Rattle.pair_search.specs.Explored.{pairs-of, with-one, SaysMove, moves-to, Searching, Alike, LedAlike, MoveAlike, LedBefore, ActionFollowed}
+use Rattle.pair_search.proofs.PairEntries.{pairs-length, pairs-at, state-of-pair}
+use Rattle.pair_search.proofs.Entering.{says-leads}
+
+-- ---- move_alike
+
+module _ (area graph room : List ℕ) (i a b y m : ℕ) where
+  -- A move that names no pair says nothing.
+  pub alike-none : m < 2 → MoveAlike m area graph room i a b y
+  alike-none l = record { alike = λ k. absurd (omega arith) }
+
+  module _ (is-m : m ≡ number-at 2 graph (cell i b)) where
+    names : 2 ≤ m → move-at graph i b ≡ to (m - 2)
+    unfolding move-at
+    names l = ap move-of (sym is-m) ∙ high-move m l
+
+    pub alike-inside : (n : ℕ) → 2 ≤ m → Alike area graph room i a n → b < a → m - 2 ≤ 1001
+    alike-inside n l ready low = omega (arith, ready .inside b (m - 2) low (names l), ready .most)
+
+    pub alike-found : (x : ℕ) → 2 ≤ m → x ≡ entry-number area (m - 2) → x ≡ y → byte-at room (30736 + b) ≡ byte-at room (30736 + a)
+        → byte-at room (30720 + b) ≡ byte-at room (30720 + a) → b < a → MoveAlike m area graph room i a b y
+    alike-found x l is-x same place count low =
+        record { alike = λ _. record { earlier = low; count = count; place = place; leads = names l; state = sym is-x ∙ same } }
+
+-- ---- led_before
+
+pub before-found : (area graph room : List ℕ) (i a b y m : ℕ) → MoveAlike m area graph room i a b y → LedBefore m area graph room i a y
+before-found area graph room i a b y m found = record { alike = λ l. (b, found .alike l) }
+
+pub before-none : (area graph room : List ℕ) (i a y : ℕ) → LedBefore 0 area graph room i a y
+before-none area graph room i a y = record { alike = λ l. absurd (omega arith) }
+
+-- ---- lead
+
+module _ (tower table : List ℕ) (rows : Bool) (nodes : List ℕ) (wide : Bool) (area : List ℕ) (n : ℕ) (index graph room : List ℕ) (i a : ℕ)
+    (was : Searching tower table rows nodes wide area n index graph room i (i + 1) (16 * i + a))
+    (listed : a < walked tower table rows .actions) where
+  -- what the move of an earlier action says
+  says-before : (h : IsHeld nodes) (b : ℕ) → b < a
+      → SaysMove (walked tower table rows) (h .book) nodes area n (pair-in nodes area i) b (move-at graph i b)
+  says-before h b l = was .turning .right .says h i b (omega (arith, listed)) (omega arith)
+
+  pub alike-ready : Alike area graph room i a n
+  alike-ready =
+      record {
+        size = was .turning .filled .size;
+        graph-room = was .turning .graph-room;
+        space = was .space;
+        low = omega (arith, was .turning .low, was .turning .most);
+        action = omega (arith, was .turning .world .files .search .actions-most, listed);
+        most = was .turning .most;
+        inside = λ b j l e.
+            let h = was .turning .world .held in
+            says-leads (walked tower table rows) (h .book) nodes area n (pair-in nodes area i) b j (move-at graph i b) (says-before h b l) e .0;
+      }
+
+  module _ (y m b : ℕ) (is-wide : wide ≡ true) (goes : walked tower table rows .target (entry-number area i) a ≡ some y)
+      (alike : LedAlike m area graph room i a b y) where
+    step-before : (h : IsHeld nodes)
+        → (m - 2 < n) × (pair-step (walked tower table rows) (h .book) (pair-in nodes area i) b ≡ some (pair-in nodes area (m - 2)))
+    step-before h =
+        says-leads (walked tower table rows) (h .book) nodes area n (pair-in nodes area i) b (m - 2) (move-at graph i b)
+        (says-before h b (alike .earlier)) (alike .leads)
+
+    -- what comes of pair i by action b
+    came-before : (h : IsHeld nodes)
+        → (walked tower table rows .target (pair-in nodes area i .state) b ≡ some (pair-in nodes area (m - 2) .state))
+        × (alternatives-by (walked tower table rows) (h .book) (pair-in nodes area i) b ≡ these (pair-in nodes area (m - 2) .pending))
+        × Standing (pair-in nodes area (m - 2))
+    came-before h =
+        pair-step-out (walked tower table rows) (h .book) (pair-in nodes area i) (pair-in nodes area (m - 2)) b (step-before h .1)
+
+    same-waits : waiting-set nodes room b ≡ waiting-set nodes room a
+    unfolding waiting-set
+    same-waits = rw (alike .count, alike .place) refl
+
+    -- is what comes of it by action a.
+    came : (h : IsHeld nodes)
+        → alternatives-by (walked tower table rows) (h .book) (pair-in nodes area i) a ≡ these (pair-in nodes area (m - 2) .pending)
+    came h =
+        was .waiting is-wide .waits a y listed goes .is h
+        ∙ ap these (sym same-waits)
+        ∙ sym (was .waiting is-wide .waits b (pair-in nodes area (m - 2) .state) (omega (arith, alike .earlier, listed)) enabled .is h)
+        ∙ came-before h .1
+      where
+        enabled : walked tower table rows .target (entry-number area i) b ≡ some (pair-in nodes area (m - 2) .state)
+        enabled = ap (λ (z : ℕ). walked tower table rows .target z b) (sym (state-of-pair nodes area i)) ∙ came-before h .0
+
+    goes-there : walked tower table rows .target (pair-in nodes area i .state) a ≡ some (pair-in nodes area (m - 2) .state)
+    goes-there =
+        ap (λ (z : ℕ). walked tower table rows .target z a) (state-of-pair nodes area i)
+        ∙ goes
+        ∙ ap some (sym (state-of-pair nodes area (m - 2) ∙ alike .state))
+
+    step-there : (h : IsHeld nodes)
+        → pair-step (walked tower table rows) (h .book) (pair-in nodes area i) a ≡ some (pair-in nodes area (m - 2))
+    step-there h =
+        pair-step-spare (walked tower table rows) (h .book) (pair-in nodes area i) a (was .spare h)
+        ∙ tried-step-in (walked tower table rows) (h .book) (pair-in nodes area i) (pair-in nodes area (m - 2)) a goes-there (came h) (came-before h .2)
+
+    -- The pair is among those that were met.
+    was-met : m - 2 < n → some-of (same-pair (pair-in nodes area (m - 2))) (pairs-of nodes area n) ≡ true
+    was-met l =
+        some-of-mem (same-pair (pair-in nodes area (m - 2)))
+        (mem-getD (pairs-of nodes area n) (m - 2) (pair-in nodes area 0) (omega (arith, pairs-length nodes area n)))
+        (ap (same-pair (pair-in nodes area (m - 2))) (pairs-at nodes area n (m - 2) l) ∙ same-pair-refl (pair-in nodes area (m - 2)))
+
+    led-again : 2 ≤ m → ActionFollowed (record { code = m; met = n }) (walked tower table rows) nodes wide area i a n area index
+    unfolding with-one
+    led-again l =
+        let inside = step-before (was .turning .world .held) .0 in
+        record {
+          least = omega arith;
+          most = omega arith;
+          filled = was .turning .filled;
+          indexed = was .turning .indexed;
+          kept = λ j k. refl;
+          small = omega (arith, inside, was .turning .most);
+          says = λ h. subst (SaysMove (walked tower table rows) (h .book) nodes area n (pair-in nodes area i) a) (sym (high-move m l))
+              (moves-to (m - 2) inside (step-there h));
+          grown = λ h. sym (rw (step-there h, was-met inside) refl);
+        }
+
+  -- The move of the earlier action is that of this one.
+  pub lead-again : (y m : ℕ) → 2 ≤ m → LedBefore m area graph room i a y → wide ≡ true
+      → walked tower table rows .target (entry-number area i) a ≡ some y
+      → ActionFollowed (record { code = m; met = n }) (walked tower table rows) nodes wide area i a n area index
+  lead-again y m l before is-wide goes =
+      let (b, alike) = before .alike l in
+      led-again y m b is-wide goes alike l
