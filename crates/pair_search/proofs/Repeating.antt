@@ -1,11 +1,10 @@
--- An action that leads to the pair to which an earlier one led: what waits of both is the same, and so is the state.
+-- `lead` where an earlier action led to the same pair: what waits of both is the same, and so is the state.
 use Prim.Native.Nat.{ℕ, _+_, _-_, _*_, _≤_, _<_}
 use native.Mathlib.Omega.{arith}
 use mathlib.Core.Path.{_≡_, refl, sym, _∙_, ap, subst}
 use mathlib.Core.Bool.{Bool, true}
 use mathlib.Core.Option.{some}
 use mathlib.Core.List.{List}
-use Rattle.base.specs.Bytes.{byte-at, number-at}
 use Rattle.base.specs.Lists.{some-of}
 use Rattle.base.proofs.Lists.{some-of-mem, mem-getD}
 use Rattle.alternatives.specs.Alternatives.{these}
@@ -14,44 +13,14 @@ use Rattle.alternatives.proofs.Same.{same-pair-refl}
 use Rattle.alternatives.proofs.Steps.{Standing, tried-step-in, pair-step-spare, pair-step-out}
 use Rattle.book_progression.specs.NodeBytes.{IsHeld}
 use Rattle.set_index.specs.Entries.{entry-number}
-use Rattle.pair_graph.specs.Graph.{to}
-use Rattle.pair_graph.specs.Steps.{cell, move-of, move-at}
+use Rattle.pair_graph.specs.Steps.{move-at}
 use Rattle.pair_graph.proofs.Moves.{high-move}
+use Rattle.pair_repeats.specs.Repeats.{MovesWritten, LedAlike, LedBefore}
 use Rattle.pair_trial.specs.Walked.{walked}
 use Rattle.pair_trial.specs.Trial.{pair-in, waiting-set}
-use Rattle.pair_search.specs.Explored.{pairs-of, with-one, SaysMove, moves-to, Searching, Alike, LedAlike, MoveAlike, LedBefore, ActionFollowed}
+use Rattle.pair_search.specs.Explored.{pairs-of, with-one, SaysMove, moves-to, Searching, ActionFollowed}
 use Rattle.pair_search.proofs.PairEntries.{pairs-length, pairs-at, state-of-pair}
 use Rattle.pair_search.proofs.Entering.{says-leads}
-
--- ---- move_alike
-
-module _ (area graph room : List ℕ) (i a b y m : ℕ) where
-  -- A move that names no pair says nothing.
-  pub alike-none : m < 2 → MoveAlike m area graph room i a b y
-  alike-none l = record { alike = λ k. absurd (omega arith) }
-
-  module _ (is-m : m ≡ number-at 2 graph (cell i b)) where
-    names : 2 ≤ m → move-at graph i b ≡ to (m - 2)
-    unfolding move-at
-    names l = ap move-of (sym is-m) ∙ high-move m l
-
-    pub alike-inside : (n : ℕ) → 2 ≤ m → Alike area graph room i a n → b < a → m - 2 ≤ 1001
-    alike-inside n l ready low = omega (arith, ready .inside b (m - 2) low (names l), ready .most)
-
-    pub alike-found : (x : ℕ) → 2 ≤ m → x ≡ entry-number area (m - 2) → x ≡ y → byte-at room (30736 + b) ≡ byte-at room (30736 + a)
-        → byte-at room (30720 + b) ≡ byte-at room (30720 + a) → b < a → MoveAlike m area graph room i a b y
-    alike-found x l is-x same place count low =
-        record { alike = λ _. record { earlier = low; count = count; place = place; leads = names l; state = sym is-x ∙ same } }
-
--- ---- led_before
-
-pub before-found : (area graph room : List ℕ) (i a b y m : ℕ) → MoveAlike m area graph room i a b y → LedBefore m area graph room i a y
-before-found area graph room i a b y m found = record { alike = λ l. (b, found .alike l) }
-
-pub before-none : (area graph room : List ℕ) (i a y : ℕ) → LedBefore 0 area graph room i a y
-before-none area graph room i a y = record { alike = λ l. absurd (omega arith) }
-
--- ---- lead
 
 module _ (tower table : List ℕ) (rows : Bool) (nodes : List ℕ) (wide : Bool) (area : List ℕ) (n : ℕ) (index graph room : List ℕ) (i a : ℕ)
     (was : Searching tower table rows nodes wide area n index graph room i (i + 1) (16 * i + a))
@@ -61,18 +30,18 @@ module _ (tower table : List ℕ) (rows : Bool) (nodes : List ℕ) (wide : Bool)
       → SaysMove (walked tower table rows) (h .book) nodes area n (pair-in nodes area i) b (move-at graph i b)
   says-before h b l = was .turning .right .says h i b (omega (arith, listed)) (omega arith)
 
-  pub alike-ready : Alike area graph room i a n
-  alike-ready =
+  pub moves-written : MovesWritten area graph room i a
+  moves-written =
       record {
         size = was .turning .filled .size;
         graph-room = was .turning .graph-room;
         space = was .space;
         low = omega (arith, was .turning .low, was .turning .most);
         action = omega (arith, was .turning .world .files .search .actions-most, listed);
-        most = was .turning .most;
         inside = λ b j l e.
             let h = was .turning .world .held in
-            says-leads (walked tower table rows) (h .book) nodes area n (pair-in nodes area i) b j (move-at graph i b) (says-before h b l) e .0;
+            let met = says-leads (walked tower table rows) (h .book) nodes area n (pair-in nodes area i) b j (move-at graph i b) (says-before h b l) e .0 in
+            omega (arith, met, was .turning .most);
       }
 
   module _ (y m b : ℕ) (is-wide : wide ≡ true) (goes : walked tower table rows .target (entry-number area i) a ≡ some y)

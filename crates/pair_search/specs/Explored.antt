@@ -1,5 +1,5 @@
 -- Pairs as entries of a lent area, and what the search for the pairs of a tower promises. An entry holds the state and the alternatives.
-use Prim.Native.Nat.{ℕ, _+_, _-_, _*_, _≤_, _<_}
+use Prim.Native.Nat.{ℕ, _+_, _*_, _≤_, _<_}
 use mathlib.Core.Path.{_≡_}
 use mathlib.Core.Bool.{Bool, true, false, _||_}
 use mathlib.Core.Option.{Option, none, some}
@@ -171,33 +171,6 @@ pub record NextEntered (b : Bool) (tower : Tower) (nodes area : List ℕ) (i a n
   pub says : (h : IsHeld nodes) → Entered b nodes area number n (alternatives-by tower (h .book) (pair-in nodes area i) a) after
 
 -- ---- one action
-
--- What is asked before the move of an earlier action of pair i is taken for that of action a: the moves before it are written and lead to some of
--- the first n pairs, if to any.
-pub record Alike (area graph room : List ℕ) (i a n : ℕ) : Type 0 where
-  pub size : entries-size ≤ length area
-  pub graph-room : graph-size ≤ length graph
-  pub space : room-size ≤ length room
-  pub low : i < most-entries
-  pub action : a < action-room
-  pub most : n ≤ most-entries
-  pub inside : (b j : ℕ) → b < a → move-at graph i b ≡ to j → j < n
-
--- Action b led from pair i to the pair that move m names, of state y, and what waits of it is what waits of action a.
-pub record LedAlike (m : ℕ) (area graph room : List ℕ) (i a b y : ℕ) : Type 0 where
-  pub earlier : b < a
-  pub count : byte-at room (counts-at + b) ≡ byte-at room (counts-at + a)
-  pub place : byte-at room (places-at + b) ≡ byte-at room (places-at + a)
-  pub leads : move-at graph i b ≡ to (m - 2)
-  pub state : entry-number area (m - 2) ≡ y
-
--- So it is with action b, if m names a pair;
-pub record MoveAlike (m : ℕ) (area graph room : List ℕ) (i a b y : ℕ) : Type 0 where
-  pub alike : 2 ≤ m → LedAlike m area graph room i a b y
-
--- and with some action.
-pub record LedBefore (m : ℕ) (area graph room : List ℕ) (i a y : ℕ) : Type 0 where
-  pub alike : 2 ≤ m → (b : ℕ) × LedAlike m area graph room i a b y
 
 -- Action a of pair i is followed: the pair that it leads to is one of the first `met`, and the code is that of its move.
 pub record ActionFollowed (way : Way) (tower : Tower) (nodes : List ℕ) (wide : Bool) (area : List ℕ) (i a n : ℕ) (after index : List ℕ) : Type 0 where

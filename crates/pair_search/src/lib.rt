@@ -16,7 +16,7 @@ ghost use Rattle.pair_sets.specs.PairSets.{Entered, Open};
 ghost use Rattle.pair_trial.specs.Walked.{walked, Files, Walkable};
 ghost use Rattle.pair_trial.specs.Trial.{room-size, waiting-set};
 ghost use Rattle.pair_graph.specs.Steps.{graph-size, pair-room, action-room};
-ghost use Rattle.pair_search.specs.Explored.{blocked-number, WideRight, Turning, Searching, Blocked, Earlier, MoveLeads, TakenOver, Single, RoomFor, NextEntered, Alike, MoveAlike, LedBefore, ActionFollowed, Stepped, Grown, Turned, SearchBegun, Explored};
+ghost use Rattle.pair_search.specs.Explored.{blocked-number, WideRight, Turning, Searching, Blocked, Earlier, MoveLeads, TakenOver, Single, RoomFor, NextEntered, ActionFollowed, Stepped, Grown, Turned, SearchBegun, Explored};
 use file_tower::Reached;
 
 // How the search ends: over 1,000 alternatives in all pairs, a pair that gives over 16, or so many pairs.
@@ -274,64 +274,6 @@ fn look_up(
     }
 }
 
-// The move of action b from pair i, if it leads to a pair of state y and what waits of it is what waits
-// of a; else one that leads to no pair. Of an action that is not enabled nothing waits, and none of the
-// room is read.
-fn move_alike(
-    pairs: &[u8],
-    graph: &[u8],
-    room: &[u8],
-    i: usize,
-    a: usize,
-    b: usize,
-    y: usize,
-    n: usize,
-) -> usize
-    requires { ⌜ Alike (now pairs) (now graph) (now room) i a n ⌝ }
-    requires { ⌜ b < a ⌝ }
-    ensures { λ m. ⌜ MoveAlike m (now (pairs .entry)) (now (graph .entry)) (now (room .entry)) i a b y ⌝ }
-{
-    let m = pair_graph::move_number(graph, i, b);
-    if m < pair_graph::FIRST_PAIR {
-        return m;
-    }
-    if room[pair_trial::PLACES + b] != room[pair_trial::PLACES + a] {
-        return pair_graph::NOT_ENABLED;
-    }
-    if set_index::number(pairs, m - pair_graph::FIRST_PAIR) != y {
-        return pair_graph::NOT_ENABLED;
-    }
-    if room[pair_trial::COUNTS + b] != room[pair_trial::COUNTS + a] {
-        return pair_graph::NOT_ENABLED;
-    }
-    m
-}
-
-// Such a move of some action before a; or one that leads to no pair, if there is none.
-fn led_before(
-    pairs: &[u8],
-    graph: &[u8],
-    room: &[u8],
-    i: usize,
-    a: usize,
-    y: usize,
-    n: usize,
-) -> usize
-    requires { ⌜ Alike (now pairs) (now graph) (now room) i a n ⌝ }
-    ensures { λ m. ⌜ LedBefore m (now (pairs .entry)) (now (graph .entry)) (now (room .entry)) i a y ⌝ }
-{
-    let mut b = 0;
-    while b < a {
-        let at = b;
-        b += 1;
-        let m = move_alike(pairs, graph, room, i, a, at, y, n);
-        if pair_graph::FIRST_PAIR <= m {
-            return m;
-        }
-    }
-    pair_graph::NOT_ENABLED
-}
-
 // Follows action a from pair i to state y: to the pair to which an earlier action led, if what waits of
 // both is the same and so is the state; else that pair is looked up.
 fn lead(
@@ -355,7 +297,7 @@ fn lead(
     ensures { λ way. ⌜ ActionFollowed way (walked (now (tower .entry)) (now (table .entry)) rows) (now (nodes .entry)) wide (now (pairs .entry)) i a n (now (pairs .exit)) (now (index .exit)) ⌝ }
 {
     if wide {
-        let m = led_before(pairs, graph, room, i, a, y, n);
+        let m = pair_repeats::led_before(pairs, graph, room, i, a, y);
         if pair_graph::FIRST_PAIR <= m {
             return Way { code: m, met: n };
         }

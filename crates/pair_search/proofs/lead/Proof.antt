@@ -1,10 +1,10 @@
 -- `pair_search::lead` meets its contract.
 use borrow.Author.Needs.{needs}
-use Rattle.pair_search.proofs.Repeating.{alike-ready, lead-again}
+use Rattle.pair_search.proofs.Repeating.{moves-written, lead-again}
 use Rattle.pair_search.proofs.lead.Statement.{statement}
 use Rattle.pair_search.proofs.lead.Tie as tie
 
-ruleset all = (needs, alike-ready, lead-again)
+ruleset all = (needs, moves-written, lead-again)
 
 pub lead-spec : {M : Type 1} → statement M
 lead-spec =

@@ -1,8 +1,8 @@
--- `pair_search::move_alike` meets its contract.
+-- `pair_repeats::move_alike` meets its contract.
 use borrow.Author.Needs.{needs}
-use Rattle.pair_search.proofs.Repeating.{alike-none, alike-inside, alike-found}
-use Rattle.pair_search.proofs.move_alike.Statement.{statement}
-use Rattle.pair_search.proofs.move_alike.Tie as tie
+use Rattle.pair_repeats.proofs.Ways.{alike-none, alike-inside, alike-found}
+use Rattle.pair_repeats.proofs.move_alike.Statement.{statement}
+use Rattle.pair_repeats.proofs.move_alike.Tie as tie
 
 ruleset all = (needs, alike-none, alike-inside, alike-found)
 
