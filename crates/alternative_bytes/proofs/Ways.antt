@@ -8,7 +8,7 @@ use mathlib.Core.Bool.{Bool, true, false, not, _&&_, _||_}
 use mathlib.Core.Option.{Option, none, some}
 use mathlib.Core.List.{List}
 use lib.ListN.{length, getD, set, drop, length-set, drop-of-length-le}
-use lib.Seq.{drop-cons, take-set-le, drop-set-lt, getD-set-same, getD-set-other, ext-getD}
+use lib.Seq.{drop-cons, getD-set-same, getD-set-other, ext-getD}
 use lib.Dec.{leb, ltb, eqb}
 use borrow.Author.Tests.{not-true, not-false, ltb-true, lt-ltb, le-ltb, leb-true, le-leb, eq-eqb, ne-eqb}
 use mir.Syntax.{w8}
@@ -24,11 +24,11 @@ use Rattle.alternatives.proofs.Orders.{no-more-cell-refl}
 use Rattle.alternatives.proofs.Antichain.{both-sized}
 use Rattle.area_bytes.proofs.Numbers.{same-bytes}
 use Rattle.book_progression.specs.PendingBytes.{cell-of}
-use Rattle.book_progression.specs.NodeBytes.{code-of, IsNode}
-use Rattle.book_progression.specs.Contracts.{AreNodes, HasNodes, Merged, Beside, EmptyTo}
+use Rattle.book_progression.specs.NodeBytes.{code-of}
+use Rattle.book_progression.specs.Contracts.{AreNodes, Merged, Beside, EmptyTo}
 use Rattle.book_progression.proofs.Cells.{cell-there, cell-one-more}
 use Rattle.book_progression.proofs.Nodes.{by-kind, by-always, by-until}
-use Rattle.book_progression.proofs.Areas.{beside-none, beside-both}
+use Rattle.book_progression.proofs.Areas.{beside-none, beside-set, beside-both}
 use Rattle.alternative_bytes.specs.AlternativeBytes.{alternative-in}
 use Rattle.alternative_bytes.specs.Contracts.{CellNoMore, CellBoth, EqualTo, DifferAt, NoMore, Related, BothPut, Copied}
 use Rattle.alternative_bytes.proofs.Laws.{cell-number-of, alternative-length, alternative-cell, both-cell-at}
@@ -155,10 +155,6 @@ pub record Asking (bytes : List ℕ) (n : ℕ) (area : List ℕ) (p q k : ℕ) :
 
 asking-all : (bytes : List ℕ) (n : ℕ) (area : List ℕ) (p q : ℕ) → Asking bytes n area p q 0
 asking-all bytes n area p q = record { low = omega arith; left = λ fs are. refl }
-
--- A node is there.
-pub node-there : (bytes : List ℕ) (n k : ℕ) → HasNodes bytes n → k < n → IsNode bytes k
-node-there bytes n k has low = has .nodes k low
 
 -- the next cells, and those behind them
 asks-cons : (fs : List Formula) (o u : Pending) (k : ℕ) → k < length fs → k < length o → k < length u
@@ -337,14 +333,6 @@ filling-start Says first to n =
     record { low = omega arith; size = refl; beside = beside-none first to n; says = λ j low. absurd (omega arith) }
 
 -- A byte is stored.
-beside-set : (area : List ℕ) (to n k v : ℕ) → k < n → Beside area to n (set area (to + k) v)
-beside-set area to n k v low =
-    record {
-      size = length-set area (to + k) v;
-      before = take-set-le to area (to + k) v (omega arith);
-      behind = drop-set-lt (to + n) area (to + k) v (omega arith);
-    }
-
 pub filling-on : (Says : ℕ → ℕ → Type 0) (first : List ℕ) (to n : ℕ) (area : List ℕ) (k v : ℕ) → Filling Says first to n area k → k < n
     → to + n ≤ length first → Says k v → Filling Says first to n (set area (to + k) v) (k + 1)
 filling-on Says first to n area k v going low fits says =
@@ -442,9 +430,6 @@ pub merging-on : (bytes : List ℕ) (n : ℕ) (area : List ℕ) (p q : ℕ) (fir
 merging-on bytes n area p q first to room k v r over going says low =
     merging-over bytes n area p q first to (set room (to + k) v) (k + 1) r over
     (merging-set bytes n area p q first to room k v going low says)
-
-pub fewer-cells : (area : List ℕ) (q n k r : ℕ) → EmptyTo area q n (k + 1) r → k < n → n - r < n - k
-fewer-cells area q n k r over low = omega (arith, over .least)
 
 pub merging-end : (bytes : List ℕ) (n : ℕ) (area : List ℕ) (p q : ℕ) (entry first : List ℕ) (to : ℕ) (after : List ℕ) (k : ℕ)
     → Merging bytes n area p q first to after k → Copied n area p entry to first → n ≤ k

@@ -63,10 +63,6 @@ module _ (fs : List Formula) where
   unfolding set-of
   set-of-antichain ps c = Least.least-kept (asks-no-more fs) earlier (alternatives-ordered fs) ps c
 
-  -- A set of a set is the same set.
-  pub set-again : (ps : List Pending) → set-of fs (set-of fs ps) ≡ set-of fs ps
-  set-again ps = set-of-antichain (set-of fs ps) (set-antichain ps)
-
   -- What comes first may be dropped first.
   pub set-first : (ps qs : List Pending) → set-of fs (ps ++ qs) ≡ set-of fs (set-of fs ps ++ qs)
   unfolding set-of

@@ -13,9 +13,8 @@ use Rattle.logic.specs.Time.{ticks, minus, at-most, longer, shorter}
 use Rattle.logic.specs.Tower.{Tower}
 use Rattle.logic.specs.Book.{Formula, constant, proposition, and, or, next, always-for, until, compares, timed, parts, size, nodes, first-part, second-part, root, Form, at-start, everywhere, Book}
 use Rattle.logic.specs.declared.Tick.{Tick}
-use Rattle.pending.specs.Pending.{Pending, holds, fresh, merge, coming, put, provided, progress, progress-nodes, progress-rule, progress-rules, none-pending, progressed}
-use Rattle.pending.proofs.Nodes.{Stand, stand-left, stand-right, Sits, sits-first, sits-second, sits-only, sits-root, sits-within, sits-node, Any, any-inherited, AllSit, book-sits}
-use Rattle.pending.proofs.Asked.{book-stands}
+use Rattle.pending.specs.Pending.{Pending, holds, fresh, merge, coming, put, provided, progress, progress-nodes, progress-rule, progress-rules}
+use Rattle.pending.proofs.Nodes.{Stand, stand-left, stand-right, Sits, sits-first, sits-second, sits-only, sits-root, sits-within, sits-node, AllSit}
 use Rattle.alternatives.specs.Alternatives.{first-cell, later-cells, both-cells, both}
 use Rattle.alternatives.proofs.Antichain.{both-sized}
 
@@ -110,10 +109,6 @@ module _ (all : List Formula) where
   abbrev pub Sized : Option Pending → Type 0
   Sized none = Unit {0}
   Sized (some q) = length q ≡ length all
-
-  -- So it has where it is known.
-  pub sized-some : (o : Option Pending) (q : Pending) → Sized o → o ≡ some q → length q ≡ length all
-  sized-some o q sized e = subst Sized e sized
 
   -- Behind whatever is pending F gives both of that and of what it gives from nothing.
   abbrev pub Behind : (Pending → Option Pending) → Type 0
@@ -211,12 +206,6 @@ module _ (all : List Formula) where
         (behind-bind first on (behind-progress f (first-part k g) (fresh f) (sits-first all (until t f g) k sits f g refl))
         (behind-put (until t f g) k (minus r d) sits)))
 
-    -- It keeps a cell for each node.
-    pub progress-length : (f : Formula) (k : ℕ) (r : Tick) (p q : Pending) → Sits all f k → length p ≡ length all
-        → progress tower x d f k r p ≡ some q → length q ≡ length all
-    progress-length f k r p q sits sized e =
-        sized-some (progress tower x d f k r p) q (behind-sized (progress tower x d f k r) (behind-progress f k r sits) p sized) e
-
     -- Behind p that of every pending node in turn gives both too,
     pub behind-nodes : (Has : Formula → Type 0) (fs : List Formula) (k : ℕ) (cells : Pending) → AllSit Has all fs k
         → Behind (progress-nodes tower x d fs k cells)
@@ -244,20 +233,3 @@ module _ (all : List Formula) where
         (behind-rule (rule .form) (rule .formula) (root n (rule .formula))
         (sits-root all (rule .formula) n (stand-left all n (parts (rule .formula)) (nodes rules) stand)))
         (behind-rules rules (n + size (rule .formula)) (stand-right all n (parts (rule .formula)) (nodes rules) stand))
-
--- Whatever was pending, a step leaves a cell for each node or is broken.
-pub progressed-sized : (tower : Tower) (book : Book) (x : ℕ) (d : Tick) (p : Pending) → Sized (nodes book) (progressed tower book x d p)
-unfolding progressed none-pending
-progressed-sized tower book x d p =
-    behind-sized (nodes book)
-    (λ z. bind (progress-nodes tower x d (nodes book) 0 p z) (progress-rules tower x d book 0))
-    (behind-bind (nodes book) (progress-nodes tower x d (nodes book) 0 p) (progress-rules tower x d book 0)
-    (behind-nodes (nodes book) tower x d Any (nodes book) 0 p (book-sits Any any-inherited book (λ rule listed. tt)))
-    (behind-rules (nodes book) tower x d book 0 (book-stands tower book)))
-    (blank (nodes book)) (blank-sized (nodes book))
-
--- What is pending behind a step has a cell for each node.
-pub progressed-length : (tower : Tower) (book : Book) (x : ℕ) (d : Tick) (p q : Pending) → progressed tower book x d p ≡ some q
-    → length q ≡ length (nodes book)
-progressed-length tower book x d p q e =
-    sized-some (nodes book) (progressed tower book x d p) q (progressed-sized tower book x d p) e

@@ -236,11 +236,6 @@ module _ {X : Type 0} (no-more : X → X → Bool) (earlier : X → X → Bool) 
         (λ k. more-new (with-one-more no-more earlier x ys) xs k)
         (List·Memᴰ·cases-cons m)
 
-    -- With some more, whatever was there or is one of those is covered.
-    pub more-covers : (ys xs : List X) {z : X} → List·Memᴰ z ys ⊎ List·Memᴰ z xs → Covered no-more (with-more no-more earlier ys xs) z
-    more-covers ys xs (inl m) = more-old ys xs (covered-in m)
-    more-covers ys xs (inr m) = more-new ys xs m
-
     -- What stays covers them all.
     pub least-covers : (xs : List X) {z : X} → List·Memᴰ z xs → Covered no-more (least no-more earlier xs) z
     unfolding least

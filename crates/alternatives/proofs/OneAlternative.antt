@@ -64,11 +64,6 @@ combined-single fs none (some q) = refl
 combined-single fs (some p) none = refl
 combined-single fs (some p) (some q) = refl
 
--- What is broken stays so.
-pub combined-broken : (fs : List Formula) (o : Option Pending) → combined fs broken (single o) ≡ broken
-unfolding single bind
-combined-broken fs o = combined-single fs none o
-
 -- A set of one is joined with none.
 pub joined-single : (fs : List Formula) (o : Option Pending) → joined-with fs broken (single o) ≡ single o
 unfolding joined-with single set-of least with-more with-one-more placed without some-of counted most-alternatives

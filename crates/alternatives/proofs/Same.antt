@@ -31,10 +31,6 @@ pub same-pair-refl : (v : Pair) → same-pair v v ≡ true
 unfolding same-pair
 same-pair-refl v = and-both (eq-eqb (v .state) (v .state) refl) (same-set-refl (v .pending))
 
--- Equal pairs are the same.
-pub eq-same-pair : (v w : Pair) → v ≡ w → same-pair v w ≡ true
-eq-same-pair v w e = rw e (same-pair-refl w)
-
 -- The test for one and the same pair is an equivalence.
 pub pairs-same : IsSame same-pair
 pairs-same = decides-same same-pair same-pair-eq same-pair-refl

@@ -235,6 +235,14 @@ getD-count-from k zero i d l = absurd (omega arith)
 getD-count-from k (suc n) zero d l = omega arith
 getD-count-from k (suc n) (suc i) d l = getD-count-from (suc k) n i d (omega arith) ∙ omega arith
 
+-- One number more comes behind the others.
+pub count-from-next : (k n : ℕ) → count-from k (suc n) ≡ count-from k n ++ ((k + n) ∷ [])
+unfolding count-from
+count-from-next k zero = let e : k + 0 ≡ k = omega arith in rw e refl
+count-from-next k (suc n) =
+    let e : suc k + n ≡ k + suc n = omega arith in
+    ap (λ (l : List ℕ). k ∷ l) (count-from-next (suc k) n ∙ ap (λ (i : ℕ). count-from (suc k) n ++ (i ∷ [])) e)
+
 -- A number from k on and below k + n is one of them.
 pub count-from-mem : (k n a : ℕ) → k ≤ a → a < k + n → List·Memᴰ a (count-from k n)
 count-from-mem k n a low high =

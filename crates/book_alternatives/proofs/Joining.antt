@@ -5,10 +5,10 @@ use native.Mathlib.Numerals.{add-one}
 use mathlib.Core.Path.{_≡_, refl, sym, _∙_, ap, ap₂}
 use mathlib.Core.Bool.{false}
 use mathlib.Core.List.{List, _∷_}
-use lib.ListN.{length, getD, drop, length-map, List·getD-map, drop-of-length-le}
+use lib.ListN.{length, getD, drop, List·getD-map, drop-of-length-le}
 use lib.Seq.{drop-cons}
 use Rattle.base.specs.Lists.{below}
-use Rattle.base.proofs.Lists.{length-below, getD-below}
+use Rattle.base.proofs.Lists.{getD-below}
 use Rattle.logic.specs.Book.{constant, nodes, Book}
 use Rattle.logic.specs.declared.Tick.{Tick}
 use Rattle.pending.specs.Pending.{Pending}
@@ -23,6 +23,7 @@ use Rattle.book_progression.proofs.BookHeld.{sits-at, held-nodes, has-nodes}
 use Rattle.alternative_bytes.specs.AlternativeBytes.{alternative-in}
 use Rattle.set_bytes.specs.SetBytes.{candidates-size, set-in, answered}
 use Rattle.set_bytes.specs.Contracts.{Candidates, JoinsSets, SetsReady}
+use Rattle.set_bytes.proofs.Sets.{set-length}
 use Rattle.book_alternatives.specs.Offers.{combined-at, joined-at, sets-size, Rooted, StepReady, NodesCombined, LinesCombined, NoneCombined, AlternativeReady, Behind, JoinedStands, CombinedCopied, BehindJoined, Progressed}
 use Rattle.book_alternatives.proofs.Sets.{changed-beside, candidates-none, candidates-both, kept-behind, none-answered}
 use Rattle.book_alternatives.proofs.Combining.{leaves-both, still-ready}
@@ -144,11 +145,7 @@ module _ (bytes : List ℕ) (n : ℕ) (old : List ℕ) (from : ℕ) (sets room :
 
 -- ---- all of them
 
--- How many alternatives a set has, and which.
-set-length : (area : List ℕ) (n at count : ℕ) → length (set-in area n at count) ≡ count
-unfolding set-in
-set-length area n at count = length-map (below count) (λ i. alternative-in area n (at + 60 * i)) ∙ length-below count
-
+-- an alternative of a set, with those behind it
 set-element : (area : List ℕ) (n at count i : ℕ) → i < count
     → drop i (set-in area n at count) ≡ alternative-in area n (at + 60 * i) ∷ drop (i + 1) (set-in area n at count)
 unfolding set-in

@@ -13,13 +13,13 @@ use Rattle.logic.specs.Book.{Formula, first-part, second-part}
 use Rattle.logic.specs.declared.Tick.{Tick}
 use Rattle.pending.specs.Pending.{fresh}
 use Rattle.reading.specs.BookArea.{node-first, node-second}
-use Rattle.alternatives.specs.Alternatives.{broken, joined-with}
 use Rattle.alternatives.specs.Progression.{alone-pending, alternatives-of}
 use Rattle.alternatives.proofs.Sized.{of-alone}
 use Rattle.book_progression.specs.NodeBytes.{code-of, first-of, second-of, fresh-of, Stored, IsNode, MarkedState}
 use Rattle.book_progression.specs.Contracts.{AreNodes}
 use Rattle.book_progression.proofs.Nodes.{by-kind, and-first, and-second, or-first, or-second, until-first, until-second, next-part, always-part, is-node, fresh-is, fresh-low}
 use Rattle.set_bytes.specs.SetBytes.{answered}
+use Rattle.set_bytes.specs.Contracts.{NothingToDrop}
 use Rattle.book_alternatives.specs.declared.SetAt.{SetAt}
 use Rattle.book_alternatives.specs.Looking.{first-comes, second-comes, part-pending, staying, of-two, looked-at}
 use Rattle.book_alternatives.specs.Offers.{ChangedIn, OwnReady, OwnSet, Tested, Alone, Looked, LookedPart, StayReady, Stayed, TwoReady, OfTwo, Rooted, OfferReady, OfferLeaves, Offered}
@@ -289,7 +289,7 @@ module _ (bytes : List ℕ) (n k : ℕ) (r : Tick) (mask : ℕ) (d : Tick) (sets
               where
                 -- it is what comes of the part
                 stands : (fs : List Formula) → AreNodes bytes n fs → MarkedState mask
-                    → joined-with fs broken (answered last n (one .at) (one .count)) ≡ answered last n (one .at) (one .count)
+                    → NothingToDrop fs (answered last n (one .at) (one .count))
                 stands fs are at =
                     let root = part-rooted bytes k r mask d look p looked part more 0 (ready .rooted) .0 in
                     rw (first-kept ∙ call .says (root .formula) (root .stored) fs are at) (of-alone fs (at .tower) (at .state) d (root .formula) p q)

@@ -5,8 +5,8 @@ use mathlib.Core.Path.{_≡_, refl, _∙_, ap}
 use mathlib.Core.Bool.{Bool, true, false, not}
 use mathlib.Core.Option.{none}
 use mathlib.Core.List.{List, [], _∷_}
-use lib.ListN.{length, set, take, drop, replicate, length-replicate, length-set}
-use lib.Seq.{take-set-le, take-set-lt, drop-set-lt, drop-set-add}
+use lib.ListN.{length, set, take, drop, replicate, length-replicate}
+use lib.Seq.{take-set-lt, drop-set-add}
 use borrow.Author.Tests.{not-true, not-false}
 use borrow.Rule.Slice.PartMut.{putMid}
 use Rattle.logic.specs.declared.Tick.{Tick}
@@ -15,7 +15,7 @@ use Rattle.alternatives.specs.Progression.{nothing-pending, alone-pending, if-s
 use Rattle.book_progression.specs.PendingBytes.{pending-of, part}
 use Rattle.book_progression.specs.Contracts.{Beside}
 use Rattle.book_progression.proofs.Cells.{cell-one-more, pending-set, pending-none}
-use Rattle.book_progression.proofs.Areas.{lent-length, part-back, beside-back, beside-none, beside-both}
+use Rattle.book_progression.proofs.Areas.{lent-length, part-back, beside-back, beside-none, beside-set, beside-both}
 use Rattle.set_bytes.proofs.Elsewhere.{beside-wider}
 use Rattle.book_alternatives.specs.declared.SetAt.{SetAt}
 use Rattle.book_alternatives.specs.Offers.{sets-size, OwnReady, Tested, Alone, NoneCombined}
@@ -79,14 +79,6 @@ module _ (test : Bool) (n k : ℕ) (sets : List ℕ) where
 pub part-set : (area : List ℕ) (at n p v : ℕ) → p < n → part (set area (at + p) v) at n ≡ set (part area at n) p v
 unfolding part
 part-set area at n p v low = ap (take n) (drop-set-add at area p v) ∙ take-set-lt n (drop at area) p v low
-
-pub beside-set : (area : List ℕ) (at n p v : ℕ) → p < n → Beside area at n (set area (at + p) v)
-beside-set area at n p v low =
-    record {
-      size = length-set area (at + p) v;
-      before = take-set-le at area (at + p) v (omega arith);
-      behind = drop-set-lt (at + n) area (at + p) v (omega arith);
-    }
 
 pub alone-set : (n k part : ℕ) (r : Tick) (sets zeros : List ℕ)
     → zeros ≡ replicate (length (take (960 * k + n - 960 * k) (drop (960 * k) sets))) 0 → OwnReady n k sets → part < n

@@ -5,16 +5,13 @@ use mathlib.Core.Path.{_≡_, refl}
 use mathlib.Core.List.{List, [], _∷_, _++_}
 use lib.ListN.{length-append}
 use Rattle.logic.specs.Book.{Formula, constant, proposition, and, or, next, always-for, until, parts, size, first-part, second-part}
+use Rattle.pending.proofs.Nodes.{two-size}
 use Rattle.reading.specs.BookArea.{node-first, node-second}
 use Rattle.book_progression.specs.NodeBytes.{code-of, first-of, second-of, Stored}
 use Rattle.book_progression.proofs.Nodes.{by-kind, and-first, and-second, or-first, or-second, until-first, until-second, next-part, always-part}
 use Rattle.book_alternatives.specs.Offers.{Rooted}
 
 -- ---- sizes
-
-pub two-size : (h f g : Formula) → parts h ≡ parts f ++ (parts g ++ (h ∷ [])) → size h ≡ size f + size g + 1
-unfolding size
-two-size h f g e = rw e (omega (arith, length-append (parts f) (parts g ++ (h ∷ [])), length-append (parts g) (h ∷ [])))
 
 pub one-size : (h g : Formula) → parts h ≡ parts g ++ (h ∷ []) → size h ≡ size g + 1
 unfolding size

@@ -11,13 +11,13 @@ use Rattle.base.specs.Choice.{pick}
 use Rattle.logic.specs.Time.{ticks}
 use Rattle.logic.specs.Book.{Comparison, no-more, less, no-less, more, Formula, constant, proposition, and, or, next, always-for, until, timed, parts, size, first-part, second-part}
 use Rattle.logic.specs.declared.Tick.{Tick}
-use Rattle.pending.proofs.Nodes.{Stand, Sits}
+use Rattle.pending.proofs.Nodes.{two-size, Stand, Sits}
 use Rattle.reading.specs.BookArea.{comparison-code, node-code, node-number, node-first, node-second}
 use Rattle.book_progression.specs.NodeBytes.{Stored}
 use Rattle.book_progression.specs.Contracts.{AreNodes}
 use Rattle.book_progression.proofs.Nodes.{comparison-low, comparison-high, by-constant, by-mark, by-and, by-or, by-next, by-always, by-until, and-first, and-second, or-first, or-second, until-first, until-second, next-part, always-part}
 use Rattle.book_alternatives.specs.Offers.{Rooted}
-use Rattle.book_alternatives.proofs.Roots.{two-size, one-size, size-pos}
+use Rattle.book_alternatives.proofs.Roots.{one-size, size-pos}
 
 -- ---- one formula for each node
 

@@ -21,7 +21,7 @@ use Rattle.book_progression.specs.PendingBytes.{pending-of, part}
 use Rattle.book_progression.specs.NodeBytes.{code-of, Stored, IsNode}
 use Rattle.book_progression.specs.Contracts.{Merged, HasNodes}
 use Rattle.book_progression.proofs.Nodes.{by-kind, by-and}
-use Rattle.book_progression.proofs.Areas.{part-at, beside-both}
+use Rattle.book_progression.proofs.Areas.{part-at, beside-set, beside-both}
 use Rattle.book_progression.proofs.Putting.{put-stored}
 use Rattle.alternative_bytes.specs.AlternativeBytes.{alternative-in}
 use Rattle.alternative_bytes.proofs.Laws.{alternative-length}
@@ -31,7 +31,7 @@ use Rattle.book_alternatives.specs.declared.SetAt.{SetAt}
 use Rattle.book_alternatives.specs.Looking.{stays, staying, of-two}
 use Rattle.book_alternatives.specs.Offers.{OwnReady, Alone, PutIn, StayReady, Stayed, TwoReady, OfTwo}
 use Rattle.book_alternatives.proofs.Sets.{changed-none, changed-beside, candidates-none, kept-before, one-answered}
-use Rattle.book_alternatives.proofs.OwnSets.{set-at, part-set, beside-set}
+use Rattle.book_alternatives.proofs.OwnSets.{set-at, part-set}
 use Rattle.book_alternatives.proofs.Sitting.{stored-sits}
 
 -- a test that fails decides

@@ -12,7 +12,7 @@ use Rattle.logic.specs.Book.{Formula, timed, size, nodes, root, Rule, Book, con
 use Rattle.logic.specs.Sides.{one-sided, OneSided}
 use Rattle.logic.specs.declared.Tick.{Tick}
 use Rattle.pending.specs.Pending.{put}
-use Rattle.alternatives.specs.Alternatives.{Alternatives, broken, combined, joined-with}
+use Rattle.alternatives.specs.Alternatives.{Alternatives, combined, joined-with}
 use Rattle.alternatives.specs.Progression.{nothing-pending, alone-pending, if-so, alternatives-of, combined-nodes, combined-rule, combined-rules, alternatives-behind, progressed-set}
 use Rattle.reading.specs.BookArea.{nodes-in}
 use Rattle.book_progression.specs.PendingBytes.{cell-of}
@@ -20,7 +20,7 @@ use Rattle.book_progression.specs.NodeBytes.{code-of, first-of, second-of, Stor
 use Rattle.book_progression.specs.Contracts.{AreNodes, HasNodes, Beside, LineIs}
 use Rattle.alternative_bytes.specs.AlternativeBytes.{alternative-in}
 use Rattle.set_bytes.specs.SetBytes.{set-size, candidates-size, set-in, answered}
-use Rattle.set_bytes.specs.Contracts.{Candidates, Leaves}
+use Rattle.set_bytes.specs.Contracts.{Candidates, Leaves, NothingToDrop}
 use Rattle.book_alternatives.specs.Looking.{staying, of-two, looked-at}
 use Rattle.book_alternatives.specs.declared.SetAt.{SetAt}
 
@@ -123,12 +123,12 @@ pub record TwoReady (bytes : List ℕ) (n k : ℕ) (one two : SetAt) (sets room 
   pub sets-room : sets-size ≤ length sets
   pub candidates-room : candidates-size ≤ length room
 
--- The sets of its two sides as that of node k, where the first is itself if it is joined with none. Only that of node k has changed, and candidates.
+-- The sets of its two sides as that of node k, where the first has nothing to drop. Only that of node k has changed, and candidates.
 pub record OfTwo (out : SetAt) (bytes : List ℕ) (n k : ℕ) (one two : SetAt) (sets room after after-room : List ℕ) : Type 0 where
   pub place : out .at ≡ set-size * k
   pub leaves : Leaves (out .count) sets (set-size * k) room after after-room
   pub says : (f : Formula) → Stored bytes f k → (fs : List Formula) → AreNodes bytes n fs
-      → joined-with fs broken (answered sets n (one .at) (one .count)) ≡ answered sets n (one .at) (one .count)
+      → NothingToDrop fs (answered sets n (one .at) (one .count))
       → answered after n (out .at) (out .count)
       ≡ of-two fs f (answered sets n (one .at) (one .count)) (answered sets n (two .at) (two .count))
 
@@ -292,10 +292,9 @@ pub record Behind (r : ℕ) (bytes : List ℕ) (n mask : ℕ) (d : Tick) (old : 
   pub says : (book : Book) → HeldBook bytes book → (at : MarkedState mask)
       → answered after n combined-at r ≡ alternatives-behind (at .tower) book (at .state) d (alternative-in old n from)
 
--- What is joined so far is itself where it is joined with none.
+-- What is joined so far has nothing to drop.
 pub record JoinedStands (bytes : List ℕ) (n mask count : ℕ) (sets : List ℕ) : Type 0 where
-  pub says : (book : Book) → HeldBook bytes book → MarkedState mask
-      → joined-with (nodes book) broken (answered sets n joined-at count) ≡ answered sets n joined-at count
+  pub says : (book : Book) → HeldBook bytes book → MarkedState mask → NothingToDrop (nodes book) (answered sets n joined-at count)
 
 -- The set that is joined so far is the one that was combined.
 pub record CombinedCopied (next : ℕ) (sets after : List ℕ) : Type 0 where

@@ -95,7 +95,8 @@ fn is_one_sided(book: &[u8], k: usize) -> bool
     is_one_sided(book, node::first(book, k))
 }
 
-// Whether node k is N, A or U and its parts are leaves, as most that are pending.
+// Whether node k is N, A or U and its parts are leaves, as most that are pending: then no or in it has
+// two timed sides. Where it says no, that is open.
 fn has_leaf_parts(book: &[u8], k: usize) -> bool
     requires { ⌜ IsNode (now book) k ⌝ }
     ensures { λ b. ⌜ OneSidedAt b (now (book .entry)) k ⌝ }

@@ -4,8 +4,8 @@ use native.Mathlib.Omega.{arith}
 use mathlib.Core.Path.{_≡_, refl, sym, _∙_, ap}
 use mathlib.Core.Logic.{_⊎_, inl, inr}
 use mathlib.Core.List.{List, _++_}
-use lib.ListN.{length, getD, take, drop}
-use lib.Seq.{length-take-le, getD-take, getD-drop, ext-getD, take-at, drop-at}
+use lib.ListN.{length, getD, set, take, drop, length-set}
+use lib.Seq.{length-take-le, getD-take, getD-drop, ext-getD, take-at, drop-at, take-set-le, drop-set-lt}
 use borrow.Rule.Slice.PartMut.{putMid, postOf, same-len-mid, mid-len, take-put, drop-put}
 use Rattle.book_progression.specs.PendingBytes.{part}
 use Rattle.book_progression.specs.Contracts.{Parts, Beside}
@@ -48,6 +48,15 @@ module _ (area : List ℕ) (to n : ℕ) where
 
 pub beside-none : (area : List ℕ) (to n : ℕ) → Beside area to n area
 beside-none area to n = record { size = refl; before = refl; behind = refl }
+
+-- A byte is stored in the part.
+pub beside-set : (area : List ℕ) (to n k v : ℕ) → k < n → Beside area to n (set area (to + k) v)
+beside-set area to n k v low =
+    record {
+      size = length-set area (to + k) v;
+      before = take-set-le to area (to + k) v (omega arith);
+      behind = drop-set-lt (to + n) area (to + k) v (omega arith);
+    }
 
 pub beside-both : (area : List ℕ) (to n : ℕ) (mid after : List ℕ) → Beside area to n mid → Beside mid to n after → Beside area to n after
 beside-both area to n mid after one two =

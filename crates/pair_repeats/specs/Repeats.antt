@@ -31,6 +31,6 @@ pub record LedAlike (m : ℕ) (area graph room : List ℕ) (i a b y : ℕ) : Typ
 pub record MoveAlike (m : ℕ) (area graph room : List ℕ) (i a b y : ℕ) : Type 0 where
   pub alike : 2 ≤ m → LedAlike m area graph room i a b y
 
--- and with some action.
+-- and with some action. (Where none is found nothing is said: then the pair is looked up, and that costs time and no more.)
 pub record LedBefore (m : ℕ) (area graph room : List ℕ) (i a y : ℕ) : Type 0 where
   pub alike : 2 ≤ m → (b : ℕ) × LedAlike m area graph room i a b y

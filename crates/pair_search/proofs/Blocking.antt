@@ -219,10 +219,6 @@ blocked-says tower book nodes area n v a full (some y) e = moves-broken y e (no-
 
 -- ---- the ways of a turn
 
--- The room is as long as it was.
-pub room-still : (before after : List ℕ) → length after ≡ length before → room-size ≤ length before → room-size ≤ length after
-room-still before after e l = omega arith
-
 or-itself : (b : Bool) → b ≡ (b || false)
 or-itself true = refl
 or-itself false = refl

@@ -19,7 +19,7 @@ use Rattle.reading.specs.BookArea.{nodes-in}
 use Rattle.book_progression.specs.NodeBytes.{IsHeld}
 use Rattle.file_tower.proofs.Laws.{fit-bounds}
 use Rattle.set_bytes.specs.SetBytes.{set-in}
-use Rattle.set_index.specs.Entries.{entries-size, entry-number, entry-first, entry-at}
+use Rattle.set_index.specs.Entries.{entry-number, entry-first, entry-at}
 use Rattle.pair_sets.specs.PairSets.{entry-set, held-set, Stays, Entered, Followed, Open}
 use Rattle.pair_sets.proofs.Entries.{set-of-entry}
 use Rattle.pair_graph.specs.Graph as Graph
@@ -108,17 +108,9 @@ waiting-taken nodes area room a number n after entered = entered
 
 -- ---- enter_single
 
-pub entry-inside : (tower : Tower) (nodes : List ℕ) (wide : Bool) (area : List ℕ) (n : ℕ) → PairsFilled tower nodes wide area n → entries-size ≤ length area
-entry-inside tower nodes wide area n filled = filled .size
-
 pub state-inside : (tower : Tower) (nodes : List ℕ) (wide : Bool) (area : List ℕ) (i n x : ℕ) → x ≡ entry-number area i
     → PairsFilled tower nodes wide area n → i < n → x < tower .states
 state-inside tower nodes wide area i n x e filled low = rw e (filled .states i low)
-
--- The tower's state that it stands for is one.
-pub tower-state-inside : (tower table : List ℕ) (rows : Bool) (x z : ℕ) → z ≡ tower-state table rows x → Files tower table rows
-    → x < walked tower table rows .states → z < tower-of tower .states
-tower-state-inside tower table rows x z e files l = rw e (files .states x l)
 
 -- What an entry holds is pending in its pair, and what comes of that.
 pub pending-of-pair : (nodes area : List ℕ) (i : ℕ) → IsHeld nodes → entry-set nodes area i ≡ pair-in nodes area i .pending

@@ -77,9 +77,6 @@ grow-start tower table rows nodes wide area index graph room i met end was last 
 
 module _ (tower : Tower) (nodes : List ℕ) (wide : Bool) (first : List ℕ) (i met end a : ℕ) (area index graph : List ℕ) (n : ℕ)
     (g : Growing tower nodes wide first i met end a area index graph n) where
-  grow-low : i < n
-  grow-low = omega (arith, g .low, g .least)
-
   pub grow-listed : a < end → a < tower .actions
   grow-listed l = omega (arith, g .last)
 

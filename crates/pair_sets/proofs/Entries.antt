@@ -1,55 +1,32 @@
 -- Entries: what they hold, and when two that hold the same are equal.
-use Prim.Native.Nat.{ℕ, zero, suc, _+_, _-_, _*_, _≤_, _<_}
+use Prim.Native.Nat.{ℕ, zero, suc, _+_, _-_, _*_, _≤_}
 use native.Mathlib.Omega.{arith}
 use native.Mathlib.Numerals.{add-one}
 use mathlib.Core.Path.{_≡_, refl, sym, _∙_, ap, subst}
-use mathlib.Core.List.{List, [], _∷_, map, map-append, List·Memᴰ, Memᴰ·of-map}
+use mathlib.Core.List.{List, [], _∷_, map, map-append}
 use lib.ListN.{length, take, length-map}
 use Rattle.base.specs.Lists.{below, count-from, total}
-use Rattle.base.proofs.Lists.{length-below, mem-below, total-append}
+use Rattle.base.proofs.Lists.{total-append}
 use Rattle.pending.specs.Pending.{Pending}
 use Rattle.alternatives.specs.Alternatives.{Alternatives, these}
 use Rattle.alternatives.specs.Progression.{first-set}
 use Rattle.reading.specs.BookArea.{nodes-in}
 use Rattle.book_progression.specs.PendingBytes.{pending-of}
 use Rattle.book_progression.specs.NodeBytes.{IsHeld}
-use Rattle.alternative_bytes.specs.AlternativeBytes.{alternative-in}
-use Rattle.alternative_bytes.proofs.Laws.{alternative-length}
 use Rattle.set_bytes.specs.SetBytes.{set-in}
-use Rattle.set_index.specs.Entries.{alternative-bytes, alternatives-room, entries-size, entry-number, entry-first, Entry, entry-at, entries-of, alternatives-at, Heads}
-use Rattle.set_index.proofs.Laws.{alternatives-length, entry-number-is, entry-alternatives-are, entry-same, entries-more, heads-fewer, headed-more}
+use Rattle.set_bytes.proofs.Sets.{set-length}
+use Rattle.set_index.specs.Entries.{alternatives-room, entries-size, entry-number, entry-first, Entry, entry-at, entries-of, alternatives-at, Heads}
+use Rattle.set_index.proofs.Laws.{alternatives-length, entry-number-is, entry-alternatives-are, entry-same, entries-more, heads-fewer}
 use Rattle.pair_sets.specs.PairSets.{entry-set, held-set, Blank, Holds, First}
 use Rattle.pair_sets.proofs.Alternatives.{set-said, sets-equal}
 
 -- ---- what an entry holds
 
--- A set has as many alternatives as are counted,
-pub set-length : (area : List ℕ) (n at count : ℕ) → length (set-in area n at count) ≡ count
-unfolding set-in
-set-length area n at count = length-map (below count) (λ i. alternative-in area n (at + 60 * i)) ∙ length-below count
-
+-- It has as many alternatives as lie before the next one.
 pub entry-set-length : (nodes area : List ℕ) (i : ℕ) → length (entry-set nodes area i) ≡ entry-first area (i + 1) - entry-first area i
 unfolding entry-set
 entry-set-length nodes area i =
     set-length area (nodes-in nodes) (60 * entry-first area i) (entry-first area (i + 1) - entry-first area i)
-
--- each with a cell for each node.
-pub set-sized : (area : List ℕ) (n at count : ℕ) (p : Pending) → n ≤ alternative-bytes → at + alternative-bytes * count ≤ length area
-    → List·Memᴰ p (set-in area n at count) → length p ≡ n
-unfolding set-in
-set-sized area n at count p few fits m =
-    let (i, here, e) = Memᴰ·of-map (λ i. alternative-in area n (at + 60 * i)) (below count) m in
-    sized i (mem-below count here) e
-  where
-    sized : (i : ℕ) → i < count → alternative-in area n (at + 60 * i) ≡ p → length p ≡ n
-    sized i l e = ap length (sym e) ∙ alternative-length area n (at + 60 * i) (omega arith)
-
-pub entry-set-sized : (nodes area : List ℕ) (i : ℕ) (p : Pending) → IsHeld nodes → entries-size ≤ length area
-    → entry-first area i ≤ entry-first area (i + 1) → entry-first area (i + 1) ≤ alternatives-room
-    → List·Memᴰ p (entry-set nodes area i) → length p ≡ nodes-in nodes
-unfolding entry-set
-entry-set-sized nodes area i p held room rising inside m =
-    set-sized area (nodes-in nodes) (60 * entry-first area i) (entry-first area (i + 1) - entry-first area i) p (held .few) (omega arith) m
 
 -- They are what its bytes say.
 pub set-of-entry : (nodes area : List ℕ) (i : ℕ) → IsHeld nodes → entry-set nodes area i ≡ held-set nodes (entry-at area i)
@@ -60,9 +37,6 @@ set-of-entry nodes area i held =
 -- So equal entries hold the same,
 pub equal-numbers : (one other : List ℕ) (i j : ℕ) → entry-at one i ≡ entry-at other j → entry-number one i ≡ entry-number other j
 equal-numbers one other i j e = sym (entry-number-is one i) ∙ ap (λ (z : Entry). z .number) e ∙ entry-number-is other j
-
-pub equal-sets : (nodes one other : List ℕ) (i j : ℕ) → IsHeld nodes → entry-at one i ≡ entry-at other j → entry-set nodes one i ≡ entry-set nodes other j
-equal-sets nodes one other i j held e = set-of-entry nodes one i held ∙ ap (held-set nodes) e ∙ sym (set-of-entry nodes other j held)
 
 -- and entries that hold the same are equal.
 pub entries-equal : (nodes area : List ℕ) (i j : ℕ) → IsHeld nodes → Blank nodes area → entries-size ≤ length area
@@ -100,15 +74,6 @@ pub equal-counts : (one other : List ℕ) (i j : ℕ) → entry-at one i ≡ ent
     → entry-first one (i + 1) - entry-first one i ≡ entry-first other (j + 1) - entry-first other j
 equal-counts one other i j e = sym (held-length [] one i) ∙ ap (λ (z : Entry). length (held-set [] z)) e ∙ held-length [] other j
 
--- An entry with one alternative ends behind it, and one with at most 16 within these.
-pub one-first : (nodes area : List ℕ) (n i : ℕ) → Heads area n → i < n → length (entry-set nodes area i) ≡ 1
-    → entry-first area (i + 1) ≡ entry-first area i + 1
-one-first nodes area n i heads l e = omega (arith, entry-set-length nodes area i, heads .rising i l)
-
-pub few-first : (nodes area : List ℕ) (n i : ℕ) → Heads area n → i < n → length (entry-set nodes area i) ≤ 16
-    → entry-first area (i + 1) ≤ entry-first area i + 16
-few-first nodes area n i heads l e = omega (arith, entry-set-length nodes area i, heads .rising i l)
-
 no-entries : (area : List ℕ) → entries-of area 0 ≡ []
 unfolding entries-of below count-from
 no-entries area = refl
@@ -137,16 +102,6 @@ these-one : (ps qs : List Pending) → these ps ≡ these qs → ps ≡ qs
 these-one ps qs e = cc
 
 module _ (nodes : List ℕ) (number n : ℕ) (s : Alternatives) (after : List ℕ) (holds : Holds nodes number n s after) where
-  -- What its bytes say.
-  pub holds-number : entry-at after n .number ≡ number
-  holds-number = entry-number-is after n ∙ holds .number-is
-
-  pub holds-set : IsHeld nodes → s ≡ these (held-set nodes (entry-at after n))
-  holds-set held = holds .set-is ∙ ap these (set-of-entry nodes after n held)
-
-  pub holds-these : (ps : List Pending) → IsHeld nodes → s ≡ these ps → held-set nodes (entry-at after n) ≡ ps
-  holds-these ps held e = these-one (held-set nodes (entry-at after n)) ps (sym (holds-set held) ∙ e)
-
   -- It ends behind as many alternatives.
   pub holds-first : (ps : List Pending) → s ≡ these ps → entry-first after (n + 1) ≡ entry-first after n + length ps
   holds-first ps e =
@@ -161,6 +116,3 @@ first-one nodes number area held first =
     let start = first .headed .start in
     let rises = first .headed .rising 0 (omega arith) in
     omega (arith, entry-set-length nodes area 0)
-
-pub first-heads : (nodes : List ℕ) (number : ℕ) (area : List ℕ) → IsHeld nodes → First nodes number area → Heads area 1
-first-heads nodes number area held first = headed-more area 0 (first .headed) (omega (arith, first-one nodes number area held first))

@@ -2,7 +2,7 @@
 use Prim.Native.Nat.{ℕ, _+_, _≤_, _<_}
 use native.Mathlib.Omega.{arith}
 use native.Mathlib.Decide.{decLt}
-use mathlib.Core.Path.{_≡_, sym, _∙_, ap, subst}
+use mathlib.Core.Path.{_≡_, sym, _∙_, ap}
 use mathlib.Core.Bool.{Bool, true, false}
 use mathlib.Core.List.{List, [], _∷_, _++_, map, map-append, Memᴰ·of-map}
 use lib.ListN.{length, getD, length-map, List·getD-map}
@@ -10,8 +10,8 @@ use Rattle.base.specs.Choice.{pick}
 use Rattle.base.specs.Lists.{some-of, below}
 use Rattle.base.proofs.Lists.{some-of-mem, none-of, mem-getD, mem-below, false-by}
 use Rattle.book_progression.specs.NodeBytes.{IsHeld}
-use Rattle.set_index.specs.Entries.{most-alternatives, entry-first, Entry, entry-at, entries-of, Heads, Headed, Indexed}
-use Rattle.set_index.proofs.Laws.{entry-number-is, entries-length, entries-at, entries-more, entries-same, headed-heads, headed-more, indexed-same}
+use Rattle.set_index.specs.Entries.{Entry, entry-at, entries-of, Indexed}
+use Rattle.set_index.proofs.Laws.{entry-number-is, entries-length, entries-at, entries-more, entries-same, indexed-same}
 use Rattle.pair_sets.specs.PairSets.{held-set, Blank, Stays, Noted}
 use Rattle.pair_sets.specs.declared.Place.{Place}
 use Rattle.pair_sets.proofs.Entries.{set-of-entry}
@@ -81,15 +81,3 @@ module _ {X : Type 0} (value : Entry → X) where
 -- The entries before n stay, so the index is still theirs.
 pub stays-indexed : (nodes area : List ℕ) (n : ℕ) (after index : List ℕ) → Stays nodes area n after → Indexed area index n → Indexed after index n
 stays-indexed nodes area n after index stays indexed = indexed-same area after index n (λ i l. sym (stays .kept i l)) indexed
-
--- Entry n is looked up: the heads of all that are met are right, unless they have too many alternatives.
-pub noted-heads : (out : Place) (area : List ℕ) (n : ℕ) (index : List ℕ) → Noted out area n index → Headed area n
-    → entry-first area (out .met) ≤ most-alternatives → Heads area (out .met)
-noted-heads out area n index noted headed l = elim (decLt n (out .met)) [
-  | yes more ↦ (
-      let e : out .met ≡ n + 1 = omega (arith, noted .most) in
-      subst (Heads area) (sym e) (headed-more area n headed (subst (λ k. entry-first area k ≤ 1000) e l)))
-  | no none-more ↦ (
-      let e : out .met ≡ n = omega (arith, noted .least) in
-      subst (Heads area) (sym e) (headed-heads area n headed (subst (λ k. entry-first area k ≤ 1000) e l)))
-]

@@ -216,10 +216,6 @@ module _ (nodes : List ℕ) (number size : ℕ) (clear mid area : List ℕ) (cle
   clear-size : length clear ≡ size
   clear-size = ap (λ (z : List ℕ). length z) cleared ∙ length-replicate {A = ℕ} size 0
 
-  -- There is room for what is pending.
-  pub begin-room : 0 + nodes-in nodes ≤ length clear
-  begin-room = omega (arith, clear-size, held .few)
-
   pub begin-first : PendingBegun nodes clear 0 mid
       → area ≡ sets (sets mid (entry-heads + 4 * 0) (number-bytes 2 number)) (entry-heads + 4 * 0 + 6) (number-bytes 2 1)
       → number < 65536 → First nodes number area

@@ -7,34 +7,29 @@ use mathlib.Core.Bool.{Bool, true, false}
 use mathlib.Core.Option.{none, some}
 use mathlib.Core.List.{List}
 use lib.ListN.{length}
-use borrow.Author.Tests.{lt-ltb, le-ltb}
 use Rattle.base.specs.Lists.{is-there, there-with, below, some-of}
 use Rattle.base.proofs.Lists.{is-there-out, not-there, none-some, never-both, false-by, below-some, some-below, there-with-in, there-with-out}
 use Rattle.logic.specs.Tower.{Tower, FitTower, tower-of, mask-of}
 use Rattle.logic.specs.Book.{Book}
 use Rattle.logic.specs.declared.Tick.{Tick}
-use Rattle.alternatives.specs.Alternatives.{over, these, most-alternatives}
+use Rattle.alternatives.specs.Alternatives.{these}
 use Rattle.alternatives.specs.Progression.{progressed-set}
 use Rattle.alternatives.specs.Pairs.{alternatives-by, is-over, over-full}
 use Rattle.reading.specs.BookArea.{nodes-in}
 use Rattle.book_progression.specs.NodeBytes.{HeldBook, IsHeld, MarkedState}
 use Rattle.set_bytes.specs.SetBytes.{set-in, answered}
+use Rattle.set_bytes.proofs.Sets.{answered-these, answered-over}
 use Rattle.book_alternatives.specs.Offers.{sets-size, Progressed}
 use Rattle.set_index.specs.Entries.{entry-number, entry-first, entry-at}
 use Rattle.pair_sets.specs.PairSets.{entry-set, held-set}
 use Rattle.pair_sets.proofs.Entries.{set-of-entry}
 use Rattle.file_tower.proofs.Laws.{fit-bounds}
-use Rattle.pair_trial.specs.Walked.{walked, tower-state, Files}
+use Rattle.pair_trial.specs.Walked.{walked, tower-state}
 use Rattle.pair_trial.specs.Trial.{pair-of, pair-in, room-size, OthersWait, WaitsFor, Shared, Trial, ActionTrial, TriedBefore, StepTrial, StepTried, Waits, Trying, Tried, AllTried}
-use Rattle.pair_trial.proofs.Walking.{walked-actions, walked-length, walked-marks, action-below}
+use Rattle.pair_trial.proofs.Walking.{walked-actions, walked-length, walked-marks, action-below, tower-state-inside}
 use Rattle.pair_trial.proofs.Waiting.{still-waits, waits-too, candidates-wait}
 
 -- ---- tried_before
-
--- The tower's state that x stands for is one.
-pub tower-state-inside : (tower table : List ℕ) (rows : Bool) (x z : ℕ) → z ≡ tower-state table rows x → Files tower table rows
-    → x < walked tower table rows .states → z < tower-of tower .states
-tower-state-inside tower table rows x z e files l = rw e (files .states x l)
 
 -- An action before a is one.
 pub action-before : (tower table : List ℕ) (rows : Bool) (b a : ℕ) → b < a → a < walked tower table rows .actions → b < walked tower table rows .actions
@@ -62,15 +57,6 @@ pub before-none : (tower : Tower) (x a : ℕ) → TriedBefore a tower x a
 before-none tower x a = record { most = omega arith; enabled = λ l. absurd (omega arith); same-length = λ l. absurd (omega arith) }
 
 -- ---- try_step
-
--- What an answer says of the set at this place.
-answered-over : (area : List ℕ) (n at count : ℕ) → 16 < count → answered area n at count ≡ over
-unfolding answered most-alternatives
-answered-over area n at count l = rw (lt-ltb 16 count l)
-
-answered-these : (area : List ℕ) (n at count : ℕ) → count ≤ 16 → answered area n at count ≡ these (set-in area n at count)
-unfolding answered most-alternatives
-answered-these area n at count l = rw (le-ltb 16 count l)
 
 module _ (tower nodes area : List ℕ) (i z a left first last mask : ℕ) (d : Tick) (room sets middle : List ℕ)
     (progressed : Progressed left nodes mask d area (60 * first) (last - first) room sets middle)
@@ -114,9 +100,6 @@ old-inside tower nodes area i z a first last e f trial = omega (arith, trial .ri
 -- for sets and candidates as before,
 pub sets-still : (before after : List ℕ) → length after ≡ length before → sets-size ≤ length before → sets-size ≤ length after
 sets-still before after e l = omega arith
-
-pub room-still : (before after : List ℕ) → length after ≡ length before → room-size ≤ length before → room-size ≤ length after
-room-still before after e l = omega arith
 
 -- and a set for the action.
 pub action-few : (tower : List ℕ) (a : ℕ) → FitTower tower → a < tower-of tower .actions → a < 16

@@ -222,3 +222,7 @@ shared-both room a b l low space =
 
     place : ℕ
     place = byte-at (set room (30720 + a) count) (30736 + b)
+
+-- The room is as long as it was.
+pub room-still : (before after : List ℕ) → length after ≡ length before → room-size ≤ length before → room-size ≤ length after
+room-still before after e l = omega arith

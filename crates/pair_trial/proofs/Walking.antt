@@ -188,3 +188,8 @@ enabled-there o r y e f = sym (is-there-in (state-reached o r y e f))
 
 pub enabled-not : (o : Option ℕ) (r : Reached) → r ≡ target-read o → r ≡ NotEnabled → false ≡ is-there o
 enabled-not o r e f = sym (there-not (none-reached o r e f))
+
+-- The tower's state that x stands for is one.
+pub tower-state-inside : (tower table : List ℕ) (rows : Bool) (x z : ℕ) → z ≡ tower-state table rows x → Files tower table rows
+    → x < walked tower table rows .states → z < tower-of tower .states
+tower-state-inside tower table rows x z e files l = rw e (files .states x l)

@@ -157,10 +157,6 @@ module _ (tower : Tower) (book : Book) where
   unfolding first-pending
   first-adds run = adds-begin tower run (nodes book) book 0 (none-pending book) book-stands none-sized
 
-  -- At first there is a cell for each node.
-  pub first-sized : length (first-pending book) ≡ length (nodes book)
-  first-sized = first-adds [] .0 ∙ none-sized
-
   -- What is asked where moment m leaves its state with p pending.
   abbrev pub Asked : Moment → Trace → Pending → Type 0
   Asked m run p = NodesNow tower m run (nodes book) p × Each book (RuleNow tower m run)

@@ -52,7 +52,7 @@ unfolding size
 size-pos f = let (before, e) = front f in omega (arith, ap length e, length-append before (f ∷ []))
 
 -- the nodes of a formula of two parts
-two-size : (h f g : Formula) → parts h ≡ parts f ++ (parts g ++ (h ∷ [])) → size h ≡ size f + size g + 1
+pub two-size : (h f g : Formula) → parts h ≡ parts f ++ (parts g ++ (h ∷ [])) → size h ≡ size f + size g + 1
 unfolding size
 two-size h f g e = omega (arith, ap length e, length-append (parts f) (parts g ++ (h ∷ [])), length-append (parts g) (h ∷ []))
 
@@ -205,20 +205,6 @@ pub book-sits : (Has : Formula → Type 0) → Inherited Has → (book : Book)
     → ((rule : Rule) → List·Memᴰ rule book → Has (rule .formula)) → AllSit Has (nodes book) (nodes book) 0
 book-sits Has inherited book has =
     rules-sit Has (nodes book) inherited book 0 (record { behind = []; here = sym (append-nil (nodes book)) }) has
-
--- What every formula has.
-abbrev pub Any : Formula → Type 0
-Any f = Unit {0}
-
-pub any-inherited : Inherited Any
-any-inherited =
-    record {
-      and-parts = λ f g h. (tt, tt);
-      or-parts = λ f g h. (tt, tt);
-      next-part = λ c t g h. tt;
-      always-part = λ t g h. tt;
-      until-parts = λ t f g h. (tt, tt);
-    }
 
 -- The formula has its timed formulas where they may be.
 abbrev pub TimedRight : Formula → Type 0

@@ -1,31 +1,25 @@
 -- Sets of alternatives in an area: one more of them, how many there are, and what they do not depend on.
-use Prim.Native.Nat.{ℕ, zero, suc, _+_, _*_, _<_}
+use Prim.Native.Nat.{ℕ, _+_, _*_, _≤_, _<_}
 use native.Mathlib.Omega.{arith}
 use native.Mathlib.Numerals.{add-one}
 use mathlib.Core.Path.{_≡_, refl, sym, _∙_, ap}
 use mathlib.Core.List.{List, [], _∷_, _++_, map, map-append, append-nil, append-assoc}
+use lib.ListN.{length, length-map}
+use borrow.Author.Tests.{lt-ltb, le-ltb}
 use Rattle.base.specs.Lists.{count-from, below}
-use Rattle.base.proofs.Lists.{length-below, getD-below}
+use Rattle.base.proofs.Lists.{count-from-next, length-below, getD-below}
 use Rattle.logic.specs.Book.{Formula}
 use Rattle.pending.specs.Pending.{Pending}
-use Rattle.alternatives.specs.Alternatives.{both, together}
+use Rattle.alternatives.specs.Alternatives.{over, these, most-alternatives, both, together}
 use Rattle.alternative_bytes.specs.AlternativeBytes.{alternative-in}
-use Rattle.set_bytes.specs.SetBytes.{alternative-size, set-in, copy-of, copies-of, pair-of, row-of, pairs-of}
+use Rattle.set_bytes.specs.SetBytes.{alternative-size, set-in, answered, copy-of, copies-of, pair-of, row-of, pairs-of}
 use Rattle.set_bytes.proofs.Elsewhere.{map-same}
-
--- One number more.
-count-next : (k n : ℕ) → count-from k (suc n) ≡ count-from k n ++ ((k + n) ∷ [])
-unfolding count-from
-count-next k zero = let e : k + 0 ≡ k = omega arith in rw e refl
-count-next k (suc n) =
-    let e : suc k + n ≡ k + suc n = omega arith in
-    ap (λ (l : List ℕ). k ∷ l) (count-next (suc k) n ∙ ap (λ (i : ℕ). count-from (suc k) n ++ (i ∷ [])) e)
 
 below-next : (n : ℕ) → below (n + 1) ≡ below n ++ (n ∷ [])
 unfolding below
 below-next n =
     let e : 0 + n ≡ n = omega arith in
-    ap below (add-one n) ∙ count-next 0 n ∙ ap (λ (i : ℕ). count-from 0 n ++ (i ∷ [])) e
+    ap below (add-one n) ∙ count-from-next 0 n ∙ ap (λ (i : ℕ). count-from 0 n ++ (i ∷ [])) e
 
 -- One alternative more.
 pub set-next : (area : List ℕ) (n at k : ℕ)
@@ -34,6 +28,20 @@ unfolding set-in
 set-next area n at k =
     let f : ℕ → Pending = λ i. alternative-in area n (at + alternative-size * i) in
     ap (map f) (below-next k) ∙ map-append f (below k) (k ∷ [])
+
+-- There are as many as are counted.
+pub set-length : (area : List ℕ) (n at count : ℕ) → length (set-in area n at count) ≡ count
+unfolding set-in
+set-length area n at count = length-map (below count) (λ i. alternative-in area n (at + alternative-size * i)) ∙ length-below count
+
+-- What an answer says: at most 16, or over.
+pub answered-these : (area : List ℕ) (n at count : ℕ) → count ≤ 16 → answered area n at count ≡ these (set-in area n at count)
+unfolding answered most-alternatives
+answered-these area n at count few = let e = le-ltb 16 count few in rw e refl
+
+pub answered-over : (area : List ℕ) (n at count : ℕ) → 16 < count → answered area n at count ≡ over
+unfolding answered most-alternatives
+answered-over area n at count many = let e = lt-ltb 16 count many in rw e refl
 
 -- Sets whose alternatives are the same are the same.
 pub set-same : (area after : List ℕ) (n at k : ℕ)

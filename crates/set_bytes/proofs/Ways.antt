@@ -13,13 +13,14 @@ use Rattle.base.specs.Lists.{some-of}
 use Rattle.logic.specs.Book.{Formula}
 use Rattle.pending.specs.Pending.{Pending}
 use Rattle.alternatives.specs.Least.{placed, with-one-more, with-more, least}
-use Rattle.alternatives.specs.Alternatives.{Alternatives, over, these, broken, most-alternatives, asks-no-more, earlier, set-of, counted, combined, joined-with}
+use Rattle.alternatives.specs.Alternatives.{Alternatives, over, these, most-alternatives, asks-no-more, earlier, set-of, counted, combined, joined-with}
 use Rattle.alternatives.proofs.Least.{more-append}
 use Rattle.set_bytes.specs.SetBytes.{answered, set-in, candidate, chosen, pairs-of}
 use Rattle.book_progression.specs.Contracts.{AreNodes}
 use Rattle.book_progression.proofs.Areas.{beside-none}
-use Rattle.set_bytes.specs.Contracts.{LookedOver, Without, Placed, Replaced, Added, Gathered, EitherGathered, PutOut, Finished, Leaves, Combines, JoinsSets, SetsReady, RoomFor}
+use Rattle.set_bytes.specs.Contracts.{LookedOver, Without, Placed, Replaced, Added, Gathered, EitherGathered, PutOut, Finished, Leaves, Combines, NothingToDrop, JoinsSets, SetsReady, RoomFor}
 use Rattle.set_bytes.proofs.Chosen.{chosen-length}
+use Rattle.set_bytes.proofs.Sets.{answered-these, answered-over}
 
 -- ---- one more candidate
 
@@ -71,15 +72,6 @@ add-apart r bytes n room order m c after there seen is =
     add-replaced r bytes n room order m c (m + 1) after (replaced bytes n room order m c m order after (seen .apart is) there) seen (λ e. omega arith)
 
 -- ---- what is left
-
--- What an answer says: at most 16, or over.
-answered-these : (area : List ℕ) (n at count : ℕ) → count ≤ 16 → answered area n at count ≡ these (set-in area n at count)
-unfolding answered most-alternatives
-answered-these area n at count few = let e = le-ltb 16 count few in rw e refl
-
-answered-over : (area : List ℕ) (n at count : ℕ) → 16 < count → answered area n at count ≡ over
-unfolding answered most-alternatives
-answered-over area n at count many = let e = lt-ltb 16 count many in rw e refl
 
 -- They are over 16: nothing is written.
 pub finish-over : (n : ℕ) (room order : List ℕ) (left : ℕ) (sets : List ℕ) (to : ℕ) → 16 < left → left ≤ length order
@@ -180,7 +172,7 @@ module _ (r left : ℕ) (bytes : List ℕ) (n : ℕ) (sets : List ℕ) (p a q b 
             ∙ sym (rw (e, f) refl);
       }
 
--- A set that is itself where it is joined with none has nothing to drop.
+-- What counting leaves is what was counted.
 counted-these : (ps qs : List Pending) → counted ps ≡ these qs → ps ≡ qs
 unfolding counted
 counted-these ps qs = go (ltb most-alternatives (length ps))
@@ -189,7 +181,8 @@ counted-these ps qs = go (ltb most-alternatives (length ps))
     go true e = let z : _≡_ {A = ℕ} 0 1 = cc in absurd (omega arith)
     go false e = cc
 
-nothing-dropped : (fs : List Formula) (s : Alternatives) (ps : List Pending) → s ≡ these ps → joined-with fs broken s ≡ s → set-of fs ps ≡ ps
+-- A set that has nothing to drop is its own set.
+nothing-dropped : (fs : List Formula) (s : Alternatives) (ps : List Pending) → s ≡ these ps → NothingToDrop fs s → set-of fs ps ≡ ps
 unfolding joined-with
 nothing-dropped fs s ps e stands = counted-these (set-of fs ps) ps (rw e at stands)
 

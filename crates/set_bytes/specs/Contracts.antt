@@ -8,7 +8,7 @@ use Rattle.base.specs.Lists.{some-of}
 use Rattle.logic.specs.Book.{Formula}
 use Rattle.pending.specs.Pending.{Pending}
 use Rattle.alternatives.specs.Least.{without, placed, with-one-more, with-more}
-use Rattle.alternatives.specs.Alternatives.{broken, asks-no-more, earlier, counted, combined, joined-with}
+use Rattle.alternatives.specs.Alternatives.{Alternatives, broken, asks-no-more, earlier, counted, combined, joined-with}
 use Rattle.book_progression.specs.Contracts.{AreNodes, Beside}
 use Rattle.set_bytes.specs.SetBytes.{alternative-size, set-size, candidates-size, set-in, answered, candidate, chosen}
 
@@ -127,10 +127,14 @@ pub record Combines (r : ℕ) (bytes : List ℕ) (n : ℕ) (sets : List ℕ) (p 
   pub leaves : Leaves r sets to room after after-room
   pub says : (fs : List Formula) → AreNodes bytes n fs → answered after n to r ≡ combined fs (answered sets n p a) (answered sets n q b)
 
--- Two sets of which either is to be met, where the first is itself if it is joined with none.
+-- A set has nothing to drop: joined with none, it is itself.
+abbrev pub NothingToDrop : List Formula → Alternatives → Type 0
+NothingToDrop fs s = joined-with fs broken s ≡ s
+
+-- Two sets of which either is to be met, where the first has nothing to drop.
 pub record JoinsSets (r : ℕ) (bytes : List ℕ) (n : ℕ) (sets : List ℕ) (p a q b to : ℕ) (room after after-room : List ℕ) : Type 0 where
   pub leaves : Leaves r sets to room after after-room
-  pub says : (fs : List Formula) → AreNodes bytes n fs → joined-with fs broken (answered sets n p a) ≡ answered sets n p a
+  pub says : (fs : List Formula) → AreNodes bytes n fs → NothingToDrop fs (answered sets n p a)
       → answered after n to r ≡ joined-with fs (answered sets n p a) (answered sets n q b)
 
 -- ---- what is asked

@@ -297,7 +297,7 @@ fn take_copies(n: usize, sets: &[u8], p: usize, a: usize, room: &mut [u8], order
     }
 }
 
-// Beside the a alternatives from p on, which are a set, each of the b from q on.
+// Beside the a alternatives from p on, which are taken as they are, each of the b from q on.
 fn gather_either(
     book: &[u8],
     n: usize,
@@ -404,7 +404,7 @@ pub fn combine(
     combine_by(book, n, sets, p, a, q, b, to, room, &mut order)
 }
 
-// Two sets of at most 16 of which either is to be met, in the same way.
+// Two sets of at most 16 of which either is to be met, the first with nothing to drop, in the same way.
 fn join_by(
     book: &[u8],
     n: usize,
@@ -427,7 +427,8 @@ fn join_by(
     finish(n, room, order, left, sets, to)
 }
 
-// Two sets of which either is to be met, in the same way.
+// Two sets of which either is to be met, in the same way. The first has nothing to drop, as every set
+// that was combined or joined: its alternatives are not compared with each other.
 pub fn join(
     book: &[u8],
     n: usize,

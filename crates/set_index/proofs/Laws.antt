@@ -16,7 +16,7 @@ use lib.Dec.{eqb}
 use borrow.Author.Tests.{eqb-true, eq-eqb}
 use Rattle.base.specs.Bytes.{byte-at, number-at, number-bytes}
 use Rattle.base.specs.Lists.{count-from, below, place-of, same-list}
-use Rattle.base.proofs.Lists.{never-both, and-left, and-right, and-both, same-list-eq, eq-same-list}
+use Rattle.base.proofs.Lists.{count-from-next, never-both, and-left, and-right, and-both, same-list-eq, eq-same-list}
 use Rattle.base.proofs.Lists.{length-count-from, length-below, getD-below}
 use Rattle.base.proofs.Lists.{place-of-le, place-of-at, place-of-before, place-of-first}
 use Rattle.area_bytes.proofs.Numbers.{stored, stored-read, stored-beside, byte-beside, length-stored}
@@ -95,18 +95,11 @@ pub alternatives-none : (area : List ℕ) (s : ℕ) → alternatives-at area s 0
 unfolding alternatives-at count-from
 alternatives-none area s = refl
 
-count-more : (k n : ℕ) → count-from k (suc n) ≡ count-from k n ++ ((k + n) ∷ [])
-unfolding count-from
-count-more k zero = ap (λ (a : ℕ). a ∷ []) (sym (add-zero k))
-count-more k (suc n) =
-    let place : suc k + n ≡ k + suc n = omega arith in
-    ap (λ (rest : List ℕ). k ∷ rest) (rw (← place) (count-more (suc k) n))
-
 -- One more comes behind the others.
 pub alternatives-more : (area : List ℕ) (s n : ℕ)
     → alternatives-at area s (n + 1) ≡ alternatives-at area s n ++ (alternative-at area (s + n) ∷ [])
 unfolding alternatives-at
-alternatives-more area s n = rw (add-one n, count-more s n) (map-append (alternative-at area) (count-from s n) ((s + n) ∷ []))
+alternatives-more area s n = rw (add-one n, count-from-next s n) (map-append (alternative-at area) (count-from s n) ((s + n) ∷ []))
 
 count-same : {X : Type 0} (f g : ℕ → X) (k n : ℕ) → ((i : ℕ) → k ≤ i → i < k + n → f i ≡ g i) → map f (count-from k n) ≡ map g (count-from k n)
 unfolding count-from
@@ -161,7 +154,7 @@ entries-at area n i l = List·getD-map (entry-at area) (below n) i 0 ∙ ap (ent
 -- One entry more comes behind the others.
 pub entries-more : (area : List ℕ) (n : ℕ) → entries-of area (n + 1) ≡ entries-of area n ++ (entry-at area n ∷ [])
 unfolding entries-of below
-entries-more area n = rw (add-one n, count-more 0 n, zero-add n) (map-append (entry-at area) (count-from 0 n) (n ∷ []))
+entries-more area n = rw (add-one n, count-from-next 0 n, zero-add n) (map-append (entry-at area) (count-from 0 n) (n ∷ []))
 
 -- Areas with the same entries before n have the same first n entries.
 pub entries-same : (one other : List ℕ) (n : ℕ) → ((i : ℕ) → i < n → entry-at one i ≡ entry-at other i)
@@ -231,39 +224,13 @@ pub heads-fewer : (area : List ℕ) (n m : ℕ) → Heads area n → m ≤ n →
 heads-fewer area n m heads l =
     record { start = heads .start; rising = λ i k. heads .rising i (omega arith); inside = heads-first area n heads m l }
 
--- With the one that is looked up: where each begins and ends,
+-- With the one that is looked up: where each begins and ends.
 pub headed-rising : (area : List ℕ) (n : ℕ) → Headed area n → (i : ℕ) → i < n + 1 → entry-first area i < entry-first area (i + 1)
 headed-rising area n headed i l = headed .rising i (omega arith)
 
 pub headed-first : (area : List ℕ) (n : ℕ) → Headed area n → (i : ℕ) → i ≤ n + 1 → entry-first area i ≤ alternatives-room
 headed-first area n headed i l =
     omega (arith, first-rises area (n + 1) (headed-rising area n headed) i (n + 1) l (omega arith), headed .inside)
-
--- and those before it, or it and those before it, where there is room for one more.
-pub headed-heads : (area : List ℕ) (n : ℕ) → Headed area n → entry-first area n ≤ most-alternatives → Heads area n
-headed-heads area n headed l =
-    record { start = headed .start; rising = λ i k. headed .rising i (omega arith); inside = l }
-
-pub headed-more : (area : List ℕ) (n : ℕ) → Headed area n → entry-first area (n + 1) ≤ most-alternatives → Heads area (n + 1)
-headed-more area n headed l =
-    record { start = headed .start; rising = headed-rising area n headed; inside = l }
-
--- Any of them may be the one that is looked up.
-pub headed-fewer : (area : List ℕ) (n i : ℕ) → Headed area n → i ≤ n → Headed area i
-headed-fewer area n i headed l =
-    record {
-      start = headed .start;
-      rising = λ j k. headed .rising j (omega arith);
-      inside = headed-first area n headed (i + 1) (omega arith);
-    }
-
-pub heads-headed : (area : List ℕ) (n i : ℕ) → Heads area n → i < n → Headed area i
-heads-headed area n i heads l =
-    record {
-      start = heads .start;
-      rising = λ j k. heads .rising j (omega arith);
-      inside = omega (arith, heads-first area n heads (i + 1) (omega arith));
-    }
 
 -- In a cleared area there is no entry.
 pub heads-cleared : (area : List ℕ) (size : ℕ) → area ≡ replicate size 0 → Heads area 0
@@ -296,11 +263,7 @@ before-by one other n lengths bytes heads =
       bytes = bytes;
     }
 
--- Every area agrees with itself,
-pub before-itself : (area : List ℕ) (n : ℕ) → SameBefore area area n
-before-itself area n = record { lengths = refl; numbers = λ i l. refl; firsts = λ i l. refl; bytes = λ p l. refl }
-
--- and with what the next agrees with,
+-- What agrees with an area agrees with whatever that agrees with.
 pub before-chained : (one other third : List ℕ) (n : ℕ) → SameBefore one other n → SameBefore other third n → SameBefore one third n
 before-chained one other third n a b =
     record {
@@ -308,26 +271,6 @@ before-chained one other third n a b =
       numbers = λ i l. a .numbers i l ∙ b .numbers i l;
       firsts = λ i l. a .firsts i l ∙ b .firsts i l;
       bytes = λ p l. a .bytes p l ∙ b .bytes p (omega (arith, a .firsts n (omega arith)));
-    }
-
--- in this order or the other,
-pub before-turned : (one other : List ℕ) (n : ℕ) → SameBefore one other n → SameBefore other one n
-before-turned one other n a =
-    record {
-      lengths = sym (a .lengths);
-      numbers = λ i l. sym (a .numbers i l);
-      firsts = λ i l. sym (a .firsts i l);
-      bytes = λ p l. sym (a .bytes p (omega (arith, a .firsts n (omega arith))));
-    }
-
--- and on fewer entries too.
-pub before-fewer : (one other : List ℕ) (n m : ℕ) → Heads one n → SameBefore one other n → m ≤ n → SameBefore one other m
-before-fewer one other n m heads a k =
-    record {
-      lengths = a .lengths;
-      numbers = λ i l. a .numbers i (omega arith);
-      firsts = λ i l. a .firsts i (omega arith);
-      bytes = λ p l. a .bytes p (omega (arith, first-rises one n (heads .rising) m n k (omega arith)));
     }
 
 -- Such areas have the same entries before n,
@@ -347,18 +290,6 @@ heads-agree one other n a heads =
       rising = λ i l. omega (arith, a .firsts i (omega arith), a .firsts (i + 1) (omega arith), heads .rising i l);
       inside = omega (arith, a .firsts n (omega arith), heads .inside);
     }
-
-pub headed-agree : (one other : List ℕ) (n : ℕ) → SameBefore one other (n + 1) → Headed one n → Headed other n
-headed-agree one other n a headed =
-    record {
-      start = omega (arith, a .firsts 0 (omega arith), headed .start);
-      rising = λ i l. omega (arith, a .firsts i (omega arith), a .firsts (i + 1) (omega arith), headed .rising i l);
-      inside = omega (arith, a .firsts (n + 1) (omega arith), headed .inside);
-    }
-
--- So they have the same first n entries.
-pub entries-before : (one other : List ℕ) (n : ℕ) → SameBefore one other n → Heads one n → entries-of one n ≡ entries-of other n
-entries-before one other n a heads = entries-same one other n (entries-agree one other n (heads .rising) a)
 
 -- ---- a head that is written
 
@@ -408,9 +339,6 @@ module _ (before after : List ℕ) (n number end : ℕ)
       (byte-beside numbered (60960 + 4 * n + 6) end p (λ e. omega arith) (λ e. omega arith)
       ∙ byte-beside before (60960 + 4 * n) number p (λ e. omega arith) (λ e. omega arith))
 
-  pub put-alternatives : (s m : ℕ) → s + m ≤ alternatives-room → alternatives-at after s m ≡ alternatives-at before s m
-  put-alternatives s m l = alternatives-agree after before s m put-length (λ p k o. put-bytes p (omega arith))
-
   module _ (heads : Heads before n) where
     -- so that the entries before n are as they were,
     pub put-before : SameBefore before after n
@@ -437,16 +365,6 @@ module _ (before after : List ℕ) (n number end : ℕ)
           ];
           inside = omega arith;
         }
-
-    -- It has the alternatives from where the entries before it end up to this one.
-    pub put-entry : entries-size ≤ length before → number < 65536 → entry-first before n < end → end ≤ alternatives-room
-        → entry-at after n ≡ record { number = number; alternatives = alternatives-at before (entry-first before n) (end - entry-first before n) }
-    unfolding entry-at
-    put-entry room small more most =
-        let few = heads-few before n heads in
-        ap₂ entry (put-number few room small)
-        (ap₂ (λ (s t : ℕ). alternatives-at after s (t - s)) (put-firsts n (omega arith)) (put-end few room (omega arith))
-        ∙ put-alternatives (entry-first before n) (end - entry-first before n) (omega arith))
 
 -- ---- the answer of a search for entry n among the first n
 
@@ -516,17 +434,6 @@ indexed-same one other index n agree indexed =
         other = λ i k e. indexed .distinct j l .other i k (agree i (omega arith) ∙ e ∙ sym (agree j l));
       };
     }
-
--- So an area that agrees with the other before n has the same index.
-pub indexed-agree : (one other index : List ℕ) (n : ℕ) → SameBefore one other n → Heads one n → Indexed one index n → Indexed other index n
-indexed-agree one other index n a heads indexed = indexed-same one other index n (entries-agree one other n (heads .rising) a) indexed
-
--- So does one in which the head of entry n has been written.
-pub put-indexed : (before after index : List ℕ) (n number end : ℕ)
-    → after ≡ sets (sets before (entry-heads + 4 * n) (number-bytes 2 number)) (entry-heads + 4 * n + 6) (number-bytes 2 end)
-    → Heads before n → Indexed before index n → Indexed after index n
-put-indexed before after index n number end written heads indexed =
-    indexed-agree before after index n (put-before before after n number end written heads) heads indexed
 
 -- A cleared area is an index of no entries.
 pub indexed-cleared : (area index : List ℕ) (size : ℕ) → index ≡ replicate size 0 → Indexed area index 0

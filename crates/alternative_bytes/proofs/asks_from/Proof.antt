@@ -1,7 +1,8 @@
 -- `alternative_bytes::asks_from` meets its contract, by the laws of Ways.
 use Prim.Native.Nat.{_-_}
 use borrow.Author.Needs.{needs}
-use Rattle.alternative_bytes.proofs.Ways.{Asking, asking-start, node-there, asking-end, asking-fails, asking-on, fewer-left}
+use Rattle.book_progression.proofs.Stepping.{node-there}
+use Rattle.alternative_bytes.proofs.Ways.{Asking, asking-start, asking-end, asking-fails, asking-on, fewer-left}
 use Rattle.alternative_bytes.proofs.asks_from.Statement.{statement}
 use Rattle.alternative_bytes.proofs.asks_from.Tie as tie
 

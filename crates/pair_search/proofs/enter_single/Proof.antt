@@ -1,6 +1,7 @@
 -- `pair_search::enter_single` meets its contract.
 use borrow.Author.Needs.{needs}
-use Rattle.pair_search.proofs.Entering.{state-inside, tower-state-inside, single-files, single-open, single-one, single-action, single-low, earlier-leads, earlier-room, enter-taken, enter-asked}
+use Rattle.pair_trial.proofs.Walking.{tower-state-inside}
+use Rattle.pair_search.proofs.Entering.{state-inside, single-files, single-open, single-one, single-action, single-low, earlier-leads, earlier-room, enter-taken, enter-asked}
 use Rattle.pair_search.proofs.enter_single.Statement.{statement}
 use Rattle.pair_search.proofs.enter_single.Tie as tie
 

@@ -2,7 +2,8 @@
 use borrow.Author.Needs.{needs}
 use Prim.Native.Nat.{_-_, _≤_}
 use Rattle.pair_trial.proofs.Walking.{action-below}
-use Rattle.pair_trial.proofs.Trials.{tower-state-inside, action-before, action-before-tower, before-found, before-none}
+use Rattle.pair_trial.proofs.Walking.{tower-state-inside}
+use Rattle.pair_trial.proofs.Trials.{action-before, action-before-tower, before-found, before-none}
 use Rattle.pair_trial.proofs.tried_before.Statement.{statement}
 use Rattle.pair_trial.proofs.tried_before.Tie as tie
 

@@ -1,6 +1,7 @@
 -- `pair_trial::try_step` meets its contract.
 use borrow.Author.Needs.{needs}
-use Rattle.pair_trial.proofs.Trials.{step-over, step-waits, old-inside, sets-still, room-still, action-few}
+use Rattle.pair_trial.proofs.Trials.{step-over, step-waits, old-inside, sets-still, action-few}
+use Rattle.pair_trial.proofs.Waiting.{room-still}
 use Rattle.pair_trial.proofs.try_step.Statement.{statement}
 use Rattle.pair_trial.proofs.try_step.Tie as tie
 
