@@ -1,4 +1,4 @@
-/* Play tables for bell towers: the five entries for C, C++ or any language that can call C.
+/* Play tables for bell towers: the six entries for C, C++ or any language that can call C.
  *
  * The paper 'Play tables for bell towers' says what a tower file, a rule book, a table and a refusal
  * are; docs/FORMATS.md has every byte of the files, and docs/LINKING.md how to link. The answers are
@@ -7,15 +7,16 @@
  * What the caller owes, since no function can test it:
  *   - each pointer is not null and points to at least as many bytes as the length beside it says,
  *     also where that is 0;
- *   - 'out' and the work areas overlap neither each other nor an input (inputs may overlap);
- *   - while a call runs, nobody else touches 'out' and the areas, and nobody writes the inputs;
+ *   - 'out', 'list' and the work areas overlap neither each other nor an input (inputs may overlap);
+ *   - while a call runs, nobody else touches 'out', 'list' and the areas, and nobody writes the inputs;
  *   - there is enough stack: SUCCORYVISE_STACK bytes where a rule book is read.
  *
  * What every call promises:
  *   - it ends, and its answer does not depend on what the work areas held before;
  *   - refused with 15 it changes nothing; else the work areas are all zero afterwards, over the
  *     whole of the length given;
- *   - a refusal changes no byte of 'out', and bytes behind a table that was made stay;
+ *   - a refusal changes no byte of 'out' or 'list', and bytes behind a table that was made or a run that
+ *     is shown stay;
  *   - it has no state, allocates nothing and opens no file. Calls may run at the same time, each
  *     with its own output and areas.
  */
@@ -37,6 +38,7 @@ extern "C" {
 #define succoryvise_check succoryvise_check_v2
 #define succoryvise_follow succoryvise_follow_v2
 #define succoryvise_read_log succoryvise_read_log_v2
+#define succoryvise_why succoryvise_why_v2
 
 /* The numbers of an answer. There may be more in time: treat one that you do not know as a refusal. */
 enum succoryvise_number {
@@ -56,7 +58,7 @@ enum succoryvise_number {
     SUCCORYVISE_LAYOUT = 13,      /* table: not laid out so, or its S, A are not the tower's */
     SUCCORYVISE_NOT_GOOD = 14,    /* table: not good; the letter says why */
     SUCCORYVISE_AREA = 15,        /* a work area is too short */
-    SUCCORYVISE_OUTPUT = 16,      /* the output is too short */
+    SUCCORYVISE_OUTPUT = 16,      /* the output or the list is too short */
     SUCCORYVISE_OUTSIDE = 17,     /* the row or the action is outside the table */
     SUCCORYVISE_NOT_ALLOWED = 18, /* the action is not allowed in this row */
     SUCCORYVISE_LOG = 19,         /* log: a line is not of its form */
@@ -94,6 +96,9 @@ enum succoryvise_course {
 #define SUCCORYVISE_BOOK_MOST 4096
 #define SUCCORYVISE_TABLE_MOST 52012
 
+/* The most actions of a run that is shown: a list of so many bytes holds every one. */
+#define SUCCORYVISE_RUN_MOST 1000
+
 /* The sizes of the paper: of a tower, a book and a table. */
 #define SUCCORYVISE_STATES_MOST 200
 #define SUCCORYVISE_ACTIONS_MOST 16
@@ -120,7 +125,7 @@ struct succoryvise_answer {
     size_t place;    /* of 6 to 10 and 19: the line, from 0; of a 14 b to d: the row; else 0 */
     size_t first;    /* the values, where number is 0; else 0 */
     size_t second;
-    size_t third;    /* room for another one: 0 */
+    size_t third;
 };
 
 /* The version of the archive, SUCCORYVISE_VERSION, for those who look a function up by its name. */
@@ -177,6 +182,24 @@ struct succoryvise_answer succoryvise_read_log(
     const uint8_t *tower, size_t tower_length,
     const uint8_t *table, size_t table_length,
     const uint8_t *log, size_t log_length);
+
+/* Checks a table, and shows why where it is turned down with 14 e: 15, 1 to 11, 13, 14 a to d, 20, or 16 (the
+ * list is shorter than the run).
+ * Done: first is 0, and the table is good. Or first is the length of a run that the table allows and that
+ * breaks a rule, a shortest one, and of those the first by its actions compared from the left; it stands
+ * at the front of 'list', one byte for each action. second is the lowest line that it breaks, from 0, and
+ * third the lowest position where the formula of that line is not kept, for a 'start' line 0. */
+struct succoryvise_answer succoryvise_why(
+    const uint8_t *tower, size_t tower_length,
+    const uint8_t *text, size_t text_length,
+    const uint8_t *table, size_t table_length,
+    uint8_t *list, size_t list_length,
+    uint8_t *nodes, size_t nodes_length,
+    uint8_t *pairs, size_t pairs_length,
+    uint8_t *index, size_t index_length,
+    uint8_t *graph, size_t graph_length,
+    uint8_t *sets, size_t sets_length,
+    uint8_t *room, size_t room_length);
 
 #ifdef __cplusplus
 }

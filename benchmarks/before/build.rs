@@ -6,16 +6,31 @@ use std::fs;
 use std::path::{Path, PathBuf};
 use std::process::Command;
 
-/// The entries that every library has, and the log reader, which earlier ones have not.
+/// The entries that every library has.
 const ENTRIES: [&str; 4] = ["read_book", "make", "check", "follow"];
-const LOG_READER: &str = "read_log";
 
-/// Stands for the log reader where there is none.
-const NO_LOG_READER: &str = "
-pub fn read_log(_tower: &[u8], _table: &[u8], _log: &[u8]) -> Answer {
-    unreachable!()
+/// An entry that earlier libraries have not.
+struct Later {
+    name: &'static str,
+    /// The constant that says whether it is there.
+    there: &'static str,
+    /// What it takes, for the function that stands for it where it is not.
+    takes: &'static str,
 }
-";
+
+const LATER: [Later; 2] = [
+    Later {
+        name: "read_log",
+        there: "READS_LOGS",
+        takes: "_tower: &[u8], _table: &[u8], _log: &[u8]",
+    },
+    Later {
+        name: "why",
+        there: "SHOWS_WHY",
+        takes:
+            "_tower: &[u8], _text: &[u8], _table: &[u8], _list: &mut [u8], _areas: [&mut [u8]; 0]",
+    },
+];
 
 fn main() {
     println!("cargo:rerun-if-env-changed=BEFORE_LIBRARIES");
@@ -39,14 +54,15 @@ fn declared(entry: &str) -> String {
     format!("answer succoryvise_{entry}(")
 }
 
-fn reads_logs(header: &str) -> bool {
-    header.contains(&declared(LOG_READER))
+fn has(header: &str, entry: &str) -> bool {
+    header.contains(&declared(entry))
 }
 
 /// The entries that the header declares.
-fn entries(header: &str) -> impl Iterator<Item = &'static str> {
-    let log_reader = reads_logs(header).then_some(LOG_READER);
-    ENTRIES.into_iter().chain(log_reader)
+fn entries(header: &str) -> impl Iterator<Item = &'static str> + '_ {
+    let later = LATER.iter().map(|later| later.name);
+    let later = later.filter(|entry| has(header, entry));
+    ENTRIES.into_iter().chain(later)
 }
 
 /// Copies the archive, with `before_NAME` for each entry, whatever its version, and no other name that
@@ -85,6 +101,9 @@ fn parts(declared: &str) -> (&str, &str) {
     }
 }
 
+/// What an entry writes to, but for the areas.
+const OUTPUTS: [&str; 2] = ["out", "list"];
+
 /// The parameters of an entry. A slice is a pointer and a length; what may be written is an area, but
 /// for the output.
 fn parameters(header: &str, entry: &str) -> Vec<Parameter> {
@@ -100,7 +119,7 @@ fn parameters(header: &str, entry: &str) -> Vec<Parameter> {
         let name = name.to_string();
         parameters.push(match kind {
             "input" => Parameter::Input(name),
-            "output" if name == "out" => Parameter::Output(name),
+            "output" if OUTPUTS.contains(&&*name) => Parameter::Output(name),
             "output" => Parameter::Area(name),
             _ => Parameter::Number(name),
         });
@@ -145,11 +164,19 @@ fn declarations(header: &str) -> String {
     for entry in entries(header) {
         text += &function(entry, &parameters(header, entry));
     }
-    let reads_logs = reads_logs(header);
-    text += &format!("\npub const READS_LOGS: bool = {reads_logs};\n");
-    if !reads_logs {
-        text += NO_LOG_READER;
+    for Later { name, there, takes } in LATER {
+        let has = has(header, name);
+        text += &format!("\npub const {there}: bool = {has};\n");
+        if !has {
+            text += &format!("\npub fn {name}({takes}) -> Answer {{\n    unreachable!()\n}}\n");
+        }
     }
+    // The first libraries had no third value.
+    let (answer, third) = match fields.contains(" third;") {
+        true => ("answer", "answer.third"),
+        false => ("_answer", "0"),
+    };
+    text += &format!("\npub fn third({answer}: &Answer) -> usize {{\n    {third}\n}}\n");
     text
 }
 

@@ -9,22 +9,29 @@ pub struct Answer {
     pub number: u8,
     pub letter: u8,
     pub place: usize,
-    pub values: [usize; 2],
+    pub values: [usize; 3],
 }
 
 impl Answer {
-    pub fn of(answer: Result<[usize; 2], Refusal>) -> Self {
+    /// Of an entry with so many values, at most 3.
+    pub fn of<const N: usize>(answer: Result<[usize; N], Refusal>) -> Self {
         match answer {
             Ok(values) => Answer {
-                values,
+                values: std::array::from_fn(|i| values.get(i).copied().unwrap_or(0)),
                 ..Answer::default()
             },
-            Err(refusal) => Answer {
-                number: refusal.number,
-                letter: refusal.letter,
-                place: refusal.place,
-                ..Answer::default()
-            },
+            Err(refusal) => refusal.into(),
+        }
+    }
+}
+
+impl From<Refusal> for Answer {
+    fn from(refusal: Refusal) -> Self {
+        Answer {
+            number: refusal.number,
+            letter: refusal.letter,
+            place: refusal.place,
+            ..Answer::default()
         }
     }
 }

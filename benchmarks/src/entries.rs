@@ -24,7 +24,7 @@ fn answer(handed: sys::Answer) -> Answer {
         number: handed.number as u8,
         letter: handed.letter,
         place: handed.place,
-        values: [handed.first, handed.second],
+        values: [handed.first, handed.second, third(&handed)],
     }
 }
 
@@ -57,5 +57,13 @@ impl Library for Entries {
 
     fn read_log(&mut self, tower: &[u8], table: &[u8], log: &[u8]) -> Answer {
         answer(sys::read_log(tower, table, log))
+    }
+
+    fn shows_why(&self) -> bool {
+        SHOWS_WHY
+    }
+
+    fn why(&mut self, tower: &[u8], text: &[u8], table: &[u8], list: &mut [u8]) -> Answer {
+        answer(sys::why(tower, text, table, list, self.lend()))
     }
 }

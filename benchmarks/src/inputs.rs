@@ -231,6 +231,99 @@ pub fn either() -> Either {
     }
 }
 
+/// A tower, a book and a table that allows a broken run.
+pub struct Broken {
+    pub tower: Vec<u8>,
+    pub book: Vec<u8>,
+    pub table: Vec<u8>,
+}
+
+/// A tower whose states every action goes round, with marks 1 to 8 in turn, and mark 0 on the last one.
+fn ring_tower(states: usize, actions: &[[u8; 2]]) -> Vec<u8> {
+    let state = |x: usize| {
+        let mask = u16::from(x + 1 == states) | 2 << (x % STAGES);
+        (mask, vec![((x + 1) % states) as u8; actions.len()])
+    };
+    let states: Vec<(u16, Vec<u8>)> = (0..states).map(state).collect();
+    tower_file(10, actions, &states)
+}
+
+/// Lines of 42 nodes that are never broken on such a ring by steps of one tick. Up to four nodes are
+/// pending at one time.
+const RING_LINES: &str = "\
+always !p1 | E 8 p4
+always !p2 | E 8 p5
+always !p3 | E 5 (p5 | p6)
+always !p4 | U 8 (!p2, p7)
+always !p5 | A 4 (!p9 | !p1)
+always !p6 | (A 3 !p3 & E 5 p8)
+always !p7 | N <= 3 N <= 3 N <= 3 !p3
+";
+
+/// A ring of 200 states with one action, and its table. The last line of the book hands its promise on from
+/// lap to lap, so that each row is met with five nodes pending in turn, and breaks it at the end of the
+/// fifth lap.
+pub fn laps() -> Broken {
+    let states = 200;
+    let lap = "A 199 (!p0 | N > 0 ".repeat(4);
+    let rows: Vec<Row> = (0..states)
+        .map(|row| (row, vec![(0, (row + 1) % states)]))
+        .collect();
+    Broken {
+        tower: ring_tower(states, &[[1, 1]]),
+        book: format!("{RING_LINES}start {lap}A 199 !p0))))\n").into(),
+        table: rows_file(states, 1, &rows),
+    }
+}
+
+/// A ring of 40 states, and a table of 1,000 rows that go round it 25 times. Actions 0 to 13 lead from a
+/// row to the laps before, as far as the second; action 14 leads on; and the last row allows action 15
+/// in its place, which takes two ticks and breaks the last line.
+pub fn ways_back() -> Broken {
+    let (states, rows) = (40, 1_000);
+    let mut actions = [[1, 1]; 16];
+    actions[15][0] = 2;
+    let row = |row: usize| {
+        let back = |action: usize| {
+            let target = (row + 1).checked_sub(states * (action + 1))?;
+            (target >= states).then_some((action, target))
+        };
+        let on = match row + 1 == rows {
+            true => (15, rows - states),
+            false => (14, row + 1),
+        };
+        (row % states, (0..14).filter_map(back).chain([on]).collect())
+    };
+    let rows: Vec<Row> = (0..rows).map(row).collect();
+    let others = "\
+always !p8 | E 9 (p2 & !p3)
+always !p2 | U 6 (!p1 | !p8, p6)
+always A 30 N <= 1 N > 0 T
+";
+    Broken {
+        tower: ring_tower(states, &actions),
+        book: format!("{RING_LINES}{others}").into(),
+        table: rows_file(states, 16, &rows),
+    }
+}
+
+/// One state, and a table of 1,000 rows in turn that allow an action of one tick, but for the last, which
+/// allows one of two. The book says in 58 promises, one in the other, that no action takes two ticks: all of
+/// them are pending at one time.
+pub fn nested() -> Broken {
+    let rows = 1_000;
+    let row = |row: usize| {
+        let action = usize::from(row + 1 == rows);
+        (0, vec![(action, (row + 1) % rows)])
+    };
+    let rows: Vec<Row> = (0..rows).map(row).collect();
+    Broken {
+        tower: tower_file(0, &[[1, 1], [2, 1]], &[(0, vec![0; 2])]),
+        book: format!("always {}N <= 1 T\n", "A 254 ".repeat(58)).into(),
+        table: rows_file(1, 2, &rows),
+    }
+}
+
 /// The tower of the vectors whose 500 rows only time tells apart.
 pub fn chain() -> Ruled {
     let mut lines = vectors::lines("make.txt").into_iter();
@@ -393,27 +486,43 @@ pub fn small_table() -> Vec<u8> {
     table
 }
 
+/// A row of a table: its state, and each action with its target row.
+type Row = (usize, Vec<(usize, usize)>);
+
+/// The table file of these rows, for so many states and actions.
+fn rows_file(states: usize, actions: usize, rows: &[Row]) -> Vec<u8> {
+    let steps = || rows.iter().flat_map(|(_, steps)| steps);
+    let offset = HEADER + ROW * rows.len();
+    let mut file = Vec::new();
+    for number in [rows.len(), steps().count(), HEADER, offset, states, actions] {
+        file.extend((number as u16).to_le_bytes());
+    }
+    let mut first = 0;
+    for (state, steps) in rows {
+        let mut bytes = [0; ROW];
+        bytes[0] = *state as u8;
+        bytes[COUNT] = steps.len() as u8;
+        bytes[FIRST..].copy_from_slice(&(first as u16).to_le_bytes());
+        file.extend(bytes);
+        first += steps.len();
+    }
+    for (action, target) in steps() {
+        file.push(*action as u8);
+        file.extend((*target as u16).to_le_bytes());
+    }
+    file
+}
+
 /// A table of 1,000 rows for 200 states and 16 actions, with so many steps in each row.
 pub fn table_file(steps_of_row: usize) -> Vec<u8> {
     let rows = 1_000;
-    let steps = rows * steps_of_row;
     let mut random = Random::new(1);
-    let mut file = Vec::new();
-    for number in [rows, steps, HEADER, HEADER + ROW * rows, 200, 16] {
-        file.extend((number as u16).to_le_bytes());
-    }
-    for row in 0..rows {
-        let mut bytes = [0; ROW];
-        bytes[0] = (row % 200) as u8;
-        bytes[COUNT] = steps_of_row as u8;
-        bytes[FIRST..].copy_from_slice(&((row * steps_of_row) as u16).to_le_bytes());
-        file.extend(bytes);
-    }
-    for step in 0..steps {
-        file.push((step % steps_of_row) as u8);
-        file.extend((random.below(rows) as u16).to_le_bytes());
-    }
-    file
+    let row = |row: usize| {
+        let step = |action: usize| (action, random.below(rows));
+        (row % 200, (0..steps_of_row).map(step).collect())
+    };
+    let rows: Vec<Row> = (0..rows).map(row).collect();
+    rows_file(200, 16, &rows)
 }
 
 /// One of the steps of a row: its action, and the row that it leads to.

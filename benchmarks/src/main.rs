@@ -14,7 +14,7 @@ mod tuned;
 mod vectors;
 
 use answer::Answer;
-use inputs::{Either, Logged, Ruled};
+use inputs::{Broken, Either, Logged, Ruled};
 use measure::{Growth, Pace, Times};
 use plain::book::Book;
 use plain::check::Checker;
@@ -22,7 +22,8 @@ use plain::follow::follow;
 use plain::log::{Course, LogReader};
 use plain::make::Maker;
 use plain::table::MOST_BYTES;
-use plain::Refusal;
+use plain::why::Explainer;
+use plain::{Refusal, MOST_PAIRS};
 use proved::Library;
 use std::hint::black_box;
 use std::process::ExitCode;
@@ -31,7 +32,7 @@ use std::time::Duration;
 /// The sizes at which the checker and the maker are measured.
 const SIZES: [usize; 3] = [250, 500, 1_000];
 
-/// How many times plain Rust's time a log may take, and a book with two timed sides.
+/// How many times plain Rust's time a log may take, a book with two timed sides, and a run that shows why.
 const MOST_OF_PLAIN: f64 = 1.0;
 
 /// What is measured, in the lines of tables.
@@ -61,6 +62,7 @@ impl Report {
         make_tables(&mut report);
         read_logs(&mut report);
         keep_either_promise(&mut report);
+        show_why(&mut report);
         report
     }
 
@@ -85,10 +87,10 @@ impl Report {
     }
 
     /// Compares the answers of the libraries to an input, which is accepted.
-    fn compare(
+    fn compare<const N: usize>(
         &mut self,
         mut proved: impl FnMut(&mut dyn Library) -> Answer,
-        plain: Result<[usize; 2], Refusal>,
+        plain: Result<[usize; N], Refusal>,
     ) -> Answer {
         let plain = Answer::of(plain);
         assert_eq!(plain.number, 0, "{plain}");
@@ -221,7 +223,7 @@ fn read_books(report: &mut Report) {
         let plain = Book::read(marks, &book);
         let plain = plain.map(|book| [book.line_count(), book.node_count]);
         let answer = report.compare(|library| library.read_book(marks, &book), plain);
-        let [lines, nodes] = answer.values.map(grouped);
+        let [lines, nodes, _] = answer.values.map(grouped);
         report.measure(
             &[name.to_string(), grouped(book.len()), lines, nodes],
             Work::Calls(1),
@@ -473,6 +475,58 @@ fn keep_either_promise(report: &mut Report) {
     report.judge_ratios(&[making, checking], failure);
 }
 
+/// Shows why a table is turned down, where the run is as long as can be. A library from before item 4 has
+/// no time.
+fn show_why(report: &mut Report) {
+    let columns = [
+        "table and book",
+        "rows with what is pending",
+        "nodes",
+        "actions of the run",
+        "rows",
+        "steps",
+    ];
+    report.begin("Showing why", &columns);
+    let libraries = report.libraries.iter();
+    report.measured = libraries.filter(|library| library.shows_why()).count();
+    let mut explainer = Explainer::new();
+    let [mut of_proved, mut of_plain] = [[0; MOST_PAIRS]; 2];
+    let mut measure = |name: &str, broken: Broken| {
+        let Broken { tower, book, table } = &broken;
+        let plain = explainer.why(tower, book, table, &mut of_plain);
+        let plain = plain.map(|shown| {
+            let shown = shown.expect("a run");
+            [shown.length, shown.line, shown.position]
+        });
+        let why = |library: &mut dyn Library| {
+            let answer = library.why(tower, book, table, &mut of_proved);
+            let length = answer.values[0];
+            assert!(of_proved[..length] == of_plain[..length]);
+            answer
+        };
+        let [length, ..] = report.compare(why, plain).values;
+        let nodes = Book::read(usize::from(tower[2]), book).map(|book| book.node_count);
+        let [rows, steps] = inputs::table_counts(table);
+        let numbers = [explainer.met(), nodes.expect("a book"), length, rows, steps];
+        report.measure(
+            &[&[name.to_string()], &numbers.map(grouped)[..]].concat(),
+            Work::Calls(1),
+            |library| {
+                black_box(library.why(black_box(tower), book, table, &mut of_proved));
+            },
+            || {
+                let _ = black_box(explainer.why(black_box(tower), book, table, &mut of_plain));
+            },
+        )
+    };
+    let times = [
+        measure("five laps of a ring", inputs::laps()),
+        measure("25 laps, with ways back", inputs::ways_back()),
+        measure("58 promises in one another", inputs::nested()),
+    ];
+    report.judge_ratios(&times, "showing why takes longer than with plain Rust");
+}
+
 fn main() -> ExitCode {
     vectors::compare();
     let report = Report::of(Pace::FULL);
@@ -491,7 +545,11 @@ fn main() -> ExitCode {
 
 #[cfg(test)]
 mod tests {
-    use super::{inputs, vectors, Pace, Report};
+    use super::inputs::{self, Broken};
+    use super::plain::book::Book;
+    use super::plain::why::{Explainer, Shown};
+    use super::plain::{MOST_NODES, MOST_PAIRS};
+    use super::{vectors, Pace, Report};
 
     /// All sides answer every input alike, and plain and tuned Rust the vectors as they state.
     #[test]
@@ -513,7 +571,31 @@ mod tests {
                 assert_eq!(cells.len(), columns, "{row}");
             }
         }
-        assert_eq!((inputs, tuned), (23, 1));
+        assert_eq!((inputs, tuned), (26, 1));
+    }
+
+    /// The inputs of item 4 are as large as may be: the rows with what is pending, and the run.
+    #[test]
+    fn runs_that_show_why() {
+        for (broken, line, position) in [
+            (inputs::laps(), 7, 0),
+            (inputs::ways_back(), 9, 969),
+            (inputs::nested(), 0, 0),
+        ] {
+            let Broken { tower, book, table } = &broken;
+            let mut explainer = Explainer::new();
+            let mut list = [0; MOST_PAIRS];
+            let shown = explainer.why(tower, book, table, &mut list);
+            let wanted = Shown {
+                length: MOST_PAIRS,
+                line,
+                position,
+            };
+            assert_eq!(shown, Ok(Some(wanted)));
+            assert_eq!(explainer.met(), MOST_PAIRS);
+            let book = Book::read(usize::from(tower[2]), book).expect("a book");
+            assert_eq!(book.node_count, MOST_NODES);
+        }
     }
 
     /// The input of item 3 of the change requests is as large as stated.

@@ -19,12 +19,21 @@ pub trait Library {
     fn reads_logs(&self) -> bool;
 
     fn read_log(&mut self, tower: &[u8], table: &[u8], log: &[u8]) -> Answer;
+
+    /// Whether there is an entry that shows why.
+    fn shows_why(&self) -> bool;
+
+    fn why(&mut self, tower: &[u8], text: &[u8], table: &[u8], list: &mut [u8]) -> Answer;
 }
 
 mod now {
     use std::hint::black_box;
     use succoryvise_sys as sys;
     const READS_LOGS: bool = true;
+    const SHOWS_WHY: bool = true;
+    fn third(answer: &sys::Answer) -> usize {
+        answer.third
+    }
     include!("entries.rs");
 }
 
@@ -32,7 +41,7 @@ mod now {
 mod before {
     use before as sys;
     use std::hint::black_box;
-    use sys::READS_LOGS;
+    use sys::{third, READS_LOGS, SHOWS_WHY};
     include!("entries.rs");
 }
 

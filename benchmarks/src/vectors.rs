@@ -8,6 +8,7 @@ use crate::plain::log::{Course, LogReader};
 use crate::plain::make::Maker;
 use crate::plain::search::Search;
 use crate::plain::table::MOST_BYTES;
+use crate::plain::why::Explainer;
 use std::fs;
 use std::path::{Path, PathBuf};
 
@@ -54,12 +55,8 @@ fn make<S: Search>(maker: &mut Maker<S>, inputs: &[String]) -> String {
     let mut out = vec![0; number(&inputs[2]).min(MOST_BYTES)];
     let [tower, book] = [0, 1].map(|i| bytes(&inputs[i]));
     match maker.make(&tower, &book, &mut out) {
-        Ok(length) => {
-            let byte = |byte: &u8| format!("{byte:02x}");
-            let table: String = out[..length].iter().map(byte).collect();
-            format!("made {table}")
-        }
-        Err(refusal) => Answer::of(Err(refusal)).to_string(),
+        Ok(length) => format!("made {}", hexadecimal(&out[..length])),
+        Err(refusal) => Answer::from(refusal).to_string(),
     }
 }
 
@@ -68,8 +65,13 @@ fn check<S: Search>(checker: &mut Checker<S>, inputs: &[String]) -> String {
     let [tower, book, table] = [0, 1, 2].map(|i| bytes(&inputs[i]));
     match checker.check(&tower, &book, &table) {
         Ok(()) => "good".to_string(),
-        Err(refusal) => Answer::of(Err(refusal)).to_string(),
+        Err(refusal) => Answer::from(refusal).to_string(),
     }
+}
+
+/// Bytes in hexadecimal.
+fn hexadecimal(bytes: &[u8]) -> String {
+    bytes.iter().map(|byte| format!("{byte:02x}")).collect()
 }
 
 /// Compares the answers of the plain side, and of the tuned maker and checker, with those of the vectors,
@@ -77,7 +79,7 @@ fn check<S: Search>(checker: &mut Checker<S>, inputs: &[String]) -> String {
 pub fn compare() -> usize {
     let (mut maker, mut tuned_maker) = (Maker::new(), Maker::tuned());
     let (mut checker, mut tuned_checker) = (Checker::new(), Checker::tuned());
-    let mut log_reader = LogReader::new();
+    let (mut log_reader, mut explainer) = (LogReader::new(), Explainer::new());
     let mut count = 0;
     let mut each = |file: &str, answer: &mut dyn FnMut(&[String]) -> String| {
         for line in lines(file) {
@@ -90,7 +92,7 @@ pub fn compare() -> usize {
         "book.txt",
         &mut |inputs| match Book::read(number(&inputs[0]), &bytes(&inputs[1])) {
             Ok(book) => format!("ok {} {}", book.line_count(), book.node_count),
-            Err(refusal) => Answer::of(Err(refusal)).to_string(),
+            Err(refusal) => Answer::from(refusal).to_string(),
         },
     );
     each("make.txt", &mut |inputs| {
@@ -113,14 +115,27 @@ pub fn compare() -> usize {
         number(&inputs[2]),
     ) {
         Ok(row) => format!("row {row}"),
-        Err(refusal) => Answer::of(Err(refusal)).to_string(),
+        Err(refusal) => Answer::from(refusal).to_string(),
     });
     each("log.txt", &mut |inputs| {
         let [tower, table, log] = [0, 1, 2].map(|i| bytes(&inputs[i]));
         match log_reader.read(&tower, &table, &log) {
             Ok(Course::Row(row)) => format!("row {row}"),
             Ok(Course::Line(line)) => format!("line {line}"),
-            Err(refusal) => Answer::of(Err(refusal)).to_string(),
+            Err(refusal) => Answer::from(refusal).to_string(),
+        }
+    });
+    each("why.txt", &mut |inputs| {
+        let [tower, book, table] = [0, 1, 2].map(|i| bytes(&inputs[i]));
+        let mut list = vec![0; number(&inputs[3])];
+        match explainer.why(&tower, &book, &table, &mut list) {
+            Ok(None) => "good".to_string(),
+            Ok(Some(shown)) => {
+                let (length, line) = (shown.length, shown.line);
+                let actions = hexadecimal(&list[..length]);
+                format!("run {length} {actions} {line} {}", shown.position)
+            }
+            Err(refusal) => Answer::from(refusal).to_string(),
         }
     });
     count

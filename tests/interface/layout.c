@@ -19,6 +19,9 @@ static answer (*const check)(const uint8_t *, size_t, const uint8_t *, size_t, c
 static answer (*const follow)(const uint8_t *, size_t, size_t, size_t) = succoryvise_follow;
 static answer (*const read_log)(const uint8_t *, size_t, const uint8_t *, size_t, const uint8_t *,
                                 size_t) = succoryvise_read_log;
+static answer (*const why)(const uint8_t *, size_t, const uint8_t *, size_t, const uint8_t *, size_t,
+                           uint8_t *, size_t, uint8_t *, size_t, uint8_t *, size_t, uint8_t *, size_t,
+                           uint8_t *, size_t, uint8_t *, size_t, uint8_t *, size_t) = succoryvise_why;
 
 static void print_field(const char *name, size_t at, size_t size)
 {
@@ -39,7 +42,7 @@ int main(void)
     FIELD(third);
     printf("whole, %lu bytes\n", (unsigned long)sizeof(answer));
 
-    /* Nothing is lent: 15 from the first three. No bytes are no table: 13; and no tower: 1. */
+    /* Nothing is lent: 15 from those that borrow. No bytes are no table: 13; and no tower: 1. */
     return read_book(0, none, 0, none, 0).number != SUCCORYVISE_AREA
         || make(none, 0, none, 0, none, 0, none, 0, none, 0, none, 0, none, 0, none, 0, none, 0, none, 0,
                 none, 0).number
@@ -48,5 +51,8 @@ int main(void)
             != SUCCORYVISE_AREA
         || follow(none, 0, 0, 0).number != SUCCORYVISE_LAYOUT
         || read_log(none, 0, none, 0, none, 0).number != SUCCORYVISE_TOWER_SIZE
+        || why(none, 0, none, 0, none, 0, none, 0, none, 0, none, 0, none, 0, none, 0, none, 0, none, 0)
+                   .number
+            != SUCCORYVISE_AREA
         || succoryvise_version() != SUCCORYVISE_VERSION;
 }

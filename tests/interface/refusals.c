@@ -1,5 +1,5 @@
 /* Every refusal through the interface for C, by the examples of the paper's table; and after every call
- * the output, the areas and the inputs are as they have to be. Each block of memory has just the
+ * the output, the list, the areas and the inputs are as they have to be. Each block of memory has just the
  * length that is told, so that a tool such as valgrind sees a byte read or written beside it. */
 #include "succoryvise.h"
 
@@ -7,7 +7,7 @@
 #include <stdlib.h>
 #include <string.h>
 
-/* The areas of the maker. The checker borrows the first ones of them. */
+/* The areas of the maker. The checker borrows the first ones of them, and so does what shows why. */
 #define AREAS 8
 #define CHECKER_AREAS 6
 static const size_t least[AREAS] = {
@@ -115,7 +115,8 @@ static void give_back(struct bytes *areas, int n, struct succoryvise_answer answ
     }
 }
 
-/* Compares number, place and letter; and a refusal has no values. */
+/* Compares number, place and letter; and a refusal has no values. No function but the one that shows why has
+ * a third value. */
 static void expect(const char *what, struct succoryvise_answer answer, uint32_t number, size_t place,
                    int letter)
 {
@@ -123,7 +124,6 @@ static void expect(const char *what, struct succoryvise_answer answer, uint32_t 
 
     if (number != SUCCORYVISE_DONE)
         holds = holds && answer.first == 0 && answer.second == 0;
-    /* No function has a third value. */
     holds = holds && answer.third == 0;
     count(holds, what, "the answer");
     if (!holds)
@@ -191,6 +191,72 @@ static struct succoryvise_answer check(const char *what, struct bytes tower, str
     free(book.at);
     free(file.at);
     return answer;
+}
+
+/* Shows why in a list of this length, and keeps a copy of the run in 'run' if that is not null. */
+static struct succoryvise_answer why(const char *what, struct bytes tower, struct bytes text,
+                                     struct bytes table, size_t room, struct bytes *run)
+{
+    struct bytes before = copy_of(tower.at, tower.length), book = copy_of(text.at, text.length);
+    struct bytes file = copy_of(table.at, table.length), list = full_of(BEFORE, room);
+    struct bytes areas[CHECKER_AREAS];
+    struct succoryvise_answer answer;
+
+    borrow(areas, CHECKER_AREAS);
+    answer = succoryvise_why(tower.at, tower.length, text.at, text.length, table.at, table.length,
+                             list.at, list.length, areas[0].at, areas[0].length, areas[1].at,
+                             areas[1].length, areas[2].at, areas[2].length, areas[3].at, areas[3].length,
+                             areas[4].at, areas[4].length, areas[5].at, areas[5].length);
+    count(same(tower, before) && same(text, book) && same(table, file), what, "an input has changed");
+    count(answer.first <= room && all(list, answer.first, BEFORE), what,
+          "the list has changed behind the run");
+    give_back(areas, CHECKER_AREAS, answer, what);
+    free(before.at);
+    free(book.at);
+    free(file.at);
+    if (run != NULL)
+        *run = copy_of(list.at, answer.first);
+    free(list.at);
+    return answer;
+}
+
+/* Checks a table and has it explained, in no list and in one that is long enough: the answers are the same,
+ * and no 14 e. */
+static void judge(const char *what, struct bytes tower, struct bytes text, struct bytes table,
+                  uint32_t number, size_t place, int letter)
+{
+    expect(what, check(what, tower, text, table), number, place, letter);
+    expect(what, why(what, tower, text, table, 0, NULL), number, place, letter);
+    expect(what, why(what, tower, text, table, SUCCORYVISE_RUN_MOST, NULL), number, place, letter);
+}
+
+/* Has a table of which an allowed run is broken explained: that is the run, with the line and the position, and
+ * a list that is shorter is 16. */
+static void judge_run(const char *what, struct bytes tower, struct bytes text, struct bytes table,
+                      struct bytes run, size_t line, size_t position)
+{
+    size_t rooms[4], i;
+
+    rooms[0] = 0;
+    rooms[1] = run.length - 1;
+    rooms[2] = run.length;
+    rooms[3] = run.length + 77;
+    expect(what, check(what, tower, text, table), SUCCORYVISE_NOT_GOOD, 0, SUCCORYVISE_BROKEN);
+    for (i = 0; i < 4; i++) {
+        struct bytes shown;
+        struct succoryvise_answer answer = why(what, tower, text, table, rooms[i], &shown);
+        size_t third = answer.third;
+
+        if (rooms[i] < run.length) {
+            expect(what, answer, SUCCORYVISE_OUTPUT, 0, 0);
+        } else {
+            answer.third = 0;
+            expect(what, answer, SUCCORYVISE_DONE, 0, 0);
+            count(same(shown, run), what, "the run");
+            count(answer.second == line && third == position, what, "the line and the position");
+        }
+        free(shown.at);
+    }
 }
 
 static struct succoryvise_answer follow(const char *what, struct bytes table, size_t row, size_t action)
@@ -330,13 +396,13 @@ static struct bytes with(const uint8_t *file, size_t length, size_t at, uint8_t 
     return bytes;
 }
 
-/* A tower that is refused, by all three that read one; the log is not read. */
+/* A tower that is refused, by all that read one; the log is not read. */
 static void bad_tower(const char *what, struct bytes tower, uint32_t number)
 {
     struct bytes text = text_of(book_1), table = table_1(), log = text_of("x");
 
     expect(what, make(what, tower, text, SUCCORYVISE_TABLE_MOST, NULL), number, 0, 0);
-    expect(what, check(what, tower, text, table), number, 0, 0);
+    judge(what, tower, text, table, number, 0, 0);
     expect(what, read_log(what, tower, table, log), number, 0, 0);
     free(tower.at);
     free(text.at);
@@ -344,34 +410,45 @@ static void bad_tower(const char *what, struct bytes tower, uint32_t number)
     free(log.at);
 }
 
-/* A book that is refused, by all three that read one. */
+/* A book that is refused, by all that read one. */
 static void bad_book(const char *what, struct bytes text, uint32_t number, size_t line)
 {
     struct bytes tower = copy_of(small_tower, sizeof small_tower), table = table_1();
 
     expect(what, read_book(what, 3, text), number, line, 0);
     expect(what, make(what, tower, text, SUCCORYVISE_TABLE_MOST, NULL), number, line, 0);
-    expect(what, check(what, tower, text, table), number, line, 0);
+    judge(what, tower, text, table, number, line, 0);
     free(tower.at);
     free(text.at);
     free(table.at);
 }
 
-/* A table that is not good for the small tower. Without a book, a to d come before the log is read, and e
- * never comes. */
-static void bad_table(const char *what, struct bytes table, const char *book, size_t row, int letter)
+/* A table that is not good for the small tower, by a to d, which come before the log is read. */
+static void bad_table(const char *what, struct bytes table, size_t row, int letter)
 {
-    struct bytes tower = copy_of(small_tower, sizeof small_tower), text = text_of(book);
+    struct bytes tower = copy_of(small_tower, sizeof small_tower), text = text_of("");
     struct bytes log = text_of("x");
 
-    expect(what, check(what, tower, text, table), SUCCORYVISE_NOT_GOOD, row, letter);
-    if (letter == SUCCORYVISE_BROKEN)
-        expect(what, read_log(what, tower, table, log), SUCCORYVISE_LOG, 0, 0);
-    else
-        expect(what, read_log(what, tower, table, log), SUCCORYVISE_NOT_GOOD, row, letter);
+    judge(what, tower, text, table, SUCCORYVISE_NOT_GOOD, row, letter);
+    expect(what, read_log(what, tower, table, log), SUCCORYVISE_NOT_GOOD, row, letter);
     free(tower.at);
     free(text.at);
     free(table.at);
+    free(log.at);
+}
+
+/* One of which this run is broken. Without a book, e never comes. */
+static void broken_table(struct bytes table, const char *book, const char *actions, size_t length,
+                         size_t line, size_t position)
+{
+    struct bytes tower = copy_of(small_tower, sizeof small_tower), text = text_of(book);
+    struct bytes run = copy_of(actions, length), log = text_of("x");
+
+    judge_run(book, tower, text, table, run, line, position);
+    expect(book, read_log(book, tower, table, log), SUCCORYVISE_LOG, 0, 0);
+    free(tower.at);
+    free(text.at);
+    free(run.at);
     free(log.at);
 }
 
@@ -440,11 +517,23 @@ static void books(void)
     bad_book("start U 1 (T, E 1 p0)", text_of("start U 1 (T, E 1 p0)\n"), SUCCORYVISE_TIMED, 0);
 }
 
+/* A table that is good: there is nothing to show. */
+static void good_table(const char *what, struct bytes tower, struct bytes text, struct bytes table)
+{
+    struct succoryvise_answer answer = why(what, tower, text, table, SUCCORYVISE_RUN_MOST, NULL);
+
+    judge(what, tower, text, table, SUCCORYVISE_DONE, 0, 0);
+    count(answer.first == 0 && answer.second == 0, what, "nothing to show");
+}
+
 /* The ring of 200 states: 1,000 pairs are enough, and one more is 11. */
 static void pairs(void)
 {
     struct bytes tower = full_of(0, 8 + 2 + 200 * 3), most = text_of("start A 200 A 200 A 200 A 199 T\n");
     struct bytes over = text_of("start A 200 A 200 A 200 A 200 T\n"), table;
+    struct bytes laps = text_of("start A 199 (!p0 | N > 0 A 199 (!p0 | N > 0 A 199 (!p0 | N > 0 "
+                                "A 199 (!p0 | N > 0 A 199 !p0))))\n");
+    struct bytes run = full_of(0, SUCCORYVISE_RUN_MOST);
     size_t i;
 
     memcpy(tower.at, "\xC8\x01\x00\x00\x08\x00\x0A\x00\x01\x01", 10);
@@ -453,13 +542,19 @@ static void pairs(void)
     expect("1,000 pairs", make("1,000 pairs", tower, most, SUCCORYVISE_TABLE_MOST, &table),
            SUCCORYVISE_DONE, 0, 0);
     count(table.length == action_at(200, 200), "1,000 pairs", "200 rows of one step");
-    expect("1,000 pairs", check("1,000 pairs", tower, most, table), SUCCORYVISE_DONE, 0, 0);
+    good_table("1,000 pairs", tower, most, table);
     expect("1,001 pairs", make("1,001 pairs", tower, over, SUCCORYVISE_TABLE_MOST, NULL),
            SUCCORYVISE_PAIRS, 0, 0);
-    expect("1,001 pairs", check("1,001 pairs", tower, over, table), SUCCORYVISE_PAIRS, 0, 0);
+    judge("1,001 pairs", tower, over, table, SUCCORYVISE_PAIRS, 0, 0);
+
+    /* A promise that is handed on from lap to lap, and broken as the fifth is over. */
+    tower.at[2] = tower.at[10 + 3 * 199] = 1;
+    judge_run("1,000 actions", tower, laps, table, run, 0, 0);
     free(tower.at);
     free(most.at);
     free(over.at);
+    free(laps.at);
+    free(run.at);
     free(table.at);
 }
 
@@ -477,10 +572,10 @@ static void alternatives(void)
     expect("no rules", make("no rules", tower, none, SUCCORYVISE_TABLE_MOST, &table), SUCCORYVISE_DONE, 0, 0);
     expect("16 alternatives", make("16 alternatives", tower, most, SUCCORYVISE_TABLE_MOST, &other),
            SUCCORYVISE_DONE, 0, 0);
-    expect("16 alternatives", check("16 alternatives", tower, most, other), SUCCORYVISE_DONE, 0, 0);
+    good_table("16 alternatives", tower, most, other);
     expect("20 alternatives", make("20 alternatives", tower, over, SUCCORYVISE_TABLE_MOST, NULL),
            SUCCORYVISE_ALTERNATIVES, 0, 0);
-    expect("20 alternatives", check("20 alternatives", tower, over, table), SUCCORYVISE_ALTERNATIVES, 0, 0);
+    judge("20 alternatives", tower, over, table, SUCCORYVISE_ALTERNATIVES, 0, 0);
     free(tower.at);
     free(none.at);
     free(most.at);
@@ -508,28 +603,30 @@ static void tables(void)
         count(!fits || same(made, table), "book 1", "its table");
         free(made.at);
     }
-    expect("table 1", check("table 1", tower, text, table), SUCCORYVISE_DONE, 0, 0);
+    good_table("table 1", tower, text, table);
 
     outside = table_1_with(target_at(ROWS_1, 0), ROWS_1);
-    expect("target row = rows", check("target row = rows", tower, text, outside),
-           SUCCORYVISE_LAYOUT, 0, 0);
+    judge("target row = rows", tower, text, outside, SUCCORYVISE_LAYOUT, 0, 0);
     expect("target row = rows", follow("target row = rows", outside, 0, 0), SUCCORYVISE_LAYOUT, 0, 0);
     expect("target row = rows", read_log("target row = rows", tower, outside, none), SUCCORYVISE_LAYOUT, 0,
            0);
     free(outside.at);
-    bad_table("row 0 of state 1", table_1_with(state_at(0), 1), "", 0, SUCCORYVISE_START);
-    bad_table("action 0 for 1", table_1_with(action_at(ROWS_1, 2), 0), "", 1, SUCCORYVISE_WITHHELD);
-    bad_table("target row 1 for 4", table_1_with(target_at(ROWS_1, 3), 1), "", 2, SUCCORYVISE_WRONG_STEP);
-    bad_table("no step", table_of(&stopped, 1), "", 0, SUCCORYVISE_STOPPED);
+    bad_table("row 0 of state 1", table_1_with(state_at(0), 1), 0, SUCCORYVISE_START);
+    bad_table("action 0 for 1", table_1_with(action_at(ROWS_1, 2), 0), 1, SUCCORYVISE_WITHHELD);
+    bad_table("target row 1 for 4", table_1_with(target_at(ROWS_1, 3), 1), 2, SUCCORYVISE_WRONG_STEP);
+    bad_table("no step", table_of(&stopped, 1), 0, SUCCORYVISE_STOPPED);
     expect("book 5", make("book 5", tower, none, action_at(3, 4), &made), SUCCORYVISE_DONE, 0, 0);
-    bad_table("table 5 under book 1", made, book_1, 0, SUCCORYVISE_BROKEN);
+    broken_table(made, book_1, "\0\1\0\1", 4, 1, 0);
+    broken_table(made, "start F\n", "\0", 1, 0, 0);
+    broken_table(made, "always T\nalways !p1\nalways !p2\n", "\0\1", 2, 1, 1);
+    broken_table(made, "always !p2 | E 1 p1\n", "\2\3\0", 3, 0, 1);
+    free(made.at);
 
     /* The player's key in place of the clock's train: rows 1 and 2 wait for the player alone. */
     tower.at[11] = tower.at[15] = 0;
     expect("the player alone", make("the player alone", tower, none, SUCCORYVISE_TABLE_MOST, NULL),
            SUCCORYVISE_NO_TABLE, 0, 0);
-    expect("the player alone", check("the player alone", tower, text, table), SUCCORYVISE_NOT_GOOD, 1,
-           SUCCORYVISE_STOPPED);
+    judge("the player alone", tower, text, table, SUCCORYVISE_NOT_GOOD, 1, SUCCORYVISE_STOPPED);
 
     expect("row 5 of 5", follow("row 5 of 5", table, 5, 0), SUCCORYVISE_OUTSIDE, 0, 0);
     expect("action 4 of 4", follow("action 4 of 4", table, 0, 4), SUCCORYVISE_OUTSIDE, 0, 0);
@@ -559,7 +656,7 @@ static void areas(void)
         lent[short_one] = i % 2 == 0 ? 0 : least[short_one] - 1;
         expect("short area", make("short area", tower, text, table.length, NULL), SUCCORYVISE_AREA, 0, 0);
         if (short_one < CHECKER_AREAS)
-            expect("short area", check("short area", tower, text, table), SUCCORYVISE_AREA, 0, 0);
+            judge("short area", tower, text, table, SUCCORYVISE_AREA, 0, 0);
         if (short_one < 1)
             expect("short area", read_book("short area", 17, text), SUCCORYVISE_AREA, 0, 0);
         lent[short_one] = least[short_one];

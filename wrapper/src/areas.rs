@@ -1,6 +1,6 @@
 //! The work areas that the entries borrow, kept for the next call.
 
-use crate::{values, Refusal, LARGEST_TABLE};
+use crate::{values, BrokenRun, Refusal, LARGEST_TABLE, LONGEST_RUN};
 use succoryvise_sys::{self as sys, AREAS, CHECKER_AREAS, MAKER_AREAS};
 
 /// The first areas, on the heap, each of its least length.
@@ -17,6 +17,27 @@ impl<const N: usize> Areas<N> {
         let first = self.0.first_chunk_mut().expect("so many areas");
         first.each_mut().map(|area| &mut **area)
     }
+}
+
+/// Shows why, in the areas of the checker. A list of the longest run is never too short.
+fn why(
+    tower: &[u8],
+    text: &[u8],
+    table: &[u8],
+    areas: [&mut [u8]; CHECKER_AREAS],
+) -> Result<Option<BrokenRun>, Refusal> {
+    let mut actions = vec![0; LONGEST_RUN];
+    let [length, line, position] = values(sys::why(tower, text, table, &mut actions, areas))?;
+    if length == 0 {
+        return Ok(None);
+    }
+    actions.truncate(length);
+    actions.shrink_to_fit();
+    Ok(Some(BrokenRun {
+        actions,
+        line,
+        position,
+    }))
 }
 
 /// Checks tables, always with the same memory.
@@ -46,6 +67,17 @@ impl Checker {
     pub fn check(&mut self, tower: &[u8], text: &[u8], table: &[u8]) -> Result<(), Refusal> {
         values(sys::check(tower, text, table, self.areas.lend()))?;
         Ok(())
+    }
+
+    /// A run that shows why a table is turned down as [`Broken`](crate::Reason::Broken), as
+    /// [`why`](crate::why()).
+    pub fn why(
+        &mut self,
+        tower: &[u8],
+        text: &[u8],
+        table: &[u8],
+    ) -> Result<Option<BrokenRun>, Refusal> {
+        why(tower, text, table, self.areas.lend())
     }
 }
 
@@ -112,6 +144,17 @@ impl Maker {
     pub fn check(&mut self, tower: &[u8], text: &[u8], table: &[u8]) -> Result<(), Refusal> {
         values(sys::check(tower, text, table, self.areas.lend()))?;
         Ok(())
+    }
+
+    /// A run that shows why a table is turned down as [`Broken`](crate::Reason::Broken), as
+    /// [`why`](crate::why()), with the maker's memory.
+    pub fn why(
+        &mut self,
+        tower: &[u8],
+        text: &[u8],
+        table: &[u8],
+    ) -> Result<Option<BrokenRun>, Refusal> {
+        why(tower, text, table, self.areas.lend())
     }
 }
 

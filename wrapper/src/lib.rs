@@ -2,10 +2,10 @@
 //!
 //! A play table tells a tower's clavier which actions it may release after all that has happened so
 //! far. This crate reads rule books ([`read_book`]), makes the table for a tower and a book
-//! ([`make()`]), checks anybody's table ([`check`]), follows a table by one action ([`follow`]) and
-//! holds a stroke log against a table ([`read_log`]). It is a thin layer over the archive of the Rattle
-//! crate of the same name, in which the answers are proved for every input; what this layer adds, types
-//! and the memory that is lent, is plain Rust.
+//! ([`make()`]), checks anybody's table ([`check`]), follows a table by one action ([`follow`]), holds a
+//! stroke log against a table ([`read_log`]) and shows a run that breaks a rule ([`why`]). It is a thin
+//! layer over the archive of the Rattle crate of the same name, in which the answers are proved for every
+//! input; what this layer adds, types and the memory that is lent, is plain Rust.
 //!
 //! The words tower file, rule book, table, row and refusal are those of the paper 'Play tables for
 //! bell towers'; `docs/FORMATS.md` has every byte of the files.
@@ -78,6 +78,9 @@ pub const LARGEST_BOOK: usize = 4_096;
 /// The most bytes that a table file has: 1,000 rows of 16 steps. An output of this length is enough
 /// for every table.
 pub const LARGEST_TABLE: usize = 52_012;
+
+/// The most actions of a run that is shown.
+pub const LONGEST_RUN: usize = 1_000;
 
 /// What a rule book has. There may be more to tell in time.
 #[derive(Clone, Copy, Debug, PartialEq, Eq)]
@@ -207,4 +210,40 @@ pub fn read_log(tower: &[u8], table: &[u8], log: &[u8]) -> Result<LogReading, Re
         0 => LogReading::Row(second),
         _ => LogReading::Line(second),
     })
+}
+
+/// A run that a table allows and that breaks a rule. There may be more to tell in time.
+#[derive(Clone, Debug, PartialEq, Eq)]
+#[non_exhaustive]
+pub struct BrokenRun {
+    /// The actions, at least one and at most [`LONGEST_RUN`].
+    pub actions: Vec<u8>,
+    /// The lowest line of the book that the run breaks, from 0.
+    pub line: usize,
+    /// The lowest position where the formula of that line is not kept: so many actions come before it.
+    /// For a `start` line it is 0.
+    pub position: usize,
+}
+
+/// Why a table is turned down as [`Broken`](Reason::Broken): a shortest run that it allows and that breaks
+/// a rule, and of those the first by its actions compared from the left; or nothing where the table is good.
+///
+/// It borrows about 200 KiB from the heap; to ask for many tables with the same memory, use a [`Checker`].
+/// The refusals are those of [`check`], but for that one.
+///
+/// ```
+/// # let tower = include_bytes!("../../examples/small-tower/tower.bin");
+/// use succoryvise::{make, why};
+///
+/// let book = b"always !p0 | E 3 p1\nalways !p0 | E 3 p2\n";
+/// let table = make(tower, b"").unwrap();
+/// let run = why(tower, book, &table).unwrap().expect("a broken run");
+/// assert_eq!(run.actions, [0, 1, 0, 1]); // the first bell twice
+/// assert_eq!((run.line, run.position), (1, 0)); // and the other one is late
+///
+/// let table = make(tower, book).unwrap();
+/// assert_eq!(why(tower, book, &table), Ok(None));
+/// ```
+pub fn why(tower: &[u8], text: &[u8], table: &[u8]) -> Result<Option<BrokenRun>, Refusal> {
+    Checker::new().why(tower, text, table)
 }

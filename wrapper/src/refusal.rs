@@ -82,7 +82,8 @@ pub enum Refusal {
     NotGood(Reason),
     /// 15: a work area is too short. This crate lends areas that are long enough.
     Area,
-    /// 16: the output is too short for the table.
+    /// 16: the output is too short for the table, or the list for the run. This crate lends lists that are
+    /// long enough.
     Output,
     /// 17: the row or the action is outside the table.
     Outside,

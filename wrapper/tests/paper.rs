@@ -8,8 +8,8 @@ use reference::table::{action_at, state_at, target_at};
 use std::fs;
 use std::path::Path;
 use std::thread;
-use succoryvise::{check, follow, make, read_book, read_log};
-use succoryvise::{LogReading, Maker, Player, Reason, Refusal};
+use succoryvise::{check, follow, make, read_book, read_log, why};
+use succoryvise::{Checker, LogReading, Maker, Player, Reason, Refusal};
 
 /// A file of the examples.
 fn example(name: &str) -> Vec<u8> {
@@ -61,6 +61,7 @@ fn towers_that_are_not_fit() {
         assert_eq!(make(&tower, BOOK_1), Err(refusal));
         assert_eq!(check(&tower, BOOK_1, &table_1()), Err(refusal));
         assert_eq!(read_log(&tower, &table_1(), b"x"), Err(refusal));
+        assert_eq!(why(&tower, BOOK_1, &table_1()), Err(refusal));
     }
     assert_eq!(read_book(17, BOOK_1), Err(Refusal::Range));
 }
@@ -81,6 +82,7 @@ fn books_that_are_not_fit() {
         assert_eq!(refused(read_book(3, &book)), refusal);
         assert_eq!(refused(make(&SMALL_TOWER, &book)), refusal);
         assert_eq!(refused(check(&SMALL_TOWER, &book, &table_1())), refusal);
+        assert_eq!(refused(why(&SMALL_TOWER, &book, &table_1())), refusal);
     }
 }
 
@@ -93,6 +95,7 @@ fn no_table_and_too_many_pairs() {
     assert_eq!(make(&ring, &over), Err(Refusal::Pairs));
     let any = make(&ring, b"").expect("a table for the ring");
     assert_eq!(check(&ring, &over, &any), Err(Refusal::Pairs));
+    assert_eq!(why(&ring, &over, &any), Err(Refusal::Pairs));
 }
 
 #[test]
@@ -103,6 +106,7 @@ fn either_of_two_promises() {
     assert_eq!(make(&SMALL_TOWER, &over), Err(Refusal::Alternatives));
     let any = make(&SMALL_TOWER, b"").expect("a table for the small tower");
     assert_eq!(check(&SMALL_TOWER, &over, &any), Err(Refusal::Alternatives));
+    assert_eq!(why(&SMALL_TOWER, &over, &any), Err(Refusal::Alternatives));
 }
 
 #[test]
@@ -122,11 +126,36 @@ fn tables_that_are_not_fit_or_not_good() {
     for (table, refusal) in tables {
         assert_eq!(refused(check(&SMALL_TOWER, b"", &table)), refusal);
         assert_eq!(refused(read_log(&SMALL_TOWER, &table, b"x")), refusal);
+        assert_eq!(refused(why(&SMALL_TOWER, b"", &table)), refusal);
     }
     let all = make(&SMALL_TOWER, b"").expect("outcome 5");
     let broken = check(&SMALL_TOWER, BOOK_1, &all);
     assert_eq!(broken, Err(Refusal::NotGood(Reason::Broken)));
     assert_eq!(read_log(&SMALL_TOWER, &all, b""), Ok(LogReading::Row(0)));
+}
+
+/// The run of a table, with the line and the position; and nothing for a good table, with the same memory.
+#[test]
+fn runs_that_show_why() {
+    let all = make(&SMALL_TOWER, b"").expect("outcome 5");
+    let (mut checker, mut maker) = (Checker::new(), Maker::new());
+    for (book, actions, line, position) in [
+        (BOOK_1, &[0, 1, 0, 1][..], 1, 0),
+        (b"start E 1 p1\n", &[2, 3], 0, 0),
+        (b"always T\nalways !p1\nalways !p2\n", &[0, 1], 1, 1),
+        (b"always !p1 | N > 0 N > 0 F\n", &[0, 1, 0, 1], 0, 1),
+    ] {
+        let shown = why(&SMALL_TOWER, book, &all);
+        let run = shown.clone().expect("an answer").expect("a run");
+        assert_eq!(
+            (&run.actions[..], run.line, run.position),
+            (actions, line, position)
+        );
+        assert_eq!(checker.why(&SMALL_TOWER, book, &all), shown);
+        assert_eq!(maker.why(&SMALL_TOWER, book, &all), shown);
+        assert_eq!(checker.why(&SMALL_TOWER, BOOK_1, &table_1()), Ok(None));
+        assert_eq!(maker.why(&SMALL_TOWER, BOOK_1, &table_1()), Ok(None));
+    }
 }
 
 /// With the player's key in place of the clock's train the small tower has stopped.

@@ -1,4 +1,4 @@
-//! The five entries in plain Rust, as one would write them for speed and without proofs: what is
+//! The six entries in plain Rust, as one would write them for speed and without proofs: what is
 //! read lies in arrays of fixed size, and the room of the searches is kept from call to call.
 
 pub mod alternatives;
@@ -13,6 +13,7 @@ pub mod pending;
 pub mod search;
 pub mod table;
 pub mod tower;
+pub mod why;
 
 /// Why a call is turned down: number, place, and the letter of a 14.
 #[derive(Clone, Copy, Debug, PartialEq, Eq)]

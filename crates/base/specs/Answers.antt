@@ -18,6 +18,8 @@ use Rattle.base.specs.declared.FollowAnswer.{FollowAnswer}
 use Rattle.base.specs.declared.FollowAnswer.the-variants as Follow
 use Rattle.base.specs.declared.LogAnswer.{LogAnswer}
 use Rattle.base.specs.declared.LogAnswer.the-variants as Logged
+use Rattle.base.specs.declared.WhyAnswer.{WhyAnswer}
+use Rattle.base.specs.declared.WhyAnswer.the-variants as Shows
 
 -- What the papers say of an answer: its values; or number and place of a refusal, with the reason's letter inside a 14.
 pub data Said : Type 0 where
@@ -119,6 +121,13 @@ log-said (Logged.Row row) = answered (0 ∷ row ∷ [])
 log-said (Logged.Line line) = answered (1 ∷ line ∷ [])
 log-said (Logged.NotGood reason) = reason-said reason
 log-said (Logged.Refused r) = refusal-said r
+
+-- the values where a broken run is shown: its length, the line and the position; for a good table there are none, as in the checker's answer
+unfoldable pub why-said : WhyAnswer → Said
+why-said (Shows.Shown length line position) = answered (length ∷ line ∷ position ∷ [])
+why-said Shows.Good = answered []
+why-said (Shows.NotGood reason) = reason-said reason
+why-said (Shows.Refused r) = refusal-said r
 
 -- What a definition gives: a value, or the refusal in its place.
 pub data Answer (A : Type 0) : Type 0 where

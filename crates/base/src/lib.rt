@@ -1,4 +1,4 @@
-// The answers of the five entries, and the one type of refusal that they share.
+// The answers of the six entries, and the one type of refusal that they share.
 // 01, 'Why a call is turned down', and 02; specs/Answers.antt gives number, place and values of every case.
 
 // Why the checker does not call a table good: the letter of 01, with the row for b to d.
@@ -91,6 +91,21 @@ pub enum LogAnswer {
     // The first line that does not fit.
     Line(usize),
     // 14: the table is not good, for a reason from a to d.
+    NotGood(Reason),
+    Refused(Refusal),
+}
+
+// What the entry answers that shows why a table is not good.
+pub enum WhyAnswer {
+    // 14 e: the length of a shortest allowed run that is broken, which is in the lent list; the lowest line that it
+    // breaks; and the position.
+    Shown {
+        length: usize,
+        line: usize,
+        position: usize,
+    },
+    // The checker's own answer, where it is another.
+    Good,
     NotGood(Reason),
     Refused(Refusal),
 }

@@ -5,3 +5,4 @@ pub mod Sides
 pub mod Runs
 pub mod Tables
 pub mod TableFile
+pub mod Why

@@ -25,11 +25,11 @@ use Rattle.outcome.proofs.Items.{rows-listed, all-walked, none-found}
 use Rattle.outcome.proofs.Counted.{over-items-iff, over-full-items-iff}
 
 module _ (tower : Tower) (book : Book) (table : Table) (known : Judgeable tower book table) where
-  right-follows : RightBelow tower table (length table) → FollowsRuns tower table
+  pub right-follows : RightBelow tower table (length table) → FollowsRuns tower table
   right-follows right = record { is-table = known .is-table; start = right .a; steps = λ r lt. right .rows r lt .c }
 
   -- what is allowed is one of the tower's actions
-  right-listed : RightBelow tower table (length table) → Listed (rows-tower tower table)
+  pub right-listed : RightBelow tower table (length table) → Listed (rows-tower tower table)
   right-listed right = rows-listed tower table (known .listed) (right-follows right)
 
   pub good-right : Good tower book table → RightBelow tower table (length table)

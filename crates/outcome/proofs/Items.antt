@@ -85,7 +85,7 @@ module _ (tower : Tower) (book : Book) (table : Table) where
     item-enabled r a s to = follows .steps r (move-inside table r a s to) a s to
 
     -- It is a step that is tried from its pair.
-    item-pair : (v w : Pair) (a : ℕ) → pair-step rows book v a ≡ some w
+    pub item-pair : (v w : Pair) (a : ℕ) → pair-step rows book v a ≡ some w
         → tried-step tower book (pair-of (v .state) (v .pending)) a ≡ some (pair-of (w .state) (w .pending))
     item-pair v w a e =
         let (to, next, stands) = item-step-out v w a e in
@@ -131,7 +131,7 @@ module _ (tower : Tower) (book : Book) (table : Table) where
     -- ---- a broken step is found, so some allowed run is broken
 
     -- Where rows with what is pending lead, so do their pairs.
-    pairs-lead : (v u : Pair) (w : List ℕ) → leads (pair-step rows book) v w ≡ some u
+    pub pairs-lead : (v u : Pair) (w : List ℕ) → leads (pair-step rows book) v w ≡ some u
         → leads (tried-step tower book) (pair-of (v .state) (v .pending)) w ≡ some (pair-of (u .state) (u .pending))
     pairs-lead v u [] e =
         leads-nil (tried-step tower book) (pair-of (v .state) (v .pending))
@@ -152,6 +152,22 @@ module _ (tower : Tower) (book : Book) (table : Table) where
               ∙ pairs-lead (first-pair rows book) v w e;
         }
 
+    -- From a row that is not over-full an allowed action makes a step that leads on, if what is pending there meets it.
+    pub meets-steps : FitBook book → Listed rows → (v : Pair) (a t : ℕ) → over-full rows book v ≡ false → move table (v .state) a ≡ some t
+        → FulfilsOne tower book (row-at table (v .state) .state) (v .pending) (a ∷ []) → (w : Pair) × (pair-step rows book v a ≡ some w)
+    unfolding rows-tower
+    meets-steps fit listed v a t spare to meets =
+        let (u, led) =
+        meets-leads tower book fit (pair-of (v .state) (v .pending)) (a ∷ []) (row-at table t .state)
+        (one-not-over tower book (pair-of (v .state) (v .pending)) a (λ many. spare-not-over rows book listed v a t spare to (item-by v a ∙ many)))
+        (leads-one (tower .target) (row-at table (v .state) .state) a ∙ item-enabled (v .state) a t to) meets in
+        let (goes, next, stands) =
+        tried-step-out tower book (pair-of (v .state) (v .pending)) u a (sym (leads-one (tried-step tower book) (pair-of (v .state) (v .pending)) a) ∙ led) in (
+          record { state = t; pending = u .pending },
+          item-step-in v (record { state = t; pending = u .pending }) a spare to next
+              (record { first = stands .first; others = stands .others; are = stands .are }),
+        )
+
     module _ (fit : FitBook book) (listed : Listed rows) (none : NoneBroken tower book table) where
       -- behind a run to a row with what is pending, what is pending there meets every allowed action
       meets-allowed : (v : Pair) (a t : ℕ) → RunTo v → move table (v .state) a ≡ some t
@@ -165,18 +181,7 @@ module _ (tower : Tower) (book : Book) (table : Table) where
       -- so an allowed action makes an unbroken step from a row that is not over-full
       step-whole : (v : Pair) (a t : ℕ) → over-full rows book v ≡ false → RunTo v → move table (v .state) a ≡ some t
           → is-there (pair-step rows book v a) ≡ true
-      unfolding rows-tower
-      step-whole v a t spare before to =
-          let enabled = item-enabled (v .state) a t to in
-          let (u, led) =
-          meets-leads tower book fit (pair-of (v .state) (v .pending)) (a ∷ []) (row-at table t .state)
-          (one-not-over tower book (pair-of (v .state) (v .pending)) a (λ many. spare-not-over rows book listed v a t spare to (item-by v a ∙ many)))
-          (leads-one (tower .target) (row-at table (v .state) .state) a ∙ enabled) (meets-allowed v a t before to) in
-          let (goes, next, stands) =
-          tried-step-out tower book (pair-of (v .state) (v .pending)) u a (sym (leads-one (tried-step tower book) (pair-of (v .state) (v .pending)) a) ∙ led) in
-          is-there-in
-          (item-step-in v (record { state = t; pending = u .pending }) a spare to next
-          (record { first = stands .first; others = stands .others; are = stands .are }))
+      step-whole v a t spare before to = let (w, e) = meets-steps fit listed v a t spare to (meets-allowed v a t before to) in is-there-in e
 
       -- where no allowed run is broken and none of them is over-full, no step is broken
       pub none-found : over-alternatives rows book ≡ false → some-broken rows book ≡ false

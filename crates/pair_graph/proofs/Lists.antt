@@ -28,14 +28,14 @@ pub cell-in : (graph : List ℕ) (actions i a j : ℕ) → actions ≤ 16 → a 
 cell-in graph actions i a j most l e = record { action = omega arith; leads = sym (cell-move graph i a) ∙ e }
 
 -- A number below 2 leads nowhere.
-low-nowhere : (k j : ℕ) → k < 2 → move-of k ≡ to j → ⊥
+pub low-nowhere : (k j : ℕ) → k < 2 → move-of k ≡ to j → ⊥
 unfolding move-of
 low-nowhere zero j l e = let z : _≡_ {A = ℕ} 0 1 = cc in omega arith
 low-nowhere (suc zero) j l e = let z : _≡_ {A = ℕ} 0 1 = cc in omega arith
 low-nowhere (suc (suc k)) j l e = omega arith
 
 -- A move leads to one pair.
-one-target : (m : Move) (j k : ℕ) → m ≡ to j → m ≡ to k → k ≡ j
+pub one-target : (m : Move) (j k : ℕ) → m ≡ to j → m ≡ to k → k ≡ j
 one-target m j k e f = cc
 
 -- ---- the loops

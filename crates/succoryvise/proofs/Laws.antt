@@ -2,21 +2,24 @@
 use Prim.Native.Nat.{ℕ}
 use mathlib.Core.Path.{_≡_, sym, _∙_, ap}
 use mathlib.Core.List.{List, [], _∷_}
-use Rattle.base.specs.Answers.{Said, row-of, letter-of, refusal-number, refusal-place, refusal-said, reason-said, book-said, make-said, verdict-said, follow-said, log-said}
+use Rattle.base.specs.Answers.{Said, row-of, letter-of, refusal-number, refusal-place, refusal-said, reason-said, book-said, make-said, verdict-said, follow-said, log-said, why-said}
 use Rattle.base.specs.declared.BookAnswer.{BookAnswer}
 use Rattle.base.specs.declared.MakeAnswer.{MakeAnswer}
 use Rattle.base.specs.declared.Verdict.{Verdict}
+use Rattle.base.specs.declared.WhyAnswer.{WhyAnswer}
 use Rattle.outcome.specs.ReadBook.{read-outcome}
 use Rattle.outcome.specs.Make.{make-outcome}
 use Rattle.outcome.specs.Check.{check-outcome}
+use Rattle.why_outcome.specs.Why.{why-outcome}
 use Rattle.book_reader.specs.Lines.{Outcome}
 use Rattle.checker.specs.Checking.{Checks}
 use Rattle.maker.specs.Making.{Makes}
+use Rattle.why.specs.Showing.{Explains}
 use Rattle.base.specs.declared.Reason.{Reason}
 use Rattle.base.specs.declared.Refusal.{Refusal}
 use Rattle.succoryvise.specs.Shown.{shown}
 use Rattle.succoryvise.specs.declared.answer.Answer.{Answer}
-use Rattle.succoryvise.specs.Entries.{BookShown, MakeShown, CheckShown}
+use Rattle.succoryvise.specs.Entries.{BookShown, MakeShown, CheckShown, WhyShown}
 
 -- an answer without values
 abbrev without-values : ℕ → ℕ → ℕ → Answer
@@ -71,5 +74,15 @@ pub check-by : (o x : Verdict) (tower text table nodes pairs index graph sets ro
 check-by o x tower text table nodes pairs index graph sets room nodes-after pairs-after index-after graph-after sets-after room-after z e f g =
     record {
       answer = shown-by verdict-said o x (check-outcome tower text table (nodes ∷ pairs ∷ index ∷ graph ∷ sets ∷ room ∷ []) .answer) z (e .answer) f g;
+      areas = e .areas;
+    }
+
+pub why-by : (o x : WhyAnswer) (tower text table list nodes pairs index graph sets room list-after nodes-after pairs-after index-after graph-after sets-after room-after : List ℕ) (z : Answer)
+    → Explains o tower text table list nodes pairs index graph sets room list-after nodes-after pairs-after index-after graph-after sets-after room-after → o ≡ x → z ≡ shown (why-said x)
+    → WhyShown z tower text table list nodes pairs index graph sets room list-after nodes-after pairs-after index-after graph-after sets-after room-after
+why-by o x tower text table list nodes pairs index graph sets room list-after nodes-after pairs-after index-after graph-after sets-after room-after z e f g =
+    record {
+      answer = shown-by why-said o x (why-outcome tower text table list (nodes ∷ pairs ∷ index ∷ graph ∷ sets ∷ room ∷ []) .answer) z (e .answer) f g;
+      written = e .written;
       areas = e .areas;
     }

@@ -3,10 +3,11 @@
 use Prim.Native.Nat.{ℕ}
 use mathlib.Core.Path.{_≡_}
 use mathlib.Core.List.{List, [], _∷_}
-use Rattle.base.specs.Answers.{book-said, make-said, verdict-said}
+use Rattle.base.specs.Answers.{book-said, make-said, verdict-said, why-said}
 use Rattle.outcome.specs.ReadBook.{read-outcome}
 use Rattle.outcome.specs.Make.{make-outcome}
 use Rattle.outcome.specs.Check.{check-outcome}
+use Rattle.why_outcome.specs.Why.{why-outcome}
 use Rattle.succoryvise.specs.Shown.{shown}
 use Rattle.succoryvise.specs.declared.answer.Answer.{Answer}
 
@@ -27,3 +28,10 @@ pub record CheckShown (a : Answer) (tower text table nodes pairs index graph set
   pub answer : a ≡ shown (verdict-said (check-outcome tower text table (nodes ∷ pairs ∷ index ∷ graph ∷ sets ∷ room ∷ []) .answer))
   pub areas : nodes-after ∷ pairs-after ∷ index-after ∷ graph-after ∷ sets-after ∷ room-after ∷ []
       ≡ check-outcome tower text table (nodes ∷ pairs ∷ index ∷ graph ∷ sets ∷ room ∷ []) .areas
+
+-- The entry that shows why.
+pub record WhyShown (a : Answer) (tower text table list nodes pairs index graph sets room list-after nodes-after pairs-after index-after graph-after sets-after room-after : List ℕ) : Type 0 where
+  pub answer : a ≡ shown (why-said (why-outcome tower text table list (nodes ∷ pairs ∷ index ∷ graph ∷ sets ∷ room ∷ []) .answer))
+  pub written : list-after ≡ why-outcome tower text table list (nodes ∷ pairs ∷ index ∷ graph ∷ sets ∷ room ∷ []) .list
+  pub areas : nodes-after ∷ pairs-after ∷ index-after ∷ graph-after ∷ sets-after ∷ room-after ∷ []
+      ≡ why-outcome tower text table list (nodes ∷ pairs ∷ index ∷ graph ∷ sets ∷ room ∷ []) .areas

@@ -6,8 +6,7 @@ ghost use Rattle.succoryvise.specs.Shown.{shown};
 use base::Reason;
 use base::Refusal;
 
-// Number 0 and the values of an answer, or a refusal's number, place and letter (0 for none). No
-// entry has a third value yet: it is room, so that one can come and callers keep their struct.
+// Number 0 and the values of an answer, or a refusal's number, place and letter (0 for none).
 #[repr(C)]
 pub struct Answer {
     pub number: u32,
@@ -57,6 +56,20 @@ pub fn two_values(first: usize, second: usize) -> Answer
         first: first,
         second: second,
         third: 0,
+    }
+}
+
+// An answer with three values.
+pub fn three_values(first: usize, second: usize, third: usize) -> Answer
+    ensures { λ a. ⌜ a ≡ shown (answered (first ∷ second ∷ third ∷ [])) ⌝ }
+{
+    Answer {
+        number: 0,
+        letter: 0,
+        place: 0,
+        first: first,
+        second: second,
+        third: third,
     }
 }
 

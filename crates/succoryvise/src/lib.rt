@@ -9,7 +9,7 @@ ghost use Rattle.base.specs.Answers.{follow-said, log-said};
 ghost use Rattle.outcome.specs.Follow.{follow-outcome};
 ghost use Rattle.outcome.specs.Log.{log-outcome};
 ghost use Rattle.succoryvise.specs.Shown.{shown};
-ghost use Rattle.succoryvise.specs.Entries.{BookShown, MakeShown, CheckShown};
+ghost use Rattle.succoryvise.specs.Entries.{BookShown, MakeShown, CheckShown, WhyShown};
 ghost use Rattle.succoryvise.specs.Version.{interface-version};
 use answer::Answer;
 use base::BookAnswer;
@@ -17,6 +17,7 @@ use base::FollowAnswer;
 use base::LogAnswer;
 use base::MakeAnswer;
 use base::Verdict;
+use base::WhyAnswer;
 
 // The version of this interface.
 const VERSION: u32 = 2;
@@ -132,5 +133,48 @@ pub extern "C" fn succoryvise_read_log_v2(tower: &[u8], table: &[u8], log: &[u8]
         LogAnswer::Line(line) => answer::two_values(FAILS, line),
         LogAnswer::NotGood(reason) => answer::not_good(reason),
         LogAnswer::Refused(refusal) => answer::refused(refusal),
+    }
+}
+
+// Why the table is not good for the tower and the book. Where it is turned down with 14 e: the length
+// of a shortest allowed run that is broken, which is written to the front of `list` while its later
+// bytes stay, the lowest line that it breaks, and the position; or 16 if the list is shorter. In every
+// other case the checker's own answer, and the list as it was. Refused with 15 it changes nothing; else
+// the lent areas are all zero afterwards.
+#[no_mangle]
+pub extern "C" fn succoryvise_why_v2(
+    tower: &[u8],
+    text: &[u8],
+    table: &[u8],
+    list: &mut [u8],
+    nodes: &mut [u8],
+    pairs: &mut [u8],
+    index: &mut [u8],
+    graph: &mut [u8],
+    sets: &mut [u8],
+    room: &mut [u8],
+) -> Answer
+    ensures { λ a. ⌜ WhyShown a (now (tower .entry)) (now (text .entry)) (now (table .entry)) (now (list .entry)) (now (nodes .entry)) (now (pairs .entry)) (now (index .entry)) (now (graph .entry)) (now (sets .entry)) (now (room .entry)) (now (list .exit)) (now (nodes .exit)) (now (pairs .exit)) (now (index .exit)) (now (graph .exit)) (now (sets .exit)) (now (room .exit)) ⌝ }
+{
+    match why::show(
+        tower,
+        text,
+        table,
+        list,
+        nodes,
+        pairs,
+        index,
+        graph,
+        sets,
+        room,
+    ) {
+        WhyAnswer::Shown {
+            length,
+            line,
+            position,
+        } => answer::three_values(length, line, position),
+        WhyAnswer::Good => answer::yes(),
+        WhyAnswer::NotGood(reason) => answer::not_good(reason),
+        WhyAnswer::Refused(refusal) => answer::refused(refusal),
     }
 }

@@ -25,7 +25,12 @@ pub fn check(tower: &[u8], text: &[u8], table: &[u8]) -> Answer {
 
 /// The reference's answer.
 pub fn expected(tower: &[u8], text: &[u8], table: &[u8]) -> Answer {
-    match check::check(tower, text, table) {
+    of_reference(check::check(tower, text, table))
+}
+
+/// An answer of the reference.
+pub fn of_reference(answer: check::Answer) -> Answer {
+    match answer {
         check::Answer::Good => Answer::default(),
         check::Answer::NotGood(reason, place) => Answer::not_good(reason, place),
         check::Answer::Refused(refusal) => refusal.into(),

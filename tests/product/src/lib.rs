@@ -22,6 +22,7 @@ pub mod table;
 pub mod tables;
 pub mod tower;
 pub mod towers;
+pub mod why;
 
 use entry::Test;
 use std::thread;
@@ -37,6 +38,7 @@ pub fn for_each_entry(test: impl Test + Sync) -> bool {
             test.on::<follow::Follow>(),
             test.on::<check::Check>(),
             test.on::<log::Log>(),
+            test.on::<why::Why>(),
         ]
     };
     let all = |passed: &[bool]| passed.iter().all(|passed| *passed);

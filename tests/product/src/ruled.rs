@@ -92,6 +92,30 @@ pub fn ring(random: &mut Random, states: usize, onward: usize) -> Ruled {
     Ruled::of_files(tower_file(0, 0, &[[1, kind]], &states), text)
 }
 
+/// One state and two actions, of one tick and of two, and a book of up to five lines: some may be broken by
+/// the second action, and none by the first.
+pub fn slow_to_break(random: &mut Random) -> Ruled {
+    let count = 1 + random.below(5);
+    let line = |_| {
+        let bound = random.below(255);
+        match random.below(9) {
+            0 => "always N <= 1 T".to_string(),
+            1 => format!("always A {bound} N <= 1 T"),
+            2 => format!("always A {bound} A {bound} N <= 1 T"),
+            3 => format!("always A {bound} (F | N <= 1 T)"),
+            4 => "always N > 0 T & N <= 1 T".to_string(),
+            5 => "start A 250 A 250 A 250 A 250 N <= 1 T".to_string(),
+            6 => "start A 250 A 250 A 250 A 250 T".to_string(),
+            7 => "start E F | A 250 A 250 T | A 250 A 240 T | A 240 A 250 T".to_string(),
+            _ => format!("always E {bound} p0"),
+        }
+    };
+    let book: Vec<String> = (0..count).map(line).collect();
+    let book: Vec<&str> = book.iter().map(String::as_str).collect();
+    let tower = tower_file(1, 0, &[[1, 1], [2, 1]], &[(1, vec![0, 0])]);
+    Ruled::of_files(tower, lines(&book))
+}
+
 /// A line that is never broken, and with which something is pending at first and after each of so
 /// many ticks, and nothing later. After each tick there is an alternative for each of its sides.
 fn lasting(random: &mut Random, sides: usize, ticks: usize) -> Vec<u8> {

@@ -42,7 +42,7 @@ impl Entry for Table {
     const NAME: &'static str = "table reader";
     const GENERATED: usize = 60_000;
     const REFUSALS: &'static [u8] = &[13];
-    const FILES: &'static [&'static str] = &["check.txt", "follow.txt", "log.txt"];
+    const FILES: &'static [&'static str] = &["check.txt", "follow.txt", "log.txt", "why.txt"];
 
     fn proved(File(file): &File) -> Answer {
         if laid_out(file) {
@@ -65,18 +65,18 @@ impl Entry for Table {
 
     fn of_line(file: &str, inputs: &[&str]) -> Option<File> {
         let table = match file {
-            "check.txt" => 2,
+            "check.txt" | "why.txt" => 2,
             "log.txt" => 1,
             _ => 0,
         };
         Some(File(bytes(inputs.get(table)?)?))
     }
 
-    /// The follower's 13 is the layout alone. The checker's and the log reader's may be another tower's
-    /// S and A, and what comes before 13 says nothing of the table.
+    /// The follower's 13 is the layout alone. That of the others may be another tower's S and A, and what
+    /// comes before 13 says nothing of the table.
     fn fits_line(file: &str, answer: &Answer, stated: &str) -> bool {
         match (file, stated_number(stated)) {
-            ("check.txt" | "log.txt", 1..=10 | 13) => true,
+            ("check.txt" | "log.txt" | "why.txt", 1..=10 | 13) => true,
             (_, 13) => answer.number == 13,
             _ => answer.number == 0,
         }

@@ -3,9 +3,10 @@
 use crate::common::{self, Random};
 use crate::edits;
 use crate::ruled::{self, Ruled};
-use reference::make;
+use reference::judge::Reason;
 use reference::table::{Row, Step, Table, HEADER};
 use reference::tower::Tower;
+use reference::{check, make};
 
 /// A table file: laid out in about half of the cases, else nearly so or noise.
 pub fn any(random: &mut Random) -> Vec<u8> {
@@ -108,6 +109,68 @@ pub fn to_judge(random: &mut Random) -> (Ruled, Vec<u8>) {
             (ruled, table)
         }
     }
+}
+
+/// A tower with a book, and a table to be explained: about half of them allow a broken run.
+pub fn to_explain(random: &mut Random) -> (Ruled, Vec<u8>) {
+    match random.below(100) {
+        0..=2 => with_a_long_run(random),
+        3..=12 => to_judge(random),
+        share => {
+            let any = if share < 50 {
+                ruled::either
+            } else {
+                ruled::any
+            };
+            let (ruled, mut table) = mostly_broken(random, any);
+            if random.once_in(2) {
+                unroll(random, &mut table);
+            }
+            (ruled, table.encode())
+        }
+    }
+}
+
+/// A tower with a book, and a table that does not know the book; in two of three tried again, a few times,
+/// until an allowed run is broken.
+fn mostly_broken(random: &mut Random, any: fn(&mut Random) -> Ruled) -> (Ruled, Table) {
+    let tries = if random.once_in(3) { 1 } else { 6 };
+    let mut one = || {
+        let ruled = any(random);
+        let all = made(&ruled.with_book(Vec::new())).filter(|_| !random.once_in(4));
+        let table = all.unwrap_or_else(|| common::random_table(random, &ruled.tower));
+        (ruled, table)
+    };
+    for _ in 1..tries {
+        let (ruled, table) = one();
+        let answer = check::check_table(&ruled.tower, &ruled.book, &table);
+        if answer == check::Answer::NotGood(Reason::Broken, 0) {
+            return (ruled, table);
+        }
+    }
+    one()
+}
+
+/// One state and up to 1,000 rows in turn, of which the last alone allows the action that breaks a rule.
+fn with_a_long_run(random: &mut Random) -> (Ruled, Vec<u8>) {
+    let rows = match random.below(4) {
+        0 => 1_000,
+        _ => 1 + random.below(1_000),
+    };
+    let row = |row: usize| {
+        let action = usize::from(row + 1 == rows);
+        let target = (row + 1) % rows;
+        Row {
+            state: 0,
+            steps: vec![Step { action, target }],
+        }
+    };
+    let table = Table {
+        states: 1,
+        actions: 2,
+        rows: (0..rows).map(row).collect(),
+    };
+    (ruled::slow_to_break(random), table.encode())
 }
 
 /// A table for a tower and a book: made from them, nearly so, or another one.

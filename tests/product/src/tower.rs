@@ -46,7 +46,7 @@ impl Entry for Tower {
     const NAME: &'static str = "tower reader";
     const GENERATED: usize = 100_000;
     const REFUSALS: &'static [u8] = &[1, 2, 3, 4, 5];
-    const FILES: &'static [&'static str] = &["make.txt", "check.txt", "log.txt"];
+    const FILES: &'static [&'static str] = &["make.txt", "check.txt", "log.txt", "why.txt"];
 
     fn proved(File(file): &File) -> Answer {
         let mut answer = read(file);
@@ -71,7 +71,7 @@ impl Entry for Tower {
         Some(File(bytes(inputs.first()?)?))
     }
 
-    /// The tower comes first in the orders of the maker, the checker and the log reader.
+    /// The tower comes first in the orders of all that have one.
     fn fits_line(_: &str, answer: &Answer, stated: &str) -> bool {
         let stated = stated_number(stated);
         answer.number == if stated <= 5 { stated } else { 0 }

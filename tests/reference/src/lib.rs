@@ -19,6 +19,7 @@ pub mod runs;
 pub mod table;
 pub mod tower;
 pub mod vectors;
+pub mod why;
 
 /// The most pairs, and the most rows of a table file.
 pub const MOST_PAIRS: usize = 1_000;

@@ -13,6 +13,15 @@ pub struct Run {
     times: Vec<u64>,
 }
 
+/// A rule that a run does not keep.
+#[derive(Clone, Copy, Debug, PartialEq, Eq)]
+pub struct BrokenRule {
+    /// The line of the book.
+    pub line: usize,
+    /// The lowest position where its formula is not kept.
+    pub position: usize,
+}
+
 impl Run {
     /// The run of these actions from the tower's start state, where each is enabled.
     pub fn new(tower: &Tower, actions: &[usize]) -> Option<Run> {
@@ -36,15 +45,22 @@ impl Run {
 
     /// Whether some rule of the book is not kept.
     pub fn is_broken(&self, book: &Book) -> bool {
+        self.broken_rule(book).is_some()
+    }
+
+    /// The lowest line that is not kept, where there is one, and the lowest position where its formula is
+    /// not: for a `start` line 0.
+    pub fn broken_rule(&self, book: &Book) -> Option<BrokenRule> {
         let kept = self.kept(book);
-        let rule_kept = |line: &Line| {
-            if line.always {
-                kept[line.root].iter().all(|kept| *kept)
-            } else {
-                kept[line.root][0]
-            }
+        let broken = |(number, line): (usize, &Line)| {
+            let last = if line.always { self.lengths.len() } else { 0 };
+            let position = (0..=last).find(|i| !kept[line.root][*i])?;
+            Some(BrokenRule {
+                line: number,
+                position,
+            })
         };
-        !book.lines.iter().all(rule_kept)
+        book.lines.iter().enumerate().find_map(broken)
     }
 
     /// Whether each node is kept at each position from 0 to n.

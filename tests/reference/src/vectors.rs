@@ -8,10 +8,11 @@
 //! | check.txt | tower, book, table | `good`, or `refused 14 PLACE REASON` |
 //! | follow.txt | table, row, action | `row ROW` |
 //! | log.txt | tower, table, log | `row ROW`, `line LINE`, or `refused 14 PLACE REASON` |
+//! | why.txt | tower, book, table, list length | `run LENGTH ACTIONS LINE POSITION`, or as check.txt |
 //!
 //! Any other refusal is `refused NUMBER PLACE`.
 
-use crate::{book, check, follow, log, make};
+use crate::{book, check, follow, log, make, why};
 use std::fs;
 use std::path::{Path, PathBuf};
 
@@ -30,12 +31,13 @@ pub fn files(folder: &Path, name: &str) -> Vec<PathBuf> {
 pub type Answer = fn(inputs: &[&str]) -> Option<String>;
 
 /// The names of the files, without their ending.
-pub const FILES: [(&str, Answer); 5] = [
+pub const FILES: [(&str, Answer); 6] = [
     ("book", answer_book),
     ("make", answer_make),
     ("check", answer_check),
     ("follow", answer_follow),
     ("log", answer_log),
+    ("why", answer_why),
 ];
 
 /// Bytes in hexadecimal; `-` is no bytes.
@@ -102,5 +104,14 @@ fn answer_log(inputs: &[&str]) -> Option<String> {
         return None;
     };
     let answer = log::read_log(&bytes(tower)?, &bytes(table)?, &bytes(log)?);
+    Some(answer.to_string())
+}
+
+fn answer_why(inputs: &[&str]) -> Option<String> {
+    let [tower, book, table, length] = inputs else {
+        return None;
+    };
+    let length = length.parse().ok()?;
+    let answer = why::why(&bytes(tower)?, &bytes(book)?, &bytes(table)?, length);
     Some(answer.to_string())
 }

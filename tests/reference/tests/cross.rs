@@ -14,7 +14,8 @@ use reference::pending::{self, Pending};
 use reference::runs::Run;
 use reference::table::{self, Table};
 use reference::tower::{self, Tower};
-use std::collections::{HashSet, VecDeque};
+use reference::why;
+use std::collections::HashSet;
 
 type AnyBook = fn(&mut Random, usize) -> (Vec<u8>, Book);
 
@@ -290,29 +291,6 @@ fn made_tables_are_equal_exactly_when_they_allow_the_same_runs() {
     }
 }
 
-/// The shortest allowed run whose last step breaks a rule, where there is one.
-fn shortest_broken_run(tower: &Tower, book: &Book, table: &Table) -> Vec<usize> {
-    let mut met = HashSet::new();
-    let mut to_visit = VecDeque::from([(0, alternatives::at_first(book), vec![])]);
-    while let Some((row, waiting, run)) = to_visit.pop_front() {
-        if !met.insert((row, waiting.clone())) {
-            continue;
-        }
-        let state = table.rows[row].state;
-        let marks = tower.states[state].marks;
-        for step in &table.rows[row].steps {
-            let further = [&run[..], &[step.action]].concat();
-            let length = tower.step_length(state, step.action);
-            let after = alternatives::after(book, &waiting, marks, length).expect("16 at most");
-            if after.is_empty() {
-                return further;
-            }
-            to_visit.push_back((step.target, after, further));
-        }
-    }
-    panic!("no allowed run is broken");
-}
-
 #[test]
 fn the_checker_accepts_good_tables_and_no_others() {
     for (any_book, share) in BOOKS {
@@ -346,7 +324,8 @@ fn the_checker_accepts_good_tables_and_no_others() {
                 Answer::NotGood(Reason::Broken, place) => {
                     not_good += 1;
                     assert_eq!(place, 0);
-                    let run = shortest_broken_run(&tower, &book, &table);
+                    let shown = why::show(&tower, &book, &table);
+                    let run: Vec<usize> = shown.actions.into_iter().map(usize::from).collect();
                     assert!(table.allows(&run) && is_broken(&tower, &book, &run));
                 }
                 Answer::NotGood(..) | Answer::Refused(_) => {}

@@ -19,7 +19,7 @@ pub const AREAS: [usize; 8] = [512, 64_968, 8_192, 34_000, 59_520, 30_752, 37_00
 /// How many areas the book reader borrows.
 pub const READER_AREAS: usize = 1;
 
-/// How many areas the checker borrows.
+/// How many areas the checker borrows, and what shows why.
 pub const CHECKER_AREAS: usize = 6;
 
 /// How many areas the maker borrows: all.
@@ -39,7 +39,7 @@ pub struct Answer {
     pub first: usize,
     /// The second value, or 0.
     pub second: usize,
-    /// The third value, or 0. No function has one yet.
+    /// The third value, or 0.
     pub third: usize,
 }
 
@@ -119,6 +119,30 @@ extern "C" {
         table_length: usize,
         log: *const u8,
         log_length: usize,
+    ) -> Answer;
+
+    #[link_name = "succoryvise_why_v2"]
+    fn succoryvise_why(
+        tower: *const u8,
+        tower_length: usize,
+        text: *const u8,
+        text_length: usize,
+        table: *const u8,
+        table_length: usize,
+        list: *mut u8,
+        list_length: usize,
+        nodes: *mut u8,
+        nodes_length: usize,
+        pairs: *mut u8,
+        pairs_length: usize,
+        index: *mut u8,
+        index_length: usize,
+        graph: *mut u8,
+        graph_length: usize,
+        sets: *mut u8,
+        sets_length: usize,
+        room: *mut u8,
+        room_length: usize,
     ) -> Answer;
 }
 
@@ -223,6 +247,43 @@ pub fn read_log(tower: &[u8], table: &[u8], log: &[u8]) -> Answer {
             table.len(),
             log.as_ptr(),
             log.len(),
+        )
+    }
+}
+
+/// The checker, which for a 14 e shows a run that is broken.
+pub fn why(
+    tower: &[u8],
+    text: &[u8],
+    table: &[u8],
+    list: &mut [u8],
+    areas: [&mut [u8]; CHECKER_AREAS],
+) -> Answer {
+    let [nodes, pairs, index, graph, sets, room] = areas;
+    // SAFETY: each pointer and its length are of one slice; `list` and the areas are exclusive, so
+    // they overlap neither each other nor tower, text and table.
+    unsafe {
+        succoryvise_why(
+            tower.as_ptr(),
+            tower.len(),
+            text.as_ptr(),
+            text.len(),
+            table.as_ptr(),
+            table.len(),
+            list.as_mut_ptr(),
+            list.len(),
+            nodes.as_mut_ptr(),
+            nodes.len(),
+            pairs.as_mut_ptr(),
+            pairs.len(),
+            index.as_mut_ptr(),
+            index.len(),
+            graph.as_mut_ptr(),
+            graph.len(),
+            sets.as_mut_ptr(),
+            sets.len(),
+            room.as_mut_ptr(),
+            room.len(),
         )
     }
 }

@@ -13,17 +13,13 @@ check-spec =
     (λ c κs. search needs) (λ c. search needs) (λ c. search needs) (λ c. search needs) (λ c. search needs) (λ c. search needs) (λ c. search needs)
     (λ c. search (too-short, not-true, c .if1 .taken, c .before .long-enough .ensures))
     (λ c κs. room-there _ _ _ _ _ _ _ (c .before .before .before .before .before .before .before .long-enough .ensures) (search (not-false, c .before .before .before .before .before .before .if1 .left)))
-    (λ c κs. search needs) (λ c. search needs) (λ c. search needs) (λ c. search needs) (λ c. search needs) (λ c. search needs) (λ c. search needs)
+    (λ c κs. search needs) (λ c κs. search needs)
+    (λ c. search needs) (λ c. search needs) (λ c. search needs) (λ c. search needs) (λ c. search needs) (λ c. search needs)
     (λ c.
-    let cleared = c .before .before .before .before .before .before .before .before .before .before .before .before in
-    let checked = cleared .before .before .before .before .before .before .before .before .before .before .before .before .before .before .before .before .before .before .before in
-    let tested = checked .before .before .before .before .before .before .before in
-    search (
-      checked-all,
-      not-false,
-      cleared .clear .ensures,
-      checked .check-files .ensures,
-      checked .check-files .kept,
-      tested .if1 .left,
-      tested .before .long-enough .ensures,
-    )))
+    let cleared = c .before .before .before .before .before .before .before .before .before .before .before .before .before in
+    let examined = cleared .before .before .before .before .before .before .before .before .before .before .before .before .before .before .before .before .before .before .before in
+    let tested = examined .before .before .before .before .before .before .before in
+    let kept = examined .examine .kept .1 .1 .1 in
+    checked-all _ _ _ _ _ _ _ _ _ _ (tested .before .long-enough .ensures) _ _ _ _ _ _ _ _ _ _ _ _ _ _ (search (not-false, tested .if1 .left))
+    (c .answer .ensures) (examined .examine .ensures) (cleared .clear .ensures)
+    (kept .0) (kept .1 .0) (kept .1 .1 .0) (kept .1 .1 .1 .0) (kept .1 .1 .1 .1 .0) (kept .1 .1 .1 .1 .1 .0)))

@@ -1,0 +1,2 @@
+pub mod Breaks
+mod Ways

@@ -1,0 +1,3 @@
+pub mod Sooner
+pub mod Tried
+pub mod Ways

@@ -1,0 +1,1 @@
+// The soonest run of a kind: definitions and mathematics, with no code.

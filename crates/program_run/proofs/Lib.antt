@@ -1,0 +1,4 @@
+mod Instances
+pub mod Laws
+pub mod Walks
+mod Ways

@@ -1,0 +1,97 @@
+-- A run as bytes, and what is judged of it: a byte for each node at each position, 1 where its formula is kept.
+use Prim.Native.Nat.{ℕ, _+_, _-_, _*_, _≤_, _<_}
+use mathlib.Core.Path.{_≡_}
+use mathlib.Core.Bool.{Bool}
+use mathlib.Core.List.{List, map}
+use lib.ListN.{length}
+use Rattle.base.specs.Choice.{pick}
+use Rattle.base.specs.Lists.{count-from}
+use Rattle.base.specs.Bytes.{byte-at, number-at}
+use Rattle.logic.specs.Tower.{Tower, FitTower, tower-of}
+use Rattle.logic.specs.Book.{Formula, constant, proposition, and, or, next, always-for, until}
+use Rattle.logic.specs.Runs.{Moment, Trace}
+use Rattle.judging.specs.Judging.{judged}
+use Rattle.judging.specs.Ahead.{never, fails-ahead, ends-ahead}
+use Rattle.judging.specs.declared.Ahead.{Ahead}
+use Rattle.book_progression.specs.NodeBytes.{Stored, IsNode}
+
+-- ---- the run
+
+-- the most positions that are judged
+abbrev pub position-room : ℕ
+position-room = 1000
+
+-- bytes for the states along the run, two for each position
+abbrev pub states-size : ℕ
+states-size = 2000
+
+-- the state at position i
+abbrev pub state-in : List ℕ → ℕ → ℕ
+state-in states i = number-at 2 states (2 * i)
+
+-- position i: its state, and the action that leaves it
+unfoldable pub moment-in : List ℕ → List ℕ → ℕ → Moment
+moment-in run states i = record { state = state-in states i; action = byte-at run i }
+
+-- what is left from position i on of a run of n actions
+unfoldable pub rest-in : List ℕ → List ℕ → ℕ → ℕ → Trace
+rest-in run states n i = map (moment-in run states) (count-from i (n - i))
+
+-- The first n bytes are actions of the tower, the states are its states.
+pub record RunHeld (tower run states : List ℕ) (n : ℕ) : Type 0 where
+  pub fit : FitTower tower
+  pub few : n ≤ position-room
+  pub run-room : n ≤ length run
+  pub states-room : states-size ≤ length states
+  pub states-low : (i : ℕ) → i < n → state-in states i < tower-of tower .states
+  pub actions-low : (i : ℕ) → i < n → byte-at run i < tower-of tower .actions
+
+-- ---- what is judged
+
+-- bytes for all nodes at all positions
+abbrev pub kept-size : ℕ
+kept-size = 60000
+
+-- the byte of node k at position i
+abbrev pub kept-in : List ℕ → ℕ → ℕ → ℕ
+kept-in kept k i = byte-at kept (position-room * k + i)
+
+-- 1 where a formula is kept
+abbrev pub kept-byte : Bool → ℕ
+kept-byte b = pick b (λ _. 1) (λ _. 0)
+
+-- Node k is judged at the positions from i on.
+pub record NodeJudged (tower nodes run states : List ℕ) (n k i : ℕ) (kept : List ℕ) : Type 0 where
+  pub says : (f : Formula) → Stored nodes f k → (j : ℕ) → i ≤ j → j < n
+      → kept-in kept k j ≡ kept-byte (judged (tower-of tower) f (rest-in run states n j))
+
+-- The nodes below node k are judged everywhere.
+pub record NodesJudged (tower nodes run states : List ℕ) (n k : ℕ) (kept : List ℕ) : Type 0 where
+  pub says : (j : ℕ) → j < k → NodeJudged tower nodes run states n j 0 kept
+
+-- What is asked before node k is judged: those below it are.
+pub record NodeNext (tower nodes run states : List ℕ) (n k : ℕ) (kept : List ℕ) : Type 0 where
+  pub held : RunHeld tower run states n
+  pub node : IsNode nodes k
+  pub low : k < 60
+  pub room : kept-size ≤ length kept
+  pub below : NodesJudged tower nodes run states n k kept
+
+-- what a formula waits for from the first position of what is left of a run
+unfoldable pub waits-for : Tower → Formula → Trace → Ahead
+waits-for tower (constant b) run = never
+waits-for tower (proposition w k) run = never
+waits-for tower (and f g) run = never
+waits-for tower (or f g) run = never
+waits-for tower (next c t g) run = never
+waits-for tower (always-for t g) run = fails-ahead tower (judged tower g) run
+waits-for tower (until t f g) run = ends-ahead tower (judged tower f) (judged tower g) run
+
+-- What node k waits for at position i.
+pub record NodeWaits (ahead : Ahead) (tower nodes run states : List ℕ) (n k i : ℕ) : Type 0 where
+  pub says : (f : Formula) → Stored nodes f k → ahead ≡ waits-for (tower-of tower) f (rest-in run states n i)
+  pub bound : ahead .ticks .0 ≤ 65536 * (n - i)
+
+-- Whether node k is kept at position i.
+pub record KeptHere (b : Bool) (tower nodes run states : List ℕ) (n k i : ℕ) : Type 0 where
+  pub says : (f : Formula) → Stored nodes f k → b ≡ judged (tower-of tower) f (rest-in run states n i)
