@@ -2,7 +2,9 @@ pub mod Nodes
 pub mod Cells
 pub mod Holding
 pub mod Putting
+pub mod Commuting
 pub mod Progressing
+pub mod Nesting
 pub mod BookHeld
 pub mod Lines
 pub mod Areas

@@ -9,14 +9,14 @@ use lib.ListN.{length}
 use borrow.Author.Tests.{not-true, not-false, le-leb, lt-leb}
 use Rattle.base.specs.Choice.{pick}
 use Rattle.logic.specs.Time.{ticks, at-most}
-use Rattle.logic.specs.Book.{Formula, constant, proposition, and, always-for, until, timed, first-part, second-part}
+use Rattle.logic.specs.Book.{Formula, constant, proposition, and, until, timed, first-part, second-part}
 use Rattle.logic.specs.declared.Tick.{Tick}
 use Rattle.pending.specs.Pending.{holds, fresh, provided, progress}
 use Rattle.reading.specs.BookArea.{node-code, node-first, node-second}
 use Rattle.book_progression.specs.PendingBytes.{pending-of, outcome}
 use Rattle.book_progression.specs.NodeBytes.{code-of, first-of, second-of, fresh-of, Stored, IsNode, MarkedState}
 use Rattle.book_progression.specs.Contracts.{HoldsAt, NodeReady, NextReady, Nexts, Stays, Progresses, Passes}
-use Rattle.book_progression.proofs.Nodes.{by-kind, by-always, by-until, by-and, by-or, and-first, and-second, or-first, or-second, until-first, until-second, always-part, first-below, until-below, second-below, fresh-low, fresh-is}
+use Rattle.book_progression.proofs.Nodes.{by-kind, by-until, by-and, by-or, and-first, and-second, or-first, or-second, until-first, until-second, first-below, until-below, second-below, fresh-low, fresh-is}
 
 -- a test that alone decides
 provided-outcome : (b : Bool) (cells : List ℕ) → provided b (some (pending-of cells)) ≡ outcome b cells
@@ -58,30 +58,6 @@ module _ (bytes : List ℕ) (k : ℕ) (r : Tick) (mask : ℕ) (d : Tick) (cells 
 
   pub progress-next : (b : Bool) (after : List ℕ) → Nexts b bytes k d cells after → Progresses b bytes k r mask d cells after
   progress-next b after nexts = record { says = λ f s at. nexts .says f s (at .tower) (at .state) r }
-
-  -- the only part of an always comes first
-  module _ (eleven : code ≡ 11) (p : ℕ) (q : Tick) (a : Bool) (mid : List ℕ) (part : p ≡ second-of bytes k) (new : q ≡ ticks (fresh-of bytes p))
-      (call : Progresses a bytes p q mask d cells mid) where
-    always-child : (t : Tick) (g : Formula) → Stored bytes (always-for t g) k → (at : MarkedState mask)
-        → progress (at .tower) (at .state) d g (second-part k) (fresh g) (pending-of cells) ≡ outcome a mid
-    unfolding Stored node-second
-    always-child t g s at = child bytes mask d p (second-part k) q a cells mid g (part ∙ s .0 .second) (always-part bytes k p t g s part) new call at
-
-    pub progress-always-broken : not a ≡ true → Progresses false bytes k r mask d cells mid
-    unfolding progress bind outcome
-    progress-always-broken fails =
-        record {
-          says = λ f s at. by-always bytes k (λ f. At false mid at f) f s (omega arith)
-              (λ t g s. rw (always-child t g s at, not-true a fails));
-        }
-
-    pub progress-always : (after : List ℕ) → not a ≡ false → Stays bytes k r d mid after → Progresses true bytes k r mask d cells after
-    unfolding progress bind outcome
-    progress-always after passes stays =
-        record {
-          says = λ f s at. by-always bytes k (λ f. At true after at f) f s (omega arith)
-              (λ t g s. rw (always-child t g s at, not-false a passes) (ap (λ l. some l) (sym (stays .says (always-for t g) s))));
-        }
 
   -- the second part of an until ends it
   module _ (twelve : code ≡ 12) (p : ℕ) (h : Bool) (second : p ≡ second-of bytes k) (held : HoldsAt h bytes p mask) where
@@ -218,21 +194,23 @@ module _ (bytes : List ℕ) (k mask : ℕ) where
 
 -- What is asked of a part before it progresses, t being the number that falls.
 module _ (bytes : List ℕ) (k p code : ℕ) (q : Tick) (cells : List ℕ) where
-  ready : (t : ℕ) → k ≡ t → (p < t) × IsNode bytes p → q ≡ ticks (fresh-of bytes p) → k < length cells → (p < t) × NodeReady bytes p q cells
-  ready t is below new room =
-      (below .0, record { node = below .1; cell = omega (arith, below .0); left = rw new (fresh-low bytes p (below .1)) })
+  ready : (p < k) × IsNode bytes p → q ≡ ticks (fresh-of bytes p) → k < length cells → (t : ℕ) → k ≤ t → (p < t) × NodeReady bytes p q cells
+  ready below new room t low = (
+    omega (arith, below .0),
+    record { node = below .1; cell = omega (arith, below .0); left = rw new (fresh-low bytes p (below .1)) },
+  )
 
   pub first-ready : p ≡ first-of bytes k → code ≡ code-of bytes k → 3 < code → code < 7 → IsNode bytes k → q ≡ ticks (fresh-of bytes p)
-      → k < length cells → (t : ℕ) → k ≡ t → (p < t) × NodeReady bytes p q cells
-  first-ready e same low high node new room t is = ready t is (first-below bytes k p code e same low high node t is) new room
+      → k < length cells → (t : ℕ) → k ≤ t → (p < t) × NodeReady bytes p q cells
+  first-ready e same low high node new room = ready (first-below bytes k p code e same low high node k refl) new room
 
   pub until-ready : p ≡ first-of bytes k → code ≡ code-of bytes k → code ≡ 12 → IsNode bytes k → q ≡ ticks (fresh-of bytes p)
-      → k < length cells → (t : ℕ) → k ≡ t → (p < t) × NodeReady bytes p q cells
-  until-ready e same twelve node new room t is = ready t is (until-below bytes k p code e same twelve node t is) new room
+      → k < length cells → (t : ℕ) → k ≤ t → (p < t) × NodeReady bytes p q cells
+  until-ready e same twelve node new room = ready (until-below bytes k p code e same twelve node k refl) new room
 
   pub second-ready : p ≡ second-of bytes k → code ≡ code-of bytes k → 3 < code → IsNode bytes k → q ≡ ticks (fresh-of bytes p)
-      → k < length cells → (t : ℕ) → k ≡ t → (p < t) × NodeReady bytes p q cells
-  second-ready e same low node new room t is = ready t is (second-below bytes k p code e same low node t is) new room
+      → k < length cells → (t : ℕ) → k ≤ t → (p < t) × NodeReady bytes p q cells
+  second-ready e same low node new room = ready (second-below bytes k p code e same low node k refl) new room
 
 -- The cells may have changed meanwhile.
 pub still-ready : (bytes : List ℕ) (k : ℕ) (r : Tick) (cells after : List ℕ) → NodeReady bytes k r cells → length after ≡ length cells
@@ -240,7 +218,8 @@ pub still-ready : (bytes : List ℕ) (k : ℕ) (r : Tick) (cells after : List �
 still-ready bytes k r cells after was same = record { node = was .node; cell = omega (arith, was .cell); left = was .left }
 
 -- A node of any other code is a next.
-pub is-next : (bytes : List ℕ) (k code : ℕ) (r : Tick) (cells : List ℕ) → code ≡ code-of bytes k → 7 ≤ code → (code ≡ 11 → ⊥) → (code ≡ 12 → ⊥)
+pub is-next : (bytes : List ℕ) (k code : ℕ) (r : Tick) (cells : List ℕ) → code ≡ code-of bytes k → 7 ≤ code → (code-of bytes k ≡ 11 → ⊥)
+    → (code ≡ 12 → ⊥)
     → NodeReady bytes k r cells → NextReady bytes k cells
 is-next bytes k code r cells e low not-always not-until was =
     record {
@@ -249,5 +228,5 @@ is-next bytes k code r cells e low not-always not-until was =
       low = omega arith;
       high = by-kind bytes k (λ _. code-of bytes k < 11) (was .node .formula) (was .node .stored)
           (λ b s lo. omega arith) (λ a b s lo up. omega arith) (λ a b s at. omega arith) (λ a b s lo up. omega arith)
-          (λ a b c s lo up. up) (λ a b s at. absurd (not-always (e ∙ at))) (λ a b c s at. absurd (not-until (e ∙ at)));
+          (λ a b c s lo up. up) (λ a b s at. absurd (not-always at)) (λ a b c s at. absurd (not-until (e ∙ at)));
     }

@@ -14,6 +14,7 @@ use Rattle.logic.specs.Book.{Formula, constant, Comparison, compares, root, Rul
 use Rattle.logic.specs.declared.Tick.{Tick}
 use Rattle.pending.specs.Pending.{Pending, holds, coming, put, progress, progress-nodes, progress-rule, progress-rules, none-pending, progressed, begin-rule, begin-rules, first-pending}
 use Rattle.reading.specs.BookArea.{lines-at, line-size, nodes-in, comparison-code, form-code}
+use Rattle.book_progression.specs.declared.Nested.{Nested}
 use Rattle.book_progression.specs.PendingBytes.{cell-of, pending-of, part, outcome}
 use Rattle.book_progression.specs.NodeBytes.{code-of, first-of, form-of, formula-of, Stored, IsNode, HeldBook, MarkedState}
 
@@ -61,6 +62,15 @@ pub record Nexts (answer : Bool) (bytes : List ℕ) (k : ℕ) (d : Tick) (cells 
 pub record Progresses (answer : Bool) (bytes : List ℕ) (k : ℕ) (r : Tick) (mask : ℕ) (d : Tick) (cells after : List ℕ) : Type 0 where
   pub says : (f : Formula) → Stored bytes f k → (at : MarkedState mask)
       → progress (at .tower) (at .state) d f k r (pending-of cells) ≡ outcome answer after
+
+-- Where node k with r ticks is an A, it stays among the cells, and so does each A that is the part of the one before, down to a node that is no A:
+-- what that node leaves as it progresses is what node k leaves.
+pub record StaysNested (n : Nested) (bytes : List ℕ) (k : ℕ) (r d : Tick) (cells after : List ℕ) : Type 0 where
+  pub low : n .node ≤ k
+  pub ready : NodeReady bytes (n .node) (n .left) after
+  pub other : code-of bytes (n .node) ≡ 11 → ⊥
+  pub says : (answer : Bool) (mask : ℕ) (last : List ℕ) → Progresses answer bytes (n .node) (n .left) mask d after last
+      → Progresses answer bytes k r mask d cells last
 
 -- Where the answer is yes, node k is an or whose first side is untimed, and that side holds.
 pub record Passes (answer : Bool) (bytes : List ℕ) (k mask : ℕ) : Type 0 where

@@ -9,7 +9,7 @@ ghost use lib.ListN.{length};
 ghost use Rattle.logic.specs.Tower.{bit};
 ghost use Rattle.reading.specs.BookArea.{nodes-in, lines-in};
 ghost use Rattle.book_progression.specs.NodeBytes.{code-of, IsNode, IsHeld};
-ghost use Rattle.book_progression.specs.Contracts.{HoldsAt, Merged, NodeReady, PutsNode, Compares, NextReady, Nexts, Stays, Progresses, Passes, CellSteps, HasNodes, Parts, EmptyTo, NodesProgress, IsLine, LineSteps, LinesProgress, LineBegins, LinesBegin, Emptied, Progressed, PendingBegun};
+ghost use Rattle.book_progression.specs.Contracts.{HoldsAt, Merged, NodeReady, PutsNode, Compares, NextReady, Nexts, Stays, Progresses, StaysNested, Passes, CellSteps, HasNodes, Parts, EmptyTo, NodesProgress, IsLine, LineSteps, LinesProgress, LineBegins, LinesBegin, Emptied, Progressed, PendingBegun};
 
 // Where the number of the book's nodes stands.
 const NODE_COUNT: usize = 480;
@@ -159,6 +159,29 @@ fn stay(book: &[u8], k: usize, left: Tick, d: Tick, cells: &mut [u8])
     put(book, k, Tick(left.0 - d.0), cells);
 }
 
+// A node and the ticks that it has left.
+struct Nested {
+    node: usize,
+    left: Tick,
+}
+
+// Where node k, with r ticks left, is an A, it stays pending, and so does anew each A that is the part
+// of the one before. The answer is the first node that is no A: what it leaves is all that node k
+// leaves.
+fn stay_nested(book: &[u8], k: usize, r: Tick, d: Tick, cells: &mut [u8]) -> Nested
+    requires { ⌜ NodeReady (now book) k r (now cells) ⌝ }
+    ensures { λ n. ⌜ StaysNested n (now (book .entry)) k r d (now (cells .entry)) (now (cells .exit)) ⌝ }
+{
+    let mut node = k;
+    let mut left = r;
+    while node::code(book, node) == node::ALWAYS {
+        stay(book, node, left, d, cells);
+        node = node::second(book, node);
+        left = node::fresh(book, node);
+    }
+    Nested { node, left }
+}
+
 // Node k with r ticks left progresses as a state with these marks is left by a step of length d:
 // what becomes pending is added to the cells. False if the step is broken; then the cells are of no
 // use.
@@ -166,34 +189,28 @@ pub fn progress(book: &[u8], k: usize, r: Tick, mask: usize, d: Tick, cells: &mu
     requires { ⌜ NodeReady (now book) k r (now cells) ⌝ }
     ensures { λ b. ⌜ Progresses b (now (book .entry)) k r mask d (now (cells .entry)) (now (cells .exit)) ⌝ }
 {
-    let code = node::code(book, k);
+    let at = stay_nested(book, k, r, d, cells);
+    let code = node::code(book, at.node);
     if code <= node::WANTED {
-        return leaf_holds(book, k, mask);
+        return leaf_holds(book, at.node, mask);
     }
-    let second = node::second(book, k);
-    if code == node::ALWAYS {
-        if !progress(book, second, node::fresh(book, second), mask, d, cells) {
-            return false;
-        }
-        stay(book, k, r, d, cells);
-        return true;
-    }
-    let first = node::first(book, k);
+    let second = node::second(book, at.node);
+    let first = node::first(book, at.node);
     if code == node::UNTIL {
         if part_holds(book, second, mask) {
             return true;
         }
-        if r.0 < d.0 {
+        if at.left.0 < d.0 {
             return false;
         }
         if !progress(book, first, node::fresh(book, first), mask, d, cells) {
             return false;
         }
-        stay(book, k, r, d, cells);
+        stay(book, at.node, at.left, d, cells);
         return true;
     }
     if node::NO_MORE <= code {
-        return progress_next(book, k, d, cells);
+        return progress_next(book, at.node, d, cells);
     }
     if code == node::AND {
         if !progress(book, first, node::fresh(book, first), mask, d, cells) {

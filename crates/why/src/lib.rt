@@ -2,7 +2,7 @@
 // 14 e, a shortest allowed run that is broken, in a lent list, with the lowest line that it breaks and
 // the position. It stands on what the checker stands on (crate `checker_runs`), and lends its areas on:
 // once the graph of pairs is there, the index keeps how each was first met, the room the states along
-// the run, and the pairs what is kept of it.
+// the run, the index then the marks there, and the pairs what is kept of it.
 ghost use Prim.Native.Nat.{_≤_};
 ghost use lib.ListN.{length};
 ghost use Rattle.outcome.specs.Areas.{pairs-area, index-area, room-area};
@@ -36,7 +36,7 @@ fn show_run(
     match why_path::write_run(graph, n, file_tower::actions(tower), i, a, index, list) {
         Written::TooShort => WhyAnswer::Refused(Refusal::Output),
         Written::Run(size) => {
-            let place = why_lines::judge(tower, nodes, list, size, room, pairs);
+            let place = why_lines::judge(tower, nodes, list, size, room, index, pairs);
             WhyAnswer::Shown {
                 length: size,
                 line: place.line,

@@ -1,3 +1,4 @@
 pub mod Rests
 pub mod Parts
+pub mod Marks
 pub mod Loops

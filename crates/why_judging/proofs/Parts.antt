@@ -10,7 +10,7 @@ use mir.Syntax.{w8}
 use mir.Val.{Fits}
 use borrow.Author.Tests.{not-true, not-false}
 use Rattle.base.specs.Choice.{pick}
-use Rattle.logic.specs.Time.{ticks, plus}
+use Rattle.logic.specs.Time.{ticks, plus, at-most}
 use Rattle.logic.specs.Tower.{tower-of, mask-of, bit}
 use Rattle.logic.specs.Book.{Formula, next, always-for, until, Comparison, compares}
 use Rattle.logic.specs.Runs.{duration}
@@ -23,9 +23,9 @@ use Rattle.judging.specs.declared.Ahead.{Ahead}
 use Rattle.judging.proofs.Aheads.{passes-for-ahead, passes-until-ahead}
 use Rattle.book_progression.specs.NodeBytes.{code-of, first-of, second-of, fresh-of, Stored, IsNode}
 use Rattle.book_progression.specs.Contracts.{HoldsAt, Compares}
-use Rattle.book_progression.proofs.Nodes.{by-kind, by-and, by-or, by-next, by-always, by-until, stored-is, and-first, and-second, or-first, or-second, next-part, always-part, until-first, until-second, first-below, until-below, second-below, fresh-is}
-use Rattle.why_judging.specs.Judgement.{state-in, moment-in, rest-in, kept-in, waits-for, NodeNext, NodeWaits, KeptHere}
-use Rattle.why_judging.proofs.Rests.{rest-none, rest-some, judged-none, step-short, byte-says}
+use Rattle.book_progression.proofs.Nodes.{by-kind, by-and, by-or, by-next, by-always, by-until, stored-is, and-first, and-second, or-first, or-second, next-part, always-part, until-first, until-second, first-below, until-below, second-below, fresh-low, fresh-is}
+use Rattle.why_judging.specs.Judgement.{never-far, ComesIn, state-in, moment-in, rest-in, kept-in, waits-for, NodeNext, NodeWaits, KeptHere}
+use Rattle.why_judging.proofs.Rests.{rest-none, rest-some, judged-none, step-short, comes-here, comes-never, comes-later, byte-says}
 
 -- ---- leaves
 
@@ -51,7 +51,7 @@ leaf-kept b tower nodes run states n k i mask x said is-mask is-x leaf inside =
 
 -- ---- parts
 
-module _ (tower nodes run states : List ℕ) (n k : ℕ) (kept : List ℕ) (ready : NodeNext tower nodes run states n k kept) where
+module _ (tower nodes run states marks : List ℕ) (n k : ℕ) (kept : List ℕ) (ready : NodeNext tower nodes run states marks n k kept) where
   -- the byte of a lower node says whether it is kept
   lower-says : (b : Bool) (p i : ℕ) → b ≡ eqb (kept-in kept p i) 1 → p < k → i < n → (g : Formula) → Stored nodes g p
       → b ≡ judged (tower-of tower) g (rest-in run states n i)
@@ -119,7 +119,7 @@ module _ (tower nodes run states : List ℕ) (n k : ℕ) (kept : List ℕ) (read
 
 -- ---- next
 
-module _ (tower nodes run states : List ℕ) (n k : ℕ) (kept : List ℕ) (ready : NodeNext tower nodes run states n k kept) (i code : ℕ) (d t : Tick)
+module _ (tower nodes run states marks : List ℕ) (n k : ℕ) (kept : List ℕ) (ready : NodeNext tower nodes run states marks n k kept) (i code : ℕ) (d t : Tick)
     (a : Bool) (is-d : d ≡ duration (tower-of tower) (moment-in run states i)) (is-code : code ≡ code-of nodes k)
     (is-t : t ≡ ticks (fresh-of nodes k)) (says : Compares a code d t) (low : 6 < code-of nodes k) (high : code-of nodes k < 11)
     (inside : i < n) where
@@ -158,47 +158,52 @@ module _ (tower nodes run states : List ℕ) (n k : ℕ) (kept : List ℕ) (read
   next-on passes q b at-q is-q more =
       let yes-it-is = not-false a passes in
       rw yes-it-is at (next-by b (λ c u g s. ap (λ (v : Bool). a && v)
-      (lower-says tower nodes run states n k kept ready b q (i + 1) at-q
+      (lower-says tower nodes run states marks n k kept ready b q (i + 1) at-q
       (second-below nodes k q (code-of nodes k) is-q refl (omega arith) (ready .node) k refl .0) (omega (arith, more)) g
       (next-part nodes k q c u g s is-q))))
 
 -- ---- A and U
 
 module _ (tower nodes run states : List ℕ) (n k : ℕ) where
-  -- What waits for something is bounded.
-  pub waits-low : (kept : List ℕ) → NodeNext tower nodes run states n k kept → (ahead : Ahead) (i : ℕ)
-      → NodeWaits ahead tower nodes run states n k (i + 1) → ahead .ticks .0 ≤ 65536000
-  waits-low kept ready ahead i waits = omega (arith, waits .bound, ready .held .few)
+  -- What is waited for is not too far for a number.
+  pub waits-low : (marks kept : List ℕ) → NodeNext tower nodes run states marks n k kept → (far : Tick) (i : ℕ)
+      → NodeWaits far tower nodes run states n k (i + 1) → far .0 ≤ 65601536
+  waits-low marks kept ready far i waits = omega (arith, waits .bound, ready .marked .held .few)
 
   -- Behind the last position nothing fails,
-  pub fails-last : code-of nodes k ≡ 11 → NodeWaits never tower nodes run states n k n
+  pub fails-last : code-of nodes k ≡ 11 → NodeWaits never-far tower nodes run states n k n
   unfolding waits-for fails-ahead
   fails-last eleven =
       record {
-        says = λ f s. by-always nodes k (λ f. never ≡ waits-for (tower-of tower) f (rest-in run states n n)) f s eleven
-            (λ t g s. sym (rw (rest-none run states n n (omega arith))));
+        says = λ f s. by-always nodes k (λ f. ComesIn never-far (waits-for (tower-of tower) f (rest-in run states n n))) f s eleven
+            (λ t g s. rw (rest-none run states n n (omega arith)) comes-never);
         bound = omega arith;
       }
 
   -- and what has not ended ends with the run.
-  pub ends-last : code-of nodes k ≡ 12 → NodeWaits here tower nodes run states n k n
+  pub ends-last : code-of nodes k ≡ 12 → NodeWaits (ticks 0) tower nodes run states n k n
   unfolding waits-for ends-ahead
   ends-last twelve =
       record {
-        says = λ f s. by-until nodes k (λ f. here ≡ waits-for (tower-of tower) f (rest-in run states n n)) f s twelve
-            (λ t g h s. sym (rw (rest-none run states n n (omega arith))));
+        says = λ f s. by-until nodes k (λ f. ComesIn (ticks 0) (waits-for (tower-of tower) f (rest-in run states n n))) f s twelve
+            (λ t g h s. rw (rest-none run states n n (omega arith)) comes-here);
         bound = omega arith;
       }
 
-  module _ (i : ℕ) (ahead : Ahead) (t : Tick) (w : Bool) (waits : NodeWaits ahead tower nodes run states n k i) (is-w : w ≡ comes-within ahead t)
-      (is-t : t ≡ ticks (fresh-of nodes k)) where
+  module _ (i : ℕ) (far t : Tick) (w : Bool) (waits : NodeWaits far tower nodes run states n k i) (is-w : w ≡ at-most far t)
+      (is-t : t ≡ ticks (fresh-of nodes k)) (node : IsNode nodes k) where
+    small : t .0 ≤ 254
+    small = rw is-t (fresh-low nodes k node)
+
     -- A is kept unless its part fails in time.
     pub always-kept : code-of nodes k ≡ 11 → KeptHere (not w) tower nodes run states n k i
     unfolding judged waits-for fresh
     always-kept eleven =
         record {
           says = λ f s. by-always nodes k (λ f. not w ≡ judged (tower-of tower) f (rest-in run states n i)) f s eleven
-              (λ u g s. ap not (is-w ∙ ap₂ comes-within (waits .says (always-for u g) s) (is-t ∙ fresh-is nodes k (always-for u g) s))
+              (λ u g s. ap not (is-w ∙ waits .says (always-for u g) s .says t small
+              ∙ ap (comes-within (fails-ahead (tower-of tower) (judged (tower-of tower) g) (rest-in run states n i)))
+              (is-t ∙ fresh-is nodes k (always-for u g) s))
               ∙ sym (passes-for-ahead (tower-of tower) (judged (tower-of tower) g) (rest-in run states n i) u));
         }
 
@@ -208,78 +213,82 @@ module _ (tower nodes run states : List ℕ) (n k : ℕ) where
     until-kept twelve =
         record {
           says = λ f s. by-until nodes k (λ f. w ≡ judged (tower-of tower) f (rest-in run states n i)) f s twelve
-              (λ u g h s. is-w ∙ ap₂ comes-within (waits .says (until u g h) s) (is-t ∙ fresh-is nodes k (until u g h) s)
+              (λ u g h s. is-w ∙ waits .says (until u g h) s .says t small
+              ∙ ap (comes-within (ends-ahead (tower-of tower) (judged (tower-of tower) g) (judged (tower-of tower) h) (rest-in run states n i)))
+              (is-t ∙ fresh-is nodes k (until u g h) s)
               ∙ sym (passes-until-ahead (tower-of tower) (judged (tower-of tower) g) (judged (tower-of tower) h) (rest-in run states n i) u));
         }
 
--- what is seen from one action before is at most that much further
-seen-bound : (d : Tick) (ahead : Ahead) (n i : ℕ) → d .0 ≤ 65536 → ahead .ticks .0 ≤ 65536 * (n - (i + 1)) → i < n
-    → seen-before d ahead .ticks .0 ≤ 65536 * (n - i)
-unfolding seen-before plus
-seen-bound d ahead n i short near inside = omega arith
-
-module _ (tower nodes run states : List ℕ) (n k : ℕ) (kept : List ℕ) (ready : NodeNext tower nodes run states n k kept) (i : ℕ) (d : Tick)
-    (ahead r : Ahead) (is-d : d ≡ duration (tower-of tower) (moment-in run states i))
-    (waits : NodeWaits ahead tower nodes run states n k (i + 1)) (bytes : (j : ℕ) → Fits w8 (getD tower j 0)) (inside : i < n) where
+module _ (tower nodes run states marks : List ℕ) (n k : ℕ) (kept : List ℕ) (ready : NodeNext tower nodes run states marks n k kept) (i : ℕ)
+    (d far r : Tick) (is-d : d ≡ duration (tower-of tower) (moment-in run states i))
+    (waits : NodeWaits far tower nodes run states n k (i + 1)) (bytes : (j : ℕ) → Fits w8 (getD tower j 0)) (inside : i < n) where
   -- Where the part of an A next fails, by where it was seen from the next position.
   pub fails-before : (q : ℕ) (b : Bool) → q ≡ second-of nodes k → b ≡ eqb (kept-in kept q i) 1
-      → r ≡ pick b (λ _. seen-before d ahead) (λ _. here) → code-of nodes k ≡ 11 → NodeWaits r tower nodes run states n k i
-  unfolding waits-for fails-ahead
+      → r ≡ pick b (λ _. plus d far) (λ _. ticks 0) → code-of nodes k ≡ 11 → NodeWaits r tower nodes run states n k i
+  unfolding waits-for fails-ahead plus
   fails-before q b is-q at-q is-r eleven =
       record {
-        says = λ f s. by-always nodes k (λ f. r ≡ waits-for (tower-of tower) f (rest-in run states n i)) f s eleven
-            (λ u g s. is-r ∙ sym (rw (
-              rest-some run states n i inside,
-              ← part g (always-part nodes k q u g s is-q),
-              ← is-d,
-              ← waits .says (always-for u g) s,
-            )));
+        says = λ f s. by-always nodes k (λ f. ComesIn r (waits-for (tower-of tower) f (rest-in run states n i))) f s eleven
+            (λ u g s. rw (rest-some run states n i inside, ← part g (always-part nodes k q u g s is-q), ← is-d, is-r)
+            (when (fails-ahead (tower-of tower) (judged (tower-of tower) g) (rest-in run states n (i + 1))) b (waits .says (always-for u g) s)));
         bound = rw is-r (bounded b);
       }
     where
       part : (g : Formula) → Stored nodes g q → b ≡ judged (tower-of tower) g (moment-in run states i ∷ rest-in run states n (i + 1))
       part g s =
-          lower-says tower nodes run states n k kept ready b q i at-q
+          lower-says tower nodes run states marks n k kept ready b q i at-q
           (second-below nodes k q (code-of nodes k) is-q refl (omega arith) (ready .node) k refl .0) inside g s
           ∙ rw (rest-some run states n i inside)
 
-      bounded : (b : Bool) → pick b (λ _. seen-before d ahead) (λ _. here) .ticks .0 ≤ 65536 * (n - i)
-      bounded true = seen-bound d ahead n i (step-short tower run states i d is-d bytes) (waits .bound) inside
+      when : (ahead : Ahead) (b : Bool) → ComesIn far ahead
+          → ComesIn (pick b (λ _. plus d far) (λ _. ticks 0)) (pick b (λ _. seen-before d ahead) (λ _. here))
+      when ahead true seen = comes-later d far ahead seen
+      when ahead false seen = comes-here
+
+      bounded : (b : Bool) → pick b (λ _. plus d far) (λ _. ticks 0) .0 ≤ 65536 * (n - i + 1)
+      bounded true = omega (arith, step-short tower run states i d is-d bytes, waits .bound)
       bounded false = omega arith
 
   -- Where a U next ends.
   pub ends-before : (p q : ℕ) (a b : Bool) → p ≡ first-of nodes k → q ≡ second-of nodes k → a ≡ eqb (kept-in kept p i) 1
-      → b ≡ eqb (kept-in kept q i) 1 → r ≡ pick b (λ _. here) (λ _. pick a (λ _. seen-before d ahead) (λ _. never)) → code-of nodes k ≡ 12
+      → b ≡ eqb (kept-in kept q i) 1 → r ≡ pick b (λ _. ticks 0) (λ _. pick a (λ _. plus d far) (λ _. never-far)) → code-of nodes k ≡ 12
       → NodeWaits r tower nodes run states n k i
-  unfolding waits-for ends-ahead
+  unfolding waits-for ends-ahead plus
   ends-before p q a b is-p is-q at-p at-q is-r twelve =
       record {
-        says = λ f s. by-until nodes k (λ f. r ≡ waits-for (tower-of tower) f (rest-in run states n i)) f s twelve
-            (λ u g h s. is-r ∙ sym (rw (
+        says = λ f s. by-until nodes k (λ f. ComesIn r (waits-for (tower-of tower) f (rest-in run states n i))) f s twelve
+            (λ u g h s. rw (
               rest-some run states n i inside,
               ← second h (until-second nodes k q u g h s is-q),
               ← first g (until-first nodes k p u g h s is-p),
               ← is-d,
-              ← waits .says (until u g h) s,
-            )));
+              is-r,
+            ) (when (ends-ahead (tower-of tower) (judged (tower-of tower) g) (judged (tower-of tower) h) (rest-in run states n (i + 1))) b a (waits .says (until u g h) s)));
         bound = rw is-r (bounded b a);
       }
     where
       first : (g : Formula) → Stored nodes g p → a ≡ judged (tower-of tower) g (moment-in run states i ∷ rest-in run states n (i + 1))
       first g s =
-          lower-says tower nodes run states n k kept ready a p i at-p
+          lower-says tower nodes run states marks n k kept ready a p i at-p
           (until-below nodes k p (code-of nodes k) is-p refl twelve (ready .node) k refl .0) inside g s
           ∙ rw (rest-some run states n i inside)
 
       second : (g : Formula) → Stored nodes g q → b ≡ judged (tower-of tower) g (moment-in run states i ∷ rest-in run states n (i + 1))
       second g s =
-          lower-says tower nodes run states n k kept ready b q i at-q
+          lower-says tower nodes run states marks n k kept ready b q i at-q
           (second-below nodes k q (code-of nodes k) is-q refl (omega arith) (ready .node) k refl .0) inside g s
           ∙ rw (rest-some run states n i inside)
 
-      bounded : (b a : Bool) → pick b (λ _. here) (λ _. pick a (λ _. seen-before d ahead) (λ _. never)) .ticks .0 ≤ 65536 * (n - i)
+      when : (ahead : Ahead) (b a : Bool) → ComesIn far ahead
+          → ComesIn (pick b (λ _. ticks 0) (λ _. pick a (λ _. plus d far) (λ _. never-far)))
+          (pick b (λ _. here) (λ _. pick a (λ _. seen-before d ahead) (λ _. never)))
+      when ahead true a seen = comes-here
+      when ahead false true seen = comes-later d far ahead seen
+      when ahead false false seen = comes-never
+
+      bounded : (b a : Bool) → pick b (λ _. ticks 0) (λ _. pick a (λ _. plus d far) (λ _. never-far)) .0 ≤ 65536 * (n - i + 1)
       bounded true a = omega arith
-      bounded false true = seen-bound d ahead n i (step-short tower run states i d is-d bytes) (waits .bound) inside
+      bounded false true = omega (arith, step-short tower run states i d is-d bytes, waits .bound)
       bounded false false = omega arith
 
 -- A node that is nothing else is a U.

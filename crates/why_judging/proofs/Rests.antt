@@ -2,14 +2,15 @@
 use Prim.Native.Nat.{ℕ, suc, _+_, _-_, _*_, _≤_, _<_}
 use native.Mathlib.Omega.{arith}
 use native.Mathlib.Numerals.{add-one}
-use mathlib.Core.Path.{_≡_, refl, ap, _∙_}
-use mathlib.Core.Bool.{Bool, true, false, not}
+use native.Mathlib.Decide.{decLe}
+use mathlib.Core.Path.{_≡_, refl, sym, ap, _∙_}
+use mathlib.Core.Bool.{Bool, true, false, _&&_}
 use mathlib.Core.List.{List, [], _∷_}
 use lib.ListN.{getD, set}
 use lib.Dec.{leb, eqb}
 use mir.Syntax.{w8}
 use mir.Val.{Fits}
-use borrow.Author.Tests.{not-true, not-false}
+use borrow.Author.Tests.{le-leb, lt-leb}
 use Rattle.base.specs.Choice.{pick}
 use Rattle.base.specs.Lists.{count-from}
 use Rattle.base.specs.Bytes.{byte-at}
@@ -22,7 +23,7 @@ use Rattle.judging.specs.Judging.{judged}
 use Rattle.judging.specs.Ahead.{here, never, seen-before, comes-within}
 use Rattle.judging.specs.declared.Ahead.{Ahead}
 use Rattle.judging.proofs.Judged.{judged-kept}
-use Rattle.why_judging.specs.Judgement.{state-in, moment-in, rest-in, RunHeld, kept-byte}
+use Rattle.why_judging.specs.Judgement.{never-far, ComesIn, state-in, moment-in, rest-in, RunHeld, kept-byte}
 
 -- ---- what is left of a run
 
@@ -66,40 +67,39 @@ module _ (tower run states : List ℕ) (i : ℕ) (d : Tick) where
 
 -- ---- what is ahead
 
--- The same from one action before.
-pub seen-is : (d : Tick) (ahead : Ahead) → record { comes = ahead .comes; ticks = ticks (d .0 + ahead .ticks .0) } ≡ seen-before d ahead
-unfolding seen-before plus
-seen-is d ahead = refl
+-- a time on both sides
+shifted : (d x t : ℕ) → d ≤ t → leb (d + x) t ≡ leb x (t - d)
+shifted d x t l = elim (decLe x (t - d)) [
+  | yes low ↦ le-leb (d + x) t (omega arith) ∙ sym (le-leb x (t - d) low)
+  | no high ↦ lt-leb (d + x) t (omega (arith, high)) ∙ sym (lt-leb x (t - d) (omega (arith, high)))
+]
 
-module _ (part : Bool) (d : Tick) (ahead : Ahead) where
-  -- The part of an A fails later, or here.
-  pub fails-later : (r : Ahead) → r ≡ seen-before d ahead → part ≡ true → r ≡ pick part (λ _. seen-before d ahead) (λ _. here)
-  fails-later r e yes-it-is = rw (yes-it-is, e)
+-- It comes here,
+pub comes-here : ComesIn (ticks 0) here
+unfolding comes-within
+comes-here = record { says = λ t low. refl }
 
-  pub fails-here : part ≡ false → here ≡ pick part (λ _. seen-before d ahead) (λ _. here)
-  fails-here it-is-not = rw it-is-not
+-- or never,
+pub comes-never : ComesIn never-far never
+unfolding comes-within at-most
+comes-never = record { says = λ t low. lt-leb 65536 (t .0) (omega arith) }
 
-module _ (first second : Bool) (d : Tick) (ahead : Ahead) where
-  -- A U ends here, later, or never.
-  pub ends-here : second ≡ true → here ≡ pick second (λ _. here) (λ _. pick first (λ _. seen-before d ahead) (λ _. never))
-  ends-here yes-it-is = rw yes-it-is
-
-  pub ends-later : (r : Ahead) → r ≡ seen-before d ahead → second ≡ false → first ≡ true
-      → r ≡ pick second (λ _. here) (λ _. pick first (λ _. seen-before d ahead) (λ _. never))
-  ends-later r e it-is-not yes-it-is = rw (it-is-not, yes-it-is, e)
-
-  pub ends-never : second ≡ false → first ≡ false → never ≡ pick second (λ _. here) (λ _. pick first (λ _. seen-before d ahead) (λ _. never))
-  ends-never it-is-not nor-it = rw (it-is-not, nor-it)
-
-module _ (ahead : Ahead) (t : Tick) where
-  -- It never comes, or it comes: soon enough or not.
-  pub within-never : not (ahead .comes) ≡ true → false ≡ comes-within ahead t
-  unfolding comes-within
-  within-never fails = rw (not-true (ahead .comes) fails)
-
-  pub within-comes : not (ahead .comes) ≡ false → leb (ahead .ticks .0) (t .0) ≡ comes-within ahead t
-  unfolding comes-within at-most
-  within-comes comes = rw (not-false (ahead .comes) comes)
+-- or an action later than from the next position.
+pub comes-later : (d far : Tick) (ahead : Ahead) → ComesIn far ahead → ComesIn (plus d far) (seen-before d ahead)
+unfolding comes-within seen-before at-most plus
+comes-later d far ahead next =
+    record {
+      says = λ t low. elim (decLe (d .0) (t .0)) [
+        | yes l ↦ shifted (d .0) (far .0) (t .0) l ∙ next .says (ticks (t .0 - d .0)) (omega arith)
+            ∙ ap (λ b. ahead .comes && b) (sym (shifted (d .0) (ahead .ticks .0) (t .0) l))
+        | no l ↦ lt-leb (d .0 + far .0) (t .0) (omega (arith, l))
+            ∙ sym (ap (λ b. ahead .comes && b) (lt-leb (d .0 + ahead .ticks .0) (t .0) (omega (arith, l))) ∙ and-false (ahead .comes))
+      ];
+    }
+  where
+    and-false : (b : Bool) → (b && false) ≡ false
+    and-false true = refl
+    and-false false = refl
 
 -- ---- a byte that is written
 

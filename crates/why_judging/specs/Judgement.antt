@@ -1,19 +1,23 @@
 -- A run as bytes, and what is judged of it: a byte for each node at each position, 1 where its formula is kept.
-use Prim.Native.Nat.{ℕ, _+_, _-_, _*_, _≤_, _<_}
+use Prim.Native.Nat.{ℕ, _+_, _-_, _*_, _/_, _%_, _≤_, _<_}
 use mathlib.Core.Path.{_≡_}
 use mathlib.Core.Bool.{Bool}
+use mathlib.Core.Logic.{_⊎_}
 use mathlib.Core.List.{List, map}
-use lib.ListN.{length}
+use lib.ListN.{length, set}
+use lib.Dec.{eqb}
 use Rattle.base.specs.Choice.{pick}
 use Rattle.base.specs.Lists.{count-from}
 use Rattle.base.specs.Bytes.{byte-at, number-at}
-use Rattle.logic.specs.Tower.{Tower, FitTower, tower-of}
+use Rattle.logic.specs.Time.{ticks, at-most}
+use Rattle.logic.specs.Tower.{Tower, FitTower, tower-of, mask-of}
 use Rattle.logic.specs.Book.{Formula, constant, proposition, and, or, next, always-for, until}
-use Rattle.logic.specs.Runs.{Moment, Trace}
+use Rattle.logic.specs.Runs.{Moment, Trace, duration}
+use Rattle.logic.specs.declared.Tick.{Tick}
 use Rattle.judging.specs.Judging.{judged}
-use Rattle.judging.specs.Ahead.{never, fails-ahead, ends-ahead}
+use Rattle.judging.specs.Ahead.{never, comes-within, fails-ahead, ends-ahead}
 use Rattle.judging.specs.declared.Ahead.{Ahead}
-use Rattle.book_progression.specs.NodeBytes.{Stored, IsNode}
+use Rattle.book_progression.specs.NodeBytes.{code-of, number-of, Stored, IsNode}
 
 -- ---- the run
 
@@ -46,6 +50,45 @@ pub record RunHeld (tower run states : List ℕ) (n : ℕ) : Type 0 where
   pub states-low : (i : ℕ) → i < n → state-in states i < tower-of tower .states
   pub actions-low : (i : ℕ) → i < n → byte-at run i < tower-of tower .actions
 
+-- ---- what its positions show
+
+-- bytes for that: the marks below 8, those from 8 on, and the lengths of the steps, one for each position
+abbrev pub marks-size : ℕ
+marks-size = 3000
+
+-- the mask of the state at position i
+abbrev pub mask-in : List ℕ → List ℕ → ℕ → ℕ
+mask-in tower states i = mask-of tower (state-in states i)
+
+-- the length of the step that leaves it
+abbrev pub length-in : List ℕ → List ℕ → List ℕ → ℕ → Tick
+length-in tower run states i = duration (tower-of tower) (moment-in run states i)
+
+-- the same bytes with what position i shows
+unfoldable pub with-moment : List ℕ → List ℕ → List ℕ → ℕ → List ℕ → List ℕ
+with-moment tower run states i marks =
+    set (set (set marks i (mask-in tower states i % 256)) (1000 + i) (mask-in tower states i / 256 % 256)) (2000 + i) (length-in tower run states i .0)
+
+-- The bytes are what position i shows.
+pub record MomentMarked (tower run states marks : List ℕ) (i : ℕ) : Type 0 where
+  pub low : byte-at marks i ≡ mask-in tower states i % 256
+  pub high : byte-at marks (1000 + i) ≡ mask-in tower states i / 256 % 256
+  pub step : ticks (byte-at marks (2000 + i)) ≡ length-in tower run states i
+
+-- They are for every position of the run.
+pub record RunMarked (tower run states marks : List ℕ) (n : ℕ) : Type 0 where
+  pub held : RunHeld tower run states n
+  pub room : marks-size ≤ length marks
+  pub at : (i : ℕ) → i < n → MomentMarked tower run states marks i
+
+-- Node k is a mark, wanted or not, and bit m of the bytes that begin at `from` shows it.
+pub record MarkShown (nodes : List ℕ) (k from m : ℕ) (wanted : Bool) : Type 0 where
+  pub low : 1 < code-of nodes k
+  pub high : code-of nodes k ≤ 3
+  pub is-wanted : wanted ≡ eqb (code-of nodes k) 3
+  pub small : m < 8
+  pub shown : ((from ≡ 0) × (number-of nodes k ≡ m)) ⊎ ((from ≡ 1000) × (number-of nodes k ≡ 8 + m))
+
 -- ---- what is judged
 
 -- bytes for all nodes at all positions
@@ -70,8 +113,8 @@ pub record NodesJudged (tower nodes run states : List ℕ) (n k : ℕ) (kept : L
   pub says : (j : ℕ) → j < k → NodeJudged tower nodes run states n j 0 kept
 
 -- What is asked before node k is judged: those below it are.
-pub record NodeNext (tower nodes run states : List ℕ) (n k : ℕ) (kept : List ℕ) : Type 0 where
-  pub held : RunHeld tower run states n
+pub record NodeNext (tower nodes run states marks : List ℕ) (n k : ℕ) (kept : List ℕ) : Type 0 where
+  pub marked : RunMarked tower run states marks n
   pub node : IsNode nodes k
   pub low : k < 60
   pub room : kept-size ≤ length kept
@@ -87,10 +130,18 @@ waits-for tower (next c t g) run = never
 waits-for tower (always-for t g) run = fails-ahead tower (judged tower g) run
 waits-for tower (until t f g) run = ends-ahead tower (judged tower f) (judged tower g) run
 
--- What node k waits for at position i.
-pub record NodeWaits (ahead : Ahead) (tower nodes run states : List ℕ) (n k i : ℕ) : Type 0 where
-  pub says : (f : Formula) → Stored nodes f k → ahead ≡ waits-for (tower-of tower) f (rest-in run states n i)
-  pub bound : ahead .ticks .0 ≤ 65536 * (n - i)
+-- later than any bound
+abbrev pub never-far : Tick
+never-far = ticks 65536
+
+-- So far ahead it comes, as every bound sees it: within the bound, or not.
+pub record ComesIn (far : Tick) (ahead : Ahead) : Type 0 where
+  pub says : (t : Tick) → t .0 ≤ 254 → at-most far t ≡ comes-within ahead t
+
+-- So far ahead of position i comes what node k waits for.
+pub record NodeWaits (far : Tick) (tower nodes run states : List ℕ) (n k i : ℕ) : Type 0 where
+  pub says : (f : Formula) → Stored nodes f k → ComesIn far (waits-for (tower-of tower) f (rest-in run states n i))
+  pub bound : far .0 ≤ 65536 * (n - i + 1)
 
 -- Whether node k is kept at position i.
 pub record KeptHere (b : Bool) (tower nodes run states : List ℕ) (n k i : ℕ) : Type 0 where

@@ -13,7 +13,7 @@ ghost use Rattle.base.specs.Lists.{below, place-of};
 ghost use Rattle.logic.specs.Tower.{FitTower, tower-of};
 ghost use Rattle.logic.specs.Runs.{IsRun};
 ghost use Rattle.reading.specs.BookArea.{lines-in};
-ghost use Rattle.why_judging.specs.Judgement.{position-room, states-size, kept-size, RunHeld, kept-in};
+ghost use Rattle.why_judging.specs.Judgement.{position-room, states-size, marks-size, kept-size, RunHeld, kept-in};
 ghost use Rattle.why_lines.specs.Lines.{RunNoted, RunGiven, LinesReady, LineFails, RunJudged};
 
 // The line that a run breaks, and the position.
@@ -128,14 +128,16 @@ pub fn judge(
     run: &[u8],
     n: usize,
     states: &mut [u8],
+    marks: &mut [u8],
     kept: &mut [u8],
 ) -> Place
     requires { ⌜ RunGiven (now tower) (now nodes) (now run) n ⌝ }
     requires { ⌜ states-size ≤ length (now states) ⌝ }
+    requires { ⌜ marks-size ≤ length (now marks) ⌝ }
     requires { ⌜ kept-size ≤ length (now kept) ⌝ }
     ensures { λ r. ⌜ RunJudged r (now (tower .entry)) (now (nodes .entry)) (now (run .entry)) n ⌝ }
 {
     note_states(tower, run, n, states);
-    why_judging::judge_nodes(tower, nodes, run, states, n, kept);
+    why_judging::judge_nodes(tower, nodes, run, states, n, marks, kept);
     lowest(tower, nodes, run, states, n, kept)
 }

@@ -11,7 +11,7 @@ show-run-spec =
     (λ c κs. search needs)
     (λ c κs. (search (needs, write-held), (search (needs, write-lower), (search needs, (search (needs, write-pair), search (needs, write-action))))))
     (λ c. search needs) (λ c. search needs)
-    (λ c κs. (search (needs, run-judgeable), (search needs, search needs)))
+    (λ c κs. (search (needs, run-judgeable), (search needs, (search needs, search needs))))
     (λ c. search needs) (λ c. search needs)
     (λ c. search (needs, run-short))
     (λ c. search needs) (λ c. search needs) (λ c. search needs) (λ c. search needs)

@@ -10,11 +10,8 @@ pub both-at-spec : {M : Type 1} → statement M
 both-at-spec =
     tie.close
     (tie.spec
-    (λ c κs. search all)
     (λ c κs. (search all, (search all, search all)))
-    (λ c κs. search all)
     (λ c κs. (search all, (search all, search all)))
-    (λ c κs. search all)
     (λ c. search (needs, and-holds))
     (λ c. search (needs, and-fails))
     (λ c. search (needs, or-holds))

@@ -1,16 +1,19 @@
--- `ends`: here, where it was seen, or never.
-use Rattle.why_judging.proofs.Rests.{ends-here, ends-later, ends-never}
+-- `ends`: here, later, or never.
+use mathlib.Core.Path.{refl}
+use Rattle.logic.specs.Time.{plus}
 use borrow.Author.Needs.{needs}
 use Rattle.why_judging.proofs.ends.Statement.{statement}
 use Rattle.why_judging.proofs.ends.Tie as tie
 
+returns : tie.Need-returns
+returns c = rw (c .if1 .taken) refl
+
+returns-2 : tie.Need-returns-2
+unfolding plus
+returns-2 c = rw (c .before .before .before .if1 .left, c .before .before .if2 .taken) refl
+
+returns-3 : tie.Need-returns-3
+returns-3 c = rw (c .before .if1 .left, c .if2 .left) refl
+
 pub ends-spec : {M : Type 1} → statement M
-ends-spec =
-    tie.close
-    (tie.spec
-    (λ c. let given = c .before .args in ends-here (given .first) (given .second) (given .d) (given .ahead) (c .if1 .taken))
-    (λ c κs. search needs)
-    (λ c. ends-later _ _ _ _ _ (c .before2 .ensures) (c .before .before .if1 .left) (c .before .if2 .taken))
-    (λ c.
-    let given = c .before .before .args in
-    ends-never (given .first) (given .second) (given .d) (given .ahead) (c .before .if1 .left) (c .if2 .left)))
+ends-spec = tie.close (tie.spec returns (λ c. search needs) returns-2 returns-3)

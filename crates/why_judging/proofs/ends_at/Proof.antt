@@ -11,9 +11,7 @@ pub ends-at-spec : {M : Type 1} → statement M
 ends-at-spec =
     tie.close
     (tie.spec
-    (λ c κs. search all)
     (λ c κs. (search all, (search all, search all)))
-    (λ c κs. search all)
     (λ c κs. (search all, (search all, search all)))
     (λ c κs. search all)
     (λ c κs. (search all, search all))

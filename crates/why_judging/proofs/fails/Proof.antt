@@ -1,12 +1,16 @@
--- `fails`: here, or where it was seen.
-use Rattle.why_judging.proofs.Rests.{fails-later, fails-here}
+-- `fails`: here, or later.
+use mathlib.Core.Path.{refl}
+use Rattle.logic.specs.Time.{plus}
 use borrow.Author.Needs.{needs}
 use Rattle.why_judging.proofs.fails.Statement.{statement}
 use Rattle.why_judging.proofs.fails.Tie as tie
 
+returns : tie.Need-returns
+unfolding plus
+returns c = rw (c .before .before .if1 .taken) refl
+
+returns-2 : tie.Need-returns-2
+returns-2 c = rw (c .if1 .left) refl
+
 pub fails-spec : {M : Type 1} → statement M
-fails-spec =
-    tie.close
-    (tie.spec (λ c κs. search needs)
-    (λ c. fails-later _ _ _ _ (c .before2 .ensures) (c .before .if1 .taken))
-    (λ c. fails-here _ _ _ (c .if1 .left)))
+fails-spec = tie.close (tie.spec (λ c. search needs) returns returns-2)

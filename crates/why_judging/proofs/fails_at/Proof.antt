@@ -11,7 +11,6 @@ pub fails-at-spec : {M : Type 1} → statement M
 fails-at-spec =
     tie.close
     (tie.spec
-    (λ c κs. search all)
     (λ c κs. (search all, (search all, search all)))
     (λ c κs. search all)
     (λ c κs. (search all, search all))

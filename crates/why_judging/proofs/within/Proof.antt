@@ -1,7 +1,13 @@
--- `within`: it comes, and soon enough.
-use Rattle.why_judging.proofs.Rests.{within-never, within-comes}
+-- `within`: it comes soon enough.
+use mathlib.Core.Path.{refl}
+use Rattle.logic.specs.Time.{at-most}
+use borrow.Author.Needs.{needs}
 use Rattle.why_judging.proofs.within.Statement.{statement}
 use Rattle.why_judging.proofs.within.Tie as tie
 
+returns : tie.Need-returns
+unfolding at-most
+returns c = refl
+
 pub within-spec : {M : Type 1} → statement M
-within-spec = tie.close (tie.spec (λ c. within-never _ _ (c .if1 .taken)) (λ c. within-comes _ _ (c .before .before .if1 .left)))
+within-spec = tie.close (tie.spec returns)
