@@ -5,18 +5,18 @@ use native.Mathlib.Nat.{add-zero, mul-le-mul}
 use native.Mathlib.Numerals.{add-one}
 use native.Mathlib.Decide.{decLt, ℕ-discrete}
 use mathlib.Core.Path.{_≡_, refl, sym, _∙_, ap, ap₂}
-use mathlib.Core.Logic.{inl}
-use mathlib.Core.Bool.{Bool, true, false, _&&_}
+use mathlib.Core.Logic.{_⊎_, inl, inr}
+use mathlib.Core.Bool.{Bool, true, false, _&&_, true≢false}
 use mathlib.Core.List.{List, map}
 use lib.ListN.{length, getD}
 use lib.Seq.{sets}
 use lib.Dec.{eqb}
-use borrow.Author.Tests.{eq-eqb, ne-eqb}
+use borrow.Author.Tests.{eqb-true, eqb-false, eq-eqb}
 use mir.Syntax.{w8, w64}
 use mir.Val.{Fits}
 use Rattle.base.specs.Bytes.{number-at, number-bytes}
 use Rattle.base.specs.Lists.{place-of, same-list, total}
-use Rattle.base.proofs.Lists.{false-by}
+use Rattle.base.proofs.Lists.{whether, false-by}
 use Rattle.area_bytes.proofs.Numbers.{number-bound, same-bytes}
 use Rattle.area_chains.specs.Chains.{head-in, link-in, added, Apart}
 use Rattle.area_chains.proofs.Walks.{Walking, walk-start, walk-first, walk-on, walk-falls, walk-ahead}
@@ -177,7 +177,7 @@ pub record ComparingBytes (entries : List ℕ) (s t k : ℕ) : Type 0 where
   pub equal : (m : ℕ) → m < k → getD entries (60 * s + m) 0 ≡ getD entries (60 * t + m) 0
 
 -- Before the first bytes.
-pub bytes-start : (entries : List ℕ) (s t : ℕ) → ComparingBytes entries s t 0
+bytes-start : (entries : List ℕ) (s t : ℕ) → ComparingBytes entries s t 0
 bytes-start entries s t = record { most = omega arith; equal = λ m l. absurd (omega arith) }
 
 -- the next eight bytes are equal
@@ -196,11 +196,6 @@ bytes-next entries s t k last x y g less most e f same bytes =
       ];
     }
 
--- The next eight bytes are equal.
-pub bytes-more : (entries : List ℕ) (s t k x y : ℕ) → ComparingBytes entries s t k → k < 52 → x ≡ number-at 8 entries (60 * s + k)
-    → y ≡ number-at 8 entries (60 * t + k) → x ≡ y → ((n : ℕ) → Fits w8 (getD entries n 0)) → ComparingBytes entries s t (k + 8)
-bytes-more entries s t k x y g l e f same bytes = bytes-next entries s t k k x y g (omega arith) (omega arith) e f same bytes
-
 -- eight bytes that are not equal
 differ-at : (entries : List ℕ) (s t k x y : ℕ) → k ≤ 52 → x ≡ number-at 8 entries (60 * s + k) → y ≡ number-at 8 entries (60 * t + k)
     → (x ≡ y → ⊥) → same-list eqb (alternative-at entries s) (alternative-at entries t) ≡ false
@@ -210,11 +205,6 @@ differ-at entries s t k x y l e f apart =
     ∙ ap (λ (bytes : List ℕ). number-at 8 bytes k) (same-alternative-out (alternative-at entries s) (alternative-at entries t) same)
     ∙ alternative-number 8 entries t k (omega arith) ∙ sym f))
 
--- The next eight bytes are not equal.
-pub bytes-differ : (entries : List ℕ) (s t k x y : ℕ) → k < 52 → x ≡ number-at 8 entries (60 * s + k)
-    → y ≡ number-at 8 entries (60 * t + k) → (x ≡ y → ⊥) → false ≡ same-list eqb (alternative-at entries s) (alternative-at entries t)
-bytes-differ entries s t k x y l e f apart = sym (differ-at entries s t k x y (omega arith) e f apart)
-
 -- all bytes are equal
 bytes-all : (entries : List ℕ) (s t : ℕ) → ComparingBytes entries s t alternative-bytes → s < alternatives-room → t < alternatives-room
     → entries-size ≤ length entries → same-list eqb (alternative-at entries s) (alternative-at entries t) ≡ true
@@ -222,15 +212,49 @@ bytes-all entries s t g room room′ long =
     same-alternative-in (alternative-at entries s) (alternative-at entries t)
     (alternative-same entries entries s t (omega arith) (omega arith) (g .equal))
 
--- The last eight bytes decide.
-pub bytes-end : (entries : List ℕ) (s t k x y : ℕ) → ComparingBytes entries s t k → 52 ≤ k → s < alternatives-room → t < alternatives-room
-    → entries-size ≤ length entries → x ≡ number-at 8 entries (60 * s + 52) → y ≡ number-at 8 entries (60 * t + 52)
-    → ((n : ℕ) → Fits w8 (getD entries n 0)) → eqb x y ≡ same-list eqb (alternative-at entries s) (alternative-at entries t)
-bytes-end entries s t k x y g l room room′ long e f bytes = elim (ℕ-discrete x y) [
-  | yes same ↦ (
-      eq-eqb x y same ∙ sym (bytes-all entries s t (bytes-next entries s t k 52 x y g l (omega arith) e f same bytes) room room′ long))
-  | no apart ↦ ne-eqb x y apart ∙ sym (differ-at entries s t 52 x y (omega arith) e f apart)
-]
+-- The same loop, with what it has found so far: these bytes and the last eight are equal, or the alternatives are not.
+pub record ComparedBytes (entries : List ℕ) (s t k : ℕ) (equal : Bool) : Type 0 where
+  pub same : equal ≡ true → ComparingBytes entries s t k
+  pub last : equal ≡ true → number-at 8 entries (60 * s + 52) ≡ number-at 8 entries (60 * t + 52)
+  pub apart : equal ≡ false → same-list eqb (alternative-at entries s) (alternative-at entries t) ≡ false
+
+-- The last eight bytes come first.
+pub compared-start : (entries : List ℕ) (s t x y : ℕ) → x ≡ number-at 8 entries (60 * s + 52) → y ≡ number-at 8 entries (60 * t + 52)
+    → ComparedBytes entries s t 0 (eqb x y)
+compared-start entries s t x y e f =
+    record {
+      same = λ _. bytes-start entries s t;
+      last = λ yes-they-are. sym e ∙ eqb-true x y yes-they-are ∙ f;
+      apart = λ they-are-not. differ-at entries s t 52 x y (omega arith) e f (eqb-false x y they-are-not);
+    }
+
+module _ (entries : List ℕ) (s t k : ℕ) (equal : Bool) (g : ComparedBytes entries s t k equal) where
+  -- The next eight bytes are not equal, or they are.
+  pub compared-next : (after : Bool) (x y : ℕ) → k < 52 → x ≡ number-at 8 entries (60 * s + k) → y ≡ number-at 8 entries (60 * t + k)
+      → ((n : ℕ) → Fits w8 (getD entries n 0)) → ((x ≡ y → ⊥) × (after ≡ false)) ⊎ ((x ≡ y) × (after ≡ equal))
+      → ComparedBytes entries s t (k + 8) after
+  compared-next after x y l e f bytes (inl (apart, is-after)) =
+      record {
+        same = λ no. absurd (true≢false (sym no ∙ is-after));
+        last = λ no. absurd (true≢false (sym no ∙ is-after));
+        apart = λ _. differ-at entries s t k x y (omega arith) e f apart;
+      }
+  compared-next after x y l e f bytes (inr (same, is-after)) =
+      record {
+        same = λ so-far. bytes-next entries s t k k x y (g .same (sym is-after ∙ so-far)) (omega arith) (omega arith) e f same bytes;
+        last = λ so-far. g .last (sym is-after ∙ so-far);
+        apart = λ no. g .apart (sym is-after ∙ no);
+      }
+
+  -- All have been compared.
+  pub compared-end : 52 ≤ k → s < alternatives-room → t < alternatives-room → entries-size ≤ length entries
+      → ((n : ℕ) → Fits w8 (getD entries n 0)) → equal ≡ same-list eqb (alternative-at entries s) (alternative-at entries t)
+  compared-end l room room′ long bytes =
+      whether equal
+      (λ yes-they-are. yes-they-are ∙ sym (bytes-all entries s t
+      (bytes-next entries s t k 52 (number-at 8 entries (60 * s + 52)) (number-at 8 entries (60 * t + 52)) (g .same yes-they-are) l (omega arith) refl refl
+      (g .last yes-they-are) bytes) room room′ long))
+      (λ they-are-not. they-are-not ∙ sym (g .apart they-are-not))
 
 -- Whether n alternatives from s on and from t on are equal.
 abbrev pub alike : List ℕ → ℕ → ℕ → ℕ → Bool

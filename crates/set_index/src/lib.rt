@@ -103,6 +103,7 @@ pub fn hash(entries: &[u8], i: usize) -> usize
 }
 
 // Whether alternatives s and t are equal: eight bytes at a time, and the last eight, some of them again.
+// Most that are compared are equal, so the loop goes on where they differ.
 fn same_alternative(entries: &[u8], s: usize, t: usize) -> bool
     requires { ⌜ s < alternatives-room ⌝ }
     requires { ⌜ t < alternatives-room ⌝ }
@@ -111,14 +112,16 @@ fn same_alternative(entries: &[u8], s: usize, t: usize) -> bool
 {
     let one = SIZE * s;
     let other = SIZE * t;
+    let last = eight_bytes(entries, one + LAST_EIGHT);
+    let mut equal = last == eight_bytes(entries, other + LAST_EIGHT);
     let mut offset = 0;
     while offset < LAST_EIGHT {
         if eight_bytes(entries, one + offset) != eight_bytes(entries, other + offset) {
-            return false;
+            equal = false;
         }
         offset += 8;
     }
-    eight_bytes(entries, one + LAST_EIGHT) == eight_bytes(entries, other + LAST_EIGHT)
+    equal
 }
 
 // Whether so many alternatives from s on and from t on are equal, each to each.
