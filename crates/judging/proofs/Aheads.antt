@@ -1,19 +1,17 @@
 -- What is ahead in a run answers every bound: that the part of an A passes for a time is that it does not fail within it, and that a U passes
--- is that it ends within its bound. What is ahead is no further than the longest action for each action of the run.
-use Prim.Native.Nat.{ℕ, suc, _+_, _-_, _*_, _≤_}
+-- is that it ends within its bound.
+use Prim.Native.Nat.{_+_, _-_, _≤_}
 use native.Mathlib.Omega.{arith}
-use native.Mathlib.Nat.{mul-suc}
 use mathlib.Core.Path.{_≡_, refl, sym, ap, _∙_}
 use mathlib.Core.Bool.{Bool, true, false, _&&_, _||_, not}
-use mathlib.Core.List.{[], _∷_, List·Memᴰ, List·Memᴰ·head, List·Memᴰ·tail}
-use lib.ListN.{length}
+use mathlib.Core.List.{[], _∷_}
 use lib.Dec.{leb}
 use borrow.Author.Tests.{leb-true, le-leb}
 use Rattle.base.specs.Choice.{pick}
 use Rattle.base.proofs.Lists.{same-truth, and-left, and-right, and-both}
 use Rattle.logic.specs.Time.{plus, minus, at-most}
 use Rattle.logic.specs.Tower.{Tower}
-use Rattle.logic.specs.Runs.{Moment, Trace, duration}
+use Rattle.logic.specs.Runs.{Trace, duration}
 use Rattle.logic.specs.declared.Tick.{Tick}
 use Rattle.judging.specs.Judging.{passes-for, passes-until}
 use Rattle.judging.specs.Ahead.{here, never, seen-before, comes-within, fails-ahead, ends-ahead}
@@ -25,7 +23,7 @@ unfolding comes-within at-most
 here-within t = le-leb 0 (t .0) (omega arith)
 
 -- two times one after the other fit into a time if the first does, and the second into what is left of it
-plus-at-most : (d e t : Tick) → at-most (plus d e) t ≡ (at-most d t && at-most e (minus t d))
+pub plus-at-most : (d e t : Tick) → at-most (plus d e) t ≡ (at-most d t && at-most e (minus t d))
 unfolding at-most plus minus
 plus-at-most d e t =
     same-truth (leb (d .0 + e .0) (t .0)) (leb (d .0) (t .0) && leb (e .0) (t .0 - d .0))
@@ -37,7 +35,7 @@ plus-at-most d e t =
     fits first second = le-leb (d .0 + e .0) (t .0) (omega arith)
 
 -- what comes behind an action comes within a time if the action fits into it, and the rest into what is left of it
-seen-within : (d t : Tick) (ahead : Ahead) → comes-within (seen-before d ahead) t ≡ (at-most d t && comes-within ahead (minus t d))
+pub seen-within : (d t : Tick) (ahead : Ahead) → comes-within (seen-before d ahead) t ≡ (at-most d t && comes-within ahead (minus t d))
 unfolding comes-within seen-before
 seen-within d t ahead = go (ahead .comes) (at-most d t) (plus-at-most d (ahead .ticks) t)
   where
@@ -86,44 +84,3 @@ passes-until-ahead tower f g (m ∷ run) t =
     go true c ih = sym (here-within t)
     go false true ih = ap (λ (p : Bool). at-most d t && p) ih ∙ sym (seen-within d t (ends-ahead tower f g run))
     go false false ih = refl
-
--- ---- How far ahead it may be
-
-module _ (tower : Tower) (most : ℕ) where
-  -- every action of the run is at most this long
-  abbrev pub Short : Trace → Type 0
-  Short run = (m : Moment) → List·Memᴰ m run → duration tower m .0 ≤ most
-
-  -- what is ahead is at most this long for each of n actions
-  abbrev Near : Ahead → ℕ → Type 0
-  Near ahead n = ahead .ticks .0 ≤ most * n
-
-  near-before : (d : Tick) (ahead : Ahead) (n : ℕ) → d .0 ≤ most → Near ahead n → Near (seen-before d ahead) (suc n)
-  unfolding seen-before plus
-  near-before d ahead n short near = omega (arith, mul-suc most n)
-
-  -- The part of an A next fails no further ahead than the longest action for each action of the run.
-  pub fails-ahead-bound : (g : Trace → Bool) (run : Trace) → Short run → fails-ahead tower g run .ticks .0 ≤ most * length run
-  unfolding fails-ahead
-  fails-ahead-bound g [] short = omega arith
-  fails-ahead-bound g (m ∷ run) short =
-      go (g (m ∷ run)) (short m (List·Memᴰ·head refl)) (fails-ahead-bound g run (λ n listed. short n (List·Memᴰ·tail listed)))
-    where
-      go : (b : Bool) → duration tower m .0 ≤ most → Near (fails-ahead tower g run) (length run)
-          → Near (pick b (λ _. seen-before (duration tower m) (fails-ahead tower g run)) (λ _. here)) (suc (length run))
-      go true first ih = near-before (duration tower m) (fails-ahead tower g run) (length run) first ih
-      go false first ih = omega arith
-
-  -- A U next ends no further ahead than that.
-  pub ends-ahead-bound : (f g : Trace → Bool) (run : Trace) → Short run → ends-ahead tower f g run .ticks .0 ≤ most * length run
-  unfolding ends-ahead
-  ends-ahead-bound f g [] short = omega arith
-  ends-ahead-bound f g (m ∷ run) short =
-      go (g (m ∷ run)) (f (m ∷ run)) (short m (List·Memᴰ·head refl)) (ends-ahead-bound f g run (λ n listed. short n (List·Memᴰ·tail listed)))
-    where
-      go : (b c : Bool) → duration tower m .0 ≤ most → Near (ends-ahead tower f g run) (length run)
-          → Near (pick b (λ _. here) (λ _. pick c (λ _. seen-before (duration tower m) (ends-ahead tower f g run)) (λ _. never)))
-          (suc (length run))
-      go true c first ih = omega arith
-      go false true first ih = near-before (duration tower m) (ends-ahead tower f g run) (length run) first ih
-      go false false first ih = omega arith

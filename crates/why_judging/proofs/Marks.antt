@@ -4,7 +4,7 @@ use native.Mathlib.Omega.{arith}
 use native.Mathlib.Decide.{ℕ-discrete}
 use mathlib.Core.Path.{_≡_, refl, sym, ap, _∙_}
 use mathlib.Core.Bool.{Bool, Bool·beq}
-use mathlib.Core.Logic.{_⊎_, inl, inr}
+use mathlib.Core.Logic.{inl, inr}
 use mathlib.Core.List.{List}
 use lib.ListN.{length, set, getD, length-set}
 use lib.Seq.{getD-set-same, getD-set-other}
@@ -16,7 +16,6 @@ use Rattle.logic.specs.Time.{ticks}
 use Rattle.logic.specs.Tower.{tower-of, length-of, layout-of, mask-of, bit}
 use Rattle.logic.specs.declared.Tick.{Tick}
 use Rattle.book_progression.specs.NodeBytes.{code-of, number-of}
-use Rattle.book_progression.specs.Contracts.{HoldsAt}
 use Rattle.book_progression.proofs.Holding.{holds-constant, holds-mark}
 use Rattle.why_judging.specs.Judgement.{marks-size, state-in, mask-in, length-in, with-moment, RunHeld, MomentMarked, RunMarked, MarkShown, KeptHere}
 use Rattle.why_judging.proofs.Rests.{step-is}

@@ -2,19 +2,17 @@
 use Prim.Native.Nat.{ℕ, suc, _+_, _-_, _*_, _≤_, _<_}
 use native.Mathlib.Omega.{arith}
 use native.Mathlib.Numerals.{add-one}
-use native.Mathlib.Decide.{decLe}
 use mathlib.Core.Path.{_≡_, refl, sym, ap, _∙_}
 use mathlib.Core.Bool.{Bool, true, false, _&&_}
 use mathlib.Core.List.{List, [], _∷_}
 use lib.ListN.{getD, set}
-use lib.Dec.{leb, eqb}
+use lib.Dec.{eqb}
 use mir.Syntax.{w8}
 use mir.Val.{Fits}
-use borrow.Author.Tests.{le-leb, lt-leb}
-use Rattle.base.specs.Choice.{pick}
+use borrow.Author.Tests.{lt-leb}
 use Rattle.base.specs.Lists.{count-from}
 use Rattle.base.specs.Bytes.{byte-at}
-use Rattle.logic.specs.Time.{ticks, plus, at-most}
+use Rattle.logic.specs.Time.{ticks, plus, minus, at-most}
 use Rattle.logic.specs.Tower.{Tower, tower-of, length-of, layout-of}
 use Rattle.logic.specs.Book.{Formula}
 use Rattle.logic.specs.Runs.{duration, Kept, Judged}
@@ -23,6 +21,7 @@ use Rattle.judging.specs.Judging.{judged}
 use Rattle.judging.specs.Ahead.{here, never, seen-before, comes-within}
 use Rattle.judging.specs.declared.Ahead.{Ahead}
 use Rattle.judging.proofs.Judged.{judged-kept}
+use Rattle.judging.proofs.Aheads.{plus-at-most, seen-within}
 use Rattle.why_judging.specs.Judgement.{never-far, ComesIn, state-in, moment-in, rest-in, RunHeld, kept-byte}
 
 -- ---- what is left of a run
@@ -67,13 +66,6 @@ module _ (tower run states : List ℕ) (i : ℕ) (d : Tick) where
 
 -- ---- what is ahead
 
--- a time on both sides
-shifted : (d x t : ℕ) → d ≤ t → leb (d + x) t ≡ leb x (t - d)
-shifted d x t l = elim (decLe x (t - d)) [
-  | yes low ↦ le-leb (d + x) t (omega arith) ∙ sym (le-leb x (t - d) low)
-  | no high ↦ lt-leb (d + x) t (omega (arith, high)) ∙ sym (lt-leb x (t - d) (omega (arith, high)))
-]
-
 -- It comes here,
 pub comes-here : ComesIn (ticks 0) here
 unfolding comes-within
@@ -86,20 +78,11 @@ comes-never = record { says = λ t low. lt-leb 65536 (t .0) (omega arith) }
 
 -- or an action later than from the next position.
 pub comes-later : (d far : Tick) (ahead : Ahead) → ComesIn far ahead → ComesIn (plus d far) (seen-before d ahead)
-unfolding comes-within seen-before at-most plus
+unfolding minus
 comes-later d far ahead next =
     record {
-      says = λ t low. elim (decLe (d .0) (t .0)) [
-        | yes l ↦ shifted (d .0) (far .0) (t .0) l ∙ next .says (ticks (t .0 - d .0)) (omega arith)
-            ∙ ap (λ b. ahead .comes && b) (sym (shifted (d .0) (ahead .ticks .0) (t .0) l))
-        | no l ↦ lt-leb (d .0 + far .0) (t .0) (omega (arith, l))
-            ∙ sym (ap (λ b. ahead .comes && b) (lt-leb (d .0 + ahead .ticks .0) (t .0) (omega (arith, l))) ∙ and-false (ahead .comes))
-      ];
+      says = λ t low. plus-at-most d far t ∙ ap (λ b. at-most d t && b) (next .says (minus t d) (omega arith)) ∙ sym (seen-within d t ahead);
     }
-  where
-    and-false : (b : Bool) → (b && false) ≡ false
-    and-false true = refl
-    and-false false = refl
 
 -- ---- a byte that is written
 

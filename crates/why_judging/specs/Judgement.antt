@@ -52,7 +52,13 @@ pub record RunHeld (tower run states : List ℕ) (n : ℕ) : Type 0 where
 
 -- ---- what its positions show
 
--- bytes for that: the marks below 8, those from 8 on, and the lengths of the steps, one for each position
+-- bytes for that, one for each position of each: the marks below 8, behind them those from 8 on, and the lengths of the steps
+abbrev pub high-marks-at : ℕ
+high-marks-at = 1000
+
+abbrev pub lengths-at : ℕ
+lengths-at = 2000
+
 abbrev pub marks-size : ℕ
 marks-size = 3000
 
@@ -67,13 +73,14 @@ length-in tower run states i = duration (tower-of tower) (moment-in run states i
 -- the same bytes with what position i shows
 unfoldable pub with-moment : List ℕ → List ℕ → List ℕ → ℕ → List ℕ → List ℕ
 with-moment tower run states i marks =
-    set (set (set marks i (mask-in tower states i % 256)) (1000 + i) (mask-in tower states i / 256 % 256)) (2000 + i) (length-in tower run states i .0)
+    set (set (set marks i (mask-in tower states i % 256)) (high-marks-at + i) (mask-in tower states i / 256 % 256)) (lengths-at + i)
+    (length-in tower run states i .0)
 
 -- The bytes are what position i shows.
 pub record MomentMarked (tower run states marks : List ℕ) (i : ℕ) : Type 0 where
   pub low : byte-at marks i ≡ mask-in tower states i % 256
-  pub high : byte-at marks (1000 + i) ≡ mask-in tower states i / 256 % 256
-  pub step : ticks (byte-at marks (2000 + i)) ≡ length-in tower run states i
+  pub high : byte-at marks (high-marks-at + i) ≡ mask-in tower states i / 256 % 256
+  pub step : ticks (byte-at marks (lengths-at + i)) ≡ length-in tower run states i
 
 -- They are for every position of the run.
 pub record RunMarked (tower run states marks : List ℕ) (n : ℕ) : Type 0 where
@@ -87,7 +94,7 @@ pub record MarkShown (nodes : List ℕ) (k from m : ℕ) (wanted : Bool) : Type 
   pub high : code-of nodes k ≤ 3
   pub is-wanted : wanted ≡ eqb (code-of nodes k) 3
   pub small : m < 8
-  pub shown : ((from ≡ 0) × (number-of nodes k ≡ m)) ⊎ ((from ≡ 1000) × (number-of nodes k ≡ 8 + m))
+  pub shown : ((from ≡ 0) × (number-of nodes k ≡ m)) ⊎ ((from ≡ high-marks-at) × (number-of nodes k ≡ 8 + m))
 
 -- ---- what is judged
 

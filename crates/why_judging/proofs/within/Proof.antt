@@ -1,7 +1,6 @@
 -- `within`: it comes soon enough.
 use mathlib.Core.Path.{refl}
 use Rattle.logic.specs.Time.{at-most}
-use borrow.Author.Needs.{needs}
 use Rattle.why_judging.proofs.within.Statement.{statement}
 use Rattle.why_judging.proofs.within.Tie as tie
 
