@@ -1,5 +1,5 @@
 -- A law for each way through the maker's code: from what is known there, answer and output are what the definitions say.
-use Prim.Native.Nat.{ℕ, _≤_, _<_}
+use Prim.Native.Nat.{ℕ, _*_, _≤_, _<_}
 use native.Mathlib.Omega.{arith}
 use mathlib.Core.Path.{_≡_, refl, sym, _∙_, ap, subst}
 use mathlib.Core.Bool.{Bool, true, false, _&&_, and-true, and-false}
@@ -36,7 +36,8 @@ use Rattle.file_tower.proofs.Laws.{fit-of, fit-gives, refused-of}
 use Rattle.book_reader.specs.Lines.{Answers}
 use Rattle.book_reader.proofs.BookHeld.{BookHeld}
 use Rattle.pair_graph.specs.Graph.{Classes}
-use Rattle.pair_graph.specs.Steps.{graph-of, graph-with, safe-in, class-in, HoldsGraph, FlaggedGraph}
+use Rattle.pair_graph.specs.Steps.{action-room, graph-of, graph-with, safe-in, class-in, HoldsGraph, FlaggedGraph}
+use Rattle.pair_graph.specs.Predecessors.{Listed}
 use Rattle.pair_graph.specs.GraphTable.{graph-table}
 use Rattle.book_progression.specs.NodeBytes.{IsHeld}
 use Rattle.pair_search.specs.Explored.{HoldsPairs, Explored}
@@ -48,11 +49,12 @@ use Rattle.search_areas.proofs.Laws as Lent
 use Rattle.search_areas.proofs.Laws.{eight-areas}
 use Rattle.maker_removal.specs.Removal.{removal-size, Removed}
 use Rattle.maker_classes.specs.Passes.{ReadyForPass, Classified}
+use Rattle.maker_classes.proofs.Laws.{classes-right}
 use Rattle.maker_file.specs.Writing.{ShortNumbers, table-in, Writable, WritesTable}
 use Rattle.maker_file.specs.declared.Written.{Written}
 use Rattle.maker_file.specs.declared.Written.the-variants.{Made, NoRoom}
 use Rattle.maker_file.proofs.AnyKind.{table-of-tower}
-use Rattle.maker.specs.Making.{made-table-file, made-book, ending, Ends, graph-in, PairsMet, SafeWritten, RowsMade, TableMade, Room, AllCleared, Makes}
+use Rattle.maker.specs.Making.{made-table-file, made-book, ending, Ends, graph-in, PairsMet, PairsSafe, SafeWritten, RowsMade, TableMade, Room, AllCleared, Makes}
 use Rattle.maker.proofs.SafePairs.{none-made, table-made}
 
 -- A refusal leaves the output as it is.
@@ -95,8 +97,11 @@ pub short-numbers : (tower : List ℕ) (layout : FileLayout) → layout ≡ layo
 short-numbers tower layout e =
     rw e (record { least = file-layout-fits tower .a-byte; most = file-layout-fits tower .few-bytes })
 
-module _ (tower graph flags classes : List ℕ) (n actions : ℕ) (met : PairsMet tower graph flags classes n)
+module _ (tower graph flags classes marks : List ℕ) (n actions : ℕ) (safe : PairsSafe tower graph flags classes marks n)
     (is-actions : actions ≡ tower-of tower .actions) where
+  met : PairsMet tower graph flags classes marks n
+  met = safe .met
+
   flagged : FlaggedGraph n actions graph flags
   flagged =
       record {
@@ -104,10 +109,22 @@ module _ (tower graph flags classes : List ℕ) (n actions : ℕ) (met : PairsMe
         flagged = omega (arith, met .flags-room, met .holds .pairs-most);
       }
 
-  pub classifiable : ReadyForPass graph flags actions n classes
-  classifiable = record { held = flagged; area-room = omega (arith, met .classes-room) }
+  pub classifiable : ReadyForPass graph flags actions n classes marks
+  classifiable =
+      record {
+        given =
+            record {
+              held = flagged;
+              listed = subst (λ m. Listed n m graph (action-room * n) flags) (sym is-actions) (safe .listed);
+              lists-room = omega (arith, met .flags-room);
+            };
+        least = met .least;
+        first-safe = safe .first-safe;
+        area-room = omega (arith, met .classes-room);
+        marks-room = omega (arith, met .marks-room);
+      }
 
-  module _ (after : List ℕ) (classified : Classified graph flags actions n after) where
+  module _ (after : List ℕ) (made : ℕ) (classified : Classified graph flags actions n after made) where
     pub writable : length after ≡ length classes → Writable graph flags after n actions
     writable same =
         record {
@@ -133,7 +150,7 @@ module _ (tower graph flags classes : List ℕ) (n actions : ℕ) (met : PairsMe
       unfolding graph-of
       safe-classes =
           subst (λ m. Classes (graph-with n m (tower-of tower .kind) graph) (safe-in flags) (class-in after)) is-actions
-          (classified .for-kinds (tower-of tower .kind))
+          (classes-right graph flags actions n classes marks after made classifiable classified (tower-of tower .kind))
 
       wrote : (r : MakeAnswer) → Ends (give file) out r out-after → SafeWritten r tower graph flags n out out-after
       wrote r ends = record { class = class-in after; classes = safe-classes; ends = ends }
@@ -159,22 +176,29 @@ module _ (tower graph flags classes : List ℕ) (n actions : ℕ) (met : PairsMe
 -- ---- make_rows
 
 -- There is room for removal.
-pub flags-enough : (tower graph flags classes : List ℕ) (n : ℕ) → PairsMet tower graph flags classes n → removal-size ≤ length flags
-flags-enough tower graph flags classes n met = omega (arith, met .flags-room)
+pub flags-enough : (tower graph flags classes marks : List ℕ) (n : ℕ) → PairsMet tower graph flags classes marks n → removal-size ≤ length flags
+flags-enough tower graph flags classes marks n met = omega (arith, met .flags-room)
 
--- The flags may change, their room does not.
-pub met-on : (tower graph before flags classes : List ℕ) (n : ℕ) → PairsMet tower graph before classes n
-    → length flags ≡ length before → PairsMet tower graph flags classes n
-met-on tower graph before flags classes n met same =
+-- The first pair is safe, and removal has left the lists.
+pub met-safe : (tower graph before flags classes marks : List ℕ) (n : ℕ) (b : Bool) → PairsMet tower graph before classes marks n
+    → Removed (tower-of tower) n graph flags → length flags ≡ length before → b ≡ safe-in flags 0 → b ≡ true
+    → PairsSafe tower graph flags classes marks n
+met-safe tower graph before flags classes marks n b met removed same is-b e =
     record {
-      fit = met .fit;
-      least = met .least;
-      holds = met .holds;
-      flags-room = omega (arith, met .flags-room);
-      classes-room = met .classes-room;
+      met =
+          record {
+            fit = met .fit;
+            least = met .least;
+            holds = met .holds;
+            flags-room = omega (arith, met .flags-room);
+            classes-room = met .classes-room;
+            marks-room = met .marks-room;
+          };
+      listed = removed .listed;
+      first-safe = sym is-b ∙ e;
     }
 
-module _ (tower graph before flags classes : List ℕ) (n : ℕ) (b : Bool) (met : PairsMet tower graph before classes n)
+module _ (tower graph before flags classes marks : List ℕ) (n : ℕ) (b : Bool) (met : PairsMet tower graph before classes marks n)
     (removed : Removed (tower-of tower) n graph flags) (is-b : b ≡ safe-in flags 0) where
   -- 12.
   pub no-table : (out : List ℕ) → b ≡ false → RowsMade (Make.Refused NoTable) tower graph n out out
@@ -225,15 +249,16 @@ module _ (tower table nodes graph : List ℕ) (r : Found)
     pairs-held = explored .pairs-held n is
 
     -- The area holds the pairs.
-    pub pairs-met : (nodes₁ pairs₁ index₁ graph₁ sets₁ room₁ flags classes : List ℕ) → TowerWithBook tower nodes
-        → Room nodes₁ pairs₁ index₁ graph₁ sets₁ room₁ flags classes → PairsMet tower graph flags classes n
-    pairs-met nodes₁ pairs₁ index₁ graph₁ sets₁ room₁ flags classes world room =
+    pub pairs-met : (nodes₁ pairs₁ index₁ graph₁ sets₁ room₁ flags classes marks : List ℕ) → TowerWithBook tower nodes
+        → Room nodes₁ pairs₁ index₁ graph₁ sets₁ room₁ flags classes → length marks ≡ length room₁ → PairsMet tower graph flags classes marks n
+    pairs-met nodes₁ pairs₁ index₁ graph₁ sets₁ room₁ flags classes marks world room same =
         record {
           fit = world .fit;
           least = pairs-held .least;
           holds = pairs-held .holds;
           flags-room = room .flags-room;
           classes-room = room .classes-room;
+          marks-room = omega (arith, same, room .lent .room-room);
         }
 
     -- The rows decide.

@@ -1,7 +1,7 @@
 -- What the functions of the maker promise, from the safe pairs on back to the whole outcome.
-use Prim.Native.Nat.{ℕ, _≤_}
+use Prim.Native.Nat.{ℕ, _*_, _≤_}
 use mathlib.Core.Path.{_≡_}
-use mathlib.Core.Bool.{false}
+use mathlib.Core.Bool.{true, false}
 use mathlib.Core.List.{List, [], _∷_}
 use lib.ListN.{length, replicate}
 use Rattle.base.specs.Answers.{make-said, Answer, give, _then_}
@@ -11,11 +11,12 @@ use Rattle.logic.specs.Book.{Book}
 use Rattle.logic.specs.TableFile.{table-file}
 use Rattle.reading.specs.BookReading.{read-book}
 use Rattle.alternatives.specs.Pairs.{over-pairs, over-alternatives}
-use Rattle.outcome.specs.Areas.{flags-area, classes-area}
+use Rattle.outcome.specs.Areas.{room-area, flags-area, classes-area}
 use Rattle.outcome.specs.Make.{table-for, fitting, written, MakeOutcome, make-outcome}
 use Rattle.book_progression.specs.NodeBytes.{IsHeld}
 use Rattle.pair_graph.specs.Graph.{Graph, Classes}
-use Rattle.pair_graph.specs.Steps.{graph-of, HoldsGraph, safe-in}
+use Rattle.pair_graph.specs.Steps.{action-room, graph-of, HoldsGraph, safe-in}
+use Rattle.pair_graph.specs.Predecessors.{Listed}
 use Rattle.pair_graph.specs.GraphTable.{graph-table}
 use Rattle.pair_graph.specs.GraphOf.{GraphOf}
 use Rattle.search_areas.specs.Lent as Lent
@@ -47,13 +48,20 @@ pub record Ends (file : Answer (List ℕ)) (out : List ℕ) (r : MakeAnswer) (af
 abbrev pub graph-in : (tower area : List ℕ) → ℕ → Graph
 graph-in tower area n = graph-of (tower-of tower) n area
 
--- The area holds a graph of n pairs, and there is room for the flags and the classes.
-pub record PairsMet (tower graph flags classes : List ℕ) (n : ℕ) : Type 0 where
+-- The area holds a graph of n pairs, and there is room for the flags, the classes and the marks.
+pub record PairsMet (tower graph flags classes marks : List ℕ) (n : ℕ) : Type 0 where
   pub fit : FitTower tower
   pub least : 1 ≤ n
   pub holds : HoldsGraph n (tower-of tower .actions) graph
   pub flags-room : flags-area ≤ length flags
   pub classes-room : classes-area ≤ length classes
+  pub marks-room : room-area ≤ length marks
+
+-- The first pair is safe, and the lists of predecessors are there.
+pub record PairsSafe (tower graph flags classes marks : List ℕ) (n : ℕ) : Type 0 where
+  pub met : PairsMet tower graph flags classes marks n
+  pub listed : Listed n (tower-of tower .actions) graph (action-room * n) flags
+  pub first-safe : safe-in flags 0 ≡ true
 
 -- The table of the safe pairs is the file, whatever numbers their classes have.
 pub record SafeWritten (r : MakeAnswer) (tower graph flags : List ℕ) (n : ℕ) (out after : List ℕ) : Type 0 where

@@ -11,7 +11,7 @@ ghost use Rattle.outcome.specs.Areas.{make-areas};
 ghost use Rattle.outcome.specs.Make.{made-file};
 ghost use Rattle.pair_graph.specs.Steps.{safe-in};
 ghost use Rattle.pair_trial.specs.Walked.{TowerWithBook};
-ghost use Rattle.maker.specs.Making.{made-book, Ends, Room, PairsMet, SafeWritten, RowsMade, TableMade, AllCleared, Makes};
+ghost use Rattle.maker.specs.Making.{made-book, Ends, Room, PairsMet, PairsSafe, SafeWritten, RowsMade, TableMade, AllCleared, Makes};
 use base::BookAnswer;
 use base::MakeAnswer;
 use base::Refusal;
@@ -43,14 +43,15 @@ fn write_safe(
     graph: &[u8],
     flags: &[u8],
     classes: &mut [u8],
+    marks: &mut [u8],
     n: usize,
 ) -> MakeAnswer
-    requires { ⌜ PairsMet (now tower) (now graph) (now flags) (now classes) n ⌝ }
+    requires { ⌜ PairsSafe (now tower) (now graph) (now flags) (now classes) (now marks) n ⌝ }
     ensures { λ r. ⌜ SafeWritten r (now (tower .entry)) (now (graph .entry)) (now (flags .entry)) n (now (out .entry)) (now (out .exit)) ⌝ }
 {
     let states = file_tower::states(tower);
     let actions = file_tower::actions(tower);
-    maker_classes::classify(graph, flags, actions, n, classes);
+    maker_classes::classify(graph, flags, actions, n, classes, marks);
     let layout = file_layout::layout_of(tower);
     let written = maker_file::write_table(graph, flags, classes, out, layout, n, states, actions);
     match written {
@@ -66,19 +67,21 @@ fn make_rows(
     graph: &[u8],
     flags: &mut [u8],
     classes: &mut [u8],
+    marks: &mut [u8],
     n: usize,
 ) -> MakeAnswer
-    requires { ⌜ PairsMet (now tower) (now graph) (now flags) (now classes) n ⌝ }
+    requires { ⌜ PairsMet (now tower) (now graph) (now flags) (now classes) (now marks) n ⌝ }
     ensures { λ r. ⌜ RowsMade r (now (tower .entry)) (now (graph .entry)) n (now (out .entry)) (now (out .exit)) ⌝ }
 {
     maker_removal::remove(tower, graph, n, flags);
     if !first_safe(flags) {
         return MakeAnswer::Refused(Refusal::NoTable);
     }
-    write_safe(tower, out, graph, flags, classes, n)
+    write_safe(tower, out, graph, flags, classes, marks, n)
 }
 
-// The table, where tower and book are read: 11, 20, 12, 16, or made.
+// The table, where tower and book are read: 11, 20, 12, 16, or made. Once the pairs are met the room of the search is free for the
+// marks of the passes.
 fn make_table(
     tower: &[u8],
     nodes: &[u8],
@@ -99,7 +102,7 @@ fn make_table(
     match found {
         Found::TooMany => MakeAnswer::Refused(Refusal::Pairs),
         Found::TooWide => MakeAnswer::Refused(Refusal::Alternatives),
-        Found::Met(n) => make_rows(tower, out, graph, flags, classes, n),
+        Found::Met(n) => make_rows(tower, out, graph, flags, classes, room, n),
     }
 }
 

@@ -1,5 +1,6 @@
 pub mod Turns
-pub mod Refinement
 pub mod Looks
 pub mod Ways
+pub mod Whole
 pub mod Rounds
+pub mod Laws

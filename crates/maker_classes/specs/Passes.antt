@@ -4,22 +4,43 @@ use mathlib.Core.Path.{_≡_}
 use mathlib.Core.Bool.{Bool, true, false}
 use mathlib.Core.List.{List}
 use lib.ListN.{length}
+use lib.Dec.{eqb}
+use Rattle.base.specs.Bytes.{byte-at}
 use Rattle.area_chains.specs.Chains.{Chained, head-in, link-in}
-use Rattle.pair_graph.specs.Graph.{Classes}
-use Rattle.pair_graph.specs.Steps.{class-in, safe-in, graph-with, FlaggedGraph}
+use Rattle.pair_graph.specs.Graph.{SafePair}
+use Rattle.pair_graph.specs.Steps.{class-in, safe-in, graph-with}
+use Rattle.refinement.specs.Passes.{partition, passes}
+use Rattle.maker_marks.specs.Marks.{marks-size, marked-in, noted-in, ListedGraph, ClassFirsts, SafeMarked}
 use Rattle.maker_classes.specs.View.{old-part, new-in, links-at, heads-at, View, view-of, AlikePairs, buckets, bucket-of, InBucket}
 
 -- ---- the whole
 
--- The area holds a graph of n pairs with their flags, and there is room to work.
-pub record ReadyForPass (graph flags : List ℕ) (actions n : ℕ) (area : List ℕ) : Type 0 where
-  pub held : FlaggedGraph n actions graph flags
+-- The areas hold a graph of n pairs with their flags and lists of predecessors, the first pair is safe, and there is room to work.
+pub record ReadyForPass (graph flags : List ℕ) (actions n : ℕ) (area marks : List ℕ) : Type 0 where
+  pub given : ListedGraph n actions graph flags
+  pub least : 1 ≤ n
+  pub first-safe : safe-in flags 0 ≡ true
   pub area-room : 8042 ≤ length area
+  pub marks-room : marks-size ≤ length marks
 
--- The area holds the classes, whatever the kinds of the actions; no class is above its pair.
-pub record Classified (graph flags : List ℕ) (actions n : ℕ) (area : List ℕ) : Type 0 where
-  pub for-kinds : (kind : ℕ → ℕ) → Classes (graph-with n actions kind graph) (safe-in flags) (class-in area)
+-- The passes made are those up to and with the first that separates nothing, and the classes are the partition that they leave, whatever the
+-- kinds of the actions. No class is above its pair.
+pub record Classified (graph flags : List ℕ) (actions n : ℕ) (area : List ℕ) (made : ℕ) : Type 0 where
+  pub all-passes : (kind : ℕ → ℕ) → made ≡ passes (graph-with n actions kind graph) (safe-in flags)
+  pub parted : (kind : ℕ → ℕ) (i j : ℕ) → SafePair (graph-with n actions kind graph) (safe-in flags) i
+      → SafePair (graph-with n actions kind graph) (safe-in flags) j
+      → eqb (class-in area i) (class-in area j) ≡ partition (graph-with n actions kind graph) (safe-in flags) made i j
   pub most : (i : ℕ) → i < n → class-in area i ≤ i
+
+-- All pairs are of class 0, and the safe ones are marked.
+pub record Begun (n : ℕ) (flags area marks : List ℕ) : Type 0 where
+  pub zeros : (p : ℕ) → byte-at area p ≡ 0
+  pub marked : SafeMarked n flags marks
+
+-- A further pass is made: none was made yet, or the last one separated some pairs.
+pub record GoesOn (made separated : ℕ) (r : Bool) : Type 0 where
+  pub on : r ≡ true → 0 < made → 0 < separated
+  pub off : r ≡ false → (0 < made) × (separated ≡ 0)
 
 -- ---- what is seen
 
@@ -40,32 +61,96 @@ pub record IsBucket (v : View) (i h : ℕ) : Type 0 where
 
 -- ---- a pass
 
--- Every pair below i has its new class: a pair, not a later one, that looks the same; and one for all safe pairs that look the same.
+-- Every pair below i has its new class, no later pair. That of a safe pair is safe and looks the same, and it is one for all that look the same.
 pub record ClassesNumbered (v : View) (new : ℕ → ℕ) (i : ℕ) : Type 0 where
   pub most : (k : ℕ) → k < i → new k ≤ k
-  pub alike : (k : ℕ) → k < i → AlikePairs v k (new k)
+  pub is-safe : (k : ℕ) → k < i → v .safe k ≡ true → v .safe (new k) ≡ true
+  pub alike : (k : ℕ) → k < i → v .safe k ≡ true → AlikePairs v k (new k)
   pub joined : (k l : ℕ) → k < i → l < i → v .safe k ≡ true → v .safe l ≡ true → AlikePairs v k l → new k ≡ new l
 
 -- r suits as the new class of pair i, where those below it have theirs.
 pub record Suits (v : View) (new : ℕ → ℕ) (i r : ℕ) : Type 0 where
   pub most : r ≤ i
-  pub alike : AlikePairs v i r
+  pub is-safe : v .safe i ≡ true → v .safe r ≡ true
+  pub alike : v .safe i ≡ true → AlikePairs v i r
   pub joined : v .safe i ≡ true → (k : ℕ) → k < i → v .safe k ≡ true → AlikePairs v k i → new k ≡ r
 
--- The pass has come to pair i: those before it have their new class, and the safe ones stand in their buckets.
-pub record Passed (graph flags : List ℕ) (actions i : ℕ) (area : List ℕ) : Type 0 where
+-- What a pass stands on, and does not change: a safe pair that is not marked looks like the first of its class.
+pub record PassGiven (graph flags : List ℕ) (actions n : ℕ) (area marks : List ℕ) : Type 0 where
+  pub given : ListedGraph n actions graph flags
+  pub firsts : ClassFirsts n flags (old-part area)
+  pub only-safe : (k : ℕ) → k < n → marked-in marks k ≡ true → safe-in flags k ≡ true
+  pub settled : (k : ℕ) → k < n → safe-in flags k ≡ true → marked-in marks k ≡ false
+      → AlikePairs (view-of graph flags actions (old-part area)) k (class-in (old-part area) k)
+  pub area-room : 8042 ≤ length area
+  pub marks-room : marks-size ≤ length marks
+
+-- A pass may begin: each new class is the class.
+pub record PassReady (graph flags : List ℕ) (actions n : ℕ) (area marks : List ℕ) : Type 0 where
+  pub stands : PassGiven graph flags actions n area marks
+  pub level : (k : ℕ) → k < n → new-in area k ≡ class-in (old-part area) k
+
+-- Pair k is one of the first entries of the list.
+pub record Noted (marks : List ℕ) (entries k : ℕ) : Type 0 where
+  pub place : ℕ
+  pub within : place < entries
+  pub is : noted-in marks place ≡ k
+
+-- The list has just the pairs below i that leave their class.
+pub record ListsLeaving (flags : List ℕ) (i : ℕ) (area marks : List ℕ) (entries : ℕ) : Type 0 where
+  pub within : entries ≤ i
+  pub there : (p : ℕ) → p < entries → noted-in marks p < i
+  pub is-safe : (p : ℕ) → p < entries → safe-in flags (noted-in marks p) ≡ true
+  pub leaves : (p : ℕ) → p < entries → new-in area (noted-in marks p) ≡ class-in (old-part area) (noted-in marks p) → ⊥
+  pub all : (k : ℕ) → k < i → (new-in area k ≡ class-in (old-part area) k → ⊥) → Noted marks entries k
+
+-- The pass has come to pair i: those before it have their new class, and those that leave stand in their buckets and on the list.
+pub record Passed (graph flags : List ℕ) (actions n i : ℕ) (area marks : List ℕ) (separated : ℕ) : Type 0 where
+  pub stands : PassGiven graph flags actions n area marks
   pub numbered : ClassesNumbered (view-of graph flags actions (old-part area)) (new-in area) i
+  pub ahead : (k : ℕ) → i ≤ k → k < n → new-in area k ≡ class-in (old-part area) k
   pub chained : Chained (InBucket (view-of graph flags actions (old-part area))) buckets (head-in heads-at area) (link-in links-at area) i
+  pub lists : ListsLeaving flags i area marks separated
 
 -- It has come there, and the classes are as they were.
-pub record PassedFrom (graph flags : List ℕ) (actions : ℕ) (first : List ℕ) (i : ℕ) (area : List ℕ) : Type 0 where
-  pub passed : Passed graph flags actions i area
+pub record PassedFrom (graph flags : List ℕ) (actions n : ℕ) (first : List ℕ) (i : ℕ) (area marks : List ℕ) (separated : ℕ) : Type 0 where
+  pub passed : Passed graph flags actions n i area marks separated
   pub front : old-part area ≡ old-part first
+
+-- Pair i leaves its class: it is safe, and does not look like the first of it.
+pub record Leaving (graph flags : List ℕ) (actions n : ℕ) (area : List ℕ) (i : ℕ) : Type 0 where
+  pub there : i < n
+  pub is-safe : safe-in flags i ≡ true
+  pub apart : AlikePairs (view-of graph flags actions (old-part area)) i (class-in (old-part area) i) → ⊥
 
 -- ---- the new classes become the classes
 
--- The class of each pair below i is its new class; r says how many are other than before.
-pub record Adopted (i : ℕ) (area : List ℕ) (r : ℕ) (after : List ℕ) : Type 0 where
-  pub here : (k : ℕ) → k < i → class-in after k ≡ new-in area k
-  pub same : r ≡ 0 → (k : ℕ) → k < i → new-in area k ≡ class-in area k
-  pub other : 0 < r → (k : ℕ) × (k < i) × (new-in area k ≡ class-in area k → ⊥)
+-- There is a list of so many pairs.
+pub record ToAdopt (n : ℕ) (area marks : List ℕ) (entries : ℕ) : Type 0 where
+  pub few : n ≤ 1000
+  pub fewer : entries ≤ n
+  pub there : (p : ℕ) → p < entries → noted-in marks p < n
+  pub area-room : 8042 ≤ length area
+  pub marks-room : marks-size ≤ length marks
+
+-- The class of each of the first entries is its new class, and no other class is changed.
+pub record Adopted (n : ℕ) (area marks : List ℕ) (entries : ℕ) (after : List ℕ) : Type 0 where
+  pub here : (p : ℕ) → p < entries → class-in after (noted-in marks p) ≡ new-in area (noted-in marks p)
+  pub else : (k : ℕ) → k < n → (Noted marks entries k → ⊥) → class-in after k ≡ class-in area k
+  pub news : (k : ℕ) → new-in after k ≡ new-in area k
+
+-- ---- a whole pass
+
+-- A safe pair has another class than it had.
+pub record OneLeft (flags : List ℕ) (n : ℕ) (area after : List ℕ) : Type 0 where
+  pub pair : ℕ
+  pub there : pair < n
+  pub is-safe : safe-in flags pair ≡ true
+  pub other : class-in (old-part after) pair ≡ class-in (old-part area) pair → ⊥
+
+-- Each pair has its new class, the answer says whether any is another than before, and the next pass may begin.
+pub record PassMade (graph flags : List ℕ) (actions n : ℕ) (area : List ℕ) (r : ℕ) (after marks : List ℕ) : Type 0 where
+  pub numbered : ClassesNumbered (view-of graph flags actions (old-part area)) (class-in (old-part after)) n
+  pub ready : PassReady graph flags actions n after marks
+  pub none : r ≡ 0 → (k : ℕ) → k < n → class-in (old-part after) k ≡ class-in (old-part area) k
+  pub some : 0 < r → OneLeft flags n area after

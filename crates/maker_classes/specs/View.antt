@@ -9,7 +9,7 @@ use lib.Dec.{eqb}
 use Rattle.base.specs.Bytes.{number-at}
 use Rattle.pair_graph.specs.Steps.{class-in, safe-in, state-in, led-to}
 
--- ---- the parts of the area in which a pass works: the classes, the new classes, and buckets of pairs
+-- ---- the parts of the area in which a pass works: the classes, the new classes, and buckets of pairs that leave their class
 
 -- the classes that the pass begins with
 abbrev pub old-part : List ℕ → List ℕ
@@ -80,7 +80,8 @@ bucket-upto v i (suc a) = (bucket-upto v i a * 31 + v .shows i a) % buckets
 unfoldable pub bucket-of : View → ℕ → ℕ
 bucket-of v i = bucket-upto v i (v .actions)
 
--- Pair k is safe and belongs to bucket h.
+-- Pair k is safe, leaves its class, since it does not look like the first of it, and belongs to bucket h.
 pub record InBucket (v : View) (k h : ℕ) : Type 0 where
   pub is-safe : v .safe k ≡ true
+  pub leaves : AlikePairs v k (v .class k) → ⊥
   pub bucket : bucket-of v k ≡ h

@@ -16,11 +16,13 @@ use Rattle.area_chains.proofs.Walks.{Walking, walk-node, walk-start, walk-first
 use Rattle.pair_graph.specs.Graph.{to}
 use Rattle.pair_graph.specs.Steps.{move-at, graph-of, safe-in, HoldsGraph}
 use Rattle.pair_graph.specs.Predecessors.{CellTo, Listed}
+use Rattle.pair_graph.specs.Counting.{count}
+use Rattle.pair_graph.proofs.Counting.{count-most}
 use Rattle.pair_graph.proofs.Lists.{cell-in, SameLists, listed-same}
-use Rattle.maker_removal.specs.Removal.{fine-at, RemovalInput, PairInput, live-in, count, Worklist, HoldsAll, Removing, none-ahead}
+use Rattle.maker_removal.specs.Removal.{fine-at, RemovalInput, PairInput, live-in, Worklist, HoldsAll, Removing, none-ahead}
 use Rattle.maker_removal.specs.Removal.{from, CellAhead, AllSafe, Pushed, has-to-go, Visited, Worked, Removed}
 use Rattle.maker_removal.proofs.FinePairs.{fine-out, fine-in, fine-along, fine-more}
-use Rattle.maker_removal.proofs.Flags.{count-most, safe-live, room-for, pushed-safe, pushed-not-safe, pushed-live, pushed-count, pushed-list}
+use Rattle.maker_removal.proofs.Flags.{safe-live, room-for, pushed-safe, pushed-not-safe, pushed-live, pushed-count, pushed-list}
 use Rattle.maker_removal.proofs.Flags.{taken-there, taken-safe, taken-live, taken-count, taken-list}
 
 -- ---- what is given
@@ -457,6 +459,7 @@ work-end tower n graph old area height given h l =
                 (fine-more (tower-of tower) n graph (live-in area) (safe-in area) i (given .held) m live-safe (h .state .fine i m safe (λ z. z)));
             holds-all = λ other fine. h .state .holds .all other (λ i m e. fine-in (tower-of tower) n graph other i (fine i m e));
           };
+      listed = h .state .listed;
     }
   where
     live-safe : (k : ℕ) → k < n → live-in area k ≡ true → safe-in area k ≡ true

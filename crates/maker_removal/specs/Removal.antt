@@ -1,19 +1,19 @@
 -- Removal: which pairs are fine among the safe ones, as a test, and what the phase and its parts leave in their area. The area has a flag for
 -- each pair, behind the flags the lists of predecessors (pair_graph/specs/Predecessors.antt), and behind them the worklist. A flag is 1 for
 -- a safe pair, 2 for a removed pair on the worklist, and 0 for a removed pair whose predecessors have been looked at.
-use Prim.Native.Nat.{ℕ, zero, suc, _+_, _*_, _≤_, _<_}
+use Prim.Native.Nat.{ℕ, _+_, _*_, _≤_, _<_}
 use mathlib.Core.Path.{_≡_}
 use mathlib.Core.Bool.{Bool, true, false, _&&_, _||_, not}
 use mathlib.Core.List.{List}
 use lib.ListN.{length}
 use lib.Dec.{eqb}
-use Rattle.base.specs.Choice.{pick}
 use Rattle.base.specs.Lists.{every, some-of, below}
 use Rattle.base.specs.Bytes.{byte-at, number-at}
 use Rattle.logic.specs.Tower.{Tower, FitTower, tower-of, controllable, goes-on}
 use Rattle.pair_graph.specs.Graph.{Move, not-enabled, broken, to, Largest}
 use Rattle.pair_graph.specs.Steps.{action-room, move-at, graph-of, safe-in, HoldsGraph, FlaggedGraph}
 use Rattle.pair_graph.specs.Predecessors.{lists-end, Listed}
+use Rattle.pair_graph.specs.Counting.{count}
 
 -- ---- Pairs that are fine among the safe
 
@@ -79,11 +79,6 @@ live-in area i = not (eqb (byte-at area i) 0)
 -- entry k of the worklist: the number of a pair
 unfoldable pub entry-in : List ℕ → ℕ → ℕ
 entry-in area k = number-at 2 area (worklist-at + 2 * k)
-
--- how many numbers below n pass the test
-unfoldable pub count : (ℕ → Bool) → ℕ → ℕ
-count test zero = 0
-count test (suc n) = pick (test n) (λ _. 1) (λ _. 0) + count test n
 
 -- Pair i is among the first entries of the worklist.
 pub record OnList (area : List ℕ) (height i : ℕ) : Type 0 where
@@ -157,6 +152,7 @@ pub record Worked (tower : Tower) (n : ℕ) (graph : List ℕ) (most : ℕ) (aft
   pub state : Removing tower n graph none-ahead after height
   pub less : count (safe-in after) n + height ≤ most
 
--- What removal leaves: the largest set of pairs that are fine among themselves.
+-- What removal leaves: the largest set of pairs that are fine among themselves, and the lists of predecessors.
 pub record Removed (tower : Tower) (n : ℕ) (graph after : List ℕ) : Type 0 where
   pub largest : Largest (graph-of tower n graph) (safe-in after)
+  pub listed : Listed n (tower .actions) graph (action-room * n) after

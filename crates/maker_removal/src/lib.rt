@@ -9,7 +9,8 @@ ghost use Rattle.logic.specs.Tower.{FitTower, tower-of};
 ghost use Rattle.area_chains.specs.Chains.{head-in};
 ghost use Rattle.pair_graph.specs.Steps.{pair-room, safe-in, HoldsGraph};
 ghost use Rattle.pair_graph.specs.Predecessors.{heads-at};
-ghost use Rattle.maker_removal.specs.Removal.{removal-size, RemovalInput, count, Worklist, Removing, none-ahead, from, CellAhead};
+ghost use Rattle.pair_graph.specs.Counting.{count};
+ghost use Rattle.maker_removal.specs.Removal.{removal-size, RemovalInput, Worklist, Removing, none-ahead, from, CellAhead};
 ghost use Rattle.maker_removal.specs.Removal.{AllSafe, Pushed, Visited, Worked, Removed};
 use pair_graph::predecessors;
 
@@ -23,7 +24,7 @@ const WORKLIST_AT: usize = 35000;
 
 // Leaves the flag 1 at just the pairs of the largest set that are fine among themselves: no action that
 // may not be withheld leads out of the set, and some action that counts as going on leads on inside it.
-// From every other pair a broken rule or a stop can be forced.
+// From every other pair a broken rule or a stop can be forced. The lists of predecessors stay in the area.
 pub fn remove(tower: &[u8], graph: &[u8], n: usize, area: &mut [u8])
     requires { ⌜ FitTower (now tower) ⌝ }
     requires { ⌜ HoldsGraph n (tower-of (now tower) .actions) (now graph) ⌝ }

@@ -3,3 +3,4 @@ pub mod Steps
 pub mod GraphTable
 pub mod GraphOf
 pub mod Predecessors
+pub mod Counting

@@ -11,10 +11,10 @@ make-table-spec =
     (tie.spec
     (λ c κs. (search tower-walkable, (search needs, (search needs, (search needs, (search needs, search needs))))))
     (λ c. search needs) (λ c. search needs) (λ c. search needs)
-    (λ c κs. search (pairs-met, c .before .before .before .before .before .before .before .before .before .before .before .before .before .before .before .before .before .explore .ensures, c .before .before .before .before .before .before .before .before .before .before .before .before .before .before .before .before .before .before .before .before .before .before .before .before .before .before .before .before .before .before .before .before .before .pre))
+    (λ c κs. search (needs, pairs-met, c .before .before .before .before .before .before .before .before .before .before .before .before .before .before .before .before .before .before .explore .ensures, c .before .before .before .before .before .before .before .before .before .before .before .before .before .before .before .before .before .before .before .before .before .before .before .before .before .before .before .before .before .before .before .before .before .before .pre))
     (λ c. search needs) (λ c. search needs) (λ c. search needs) (λ c. search needs) (λ c. search needs)
     (λ c. too-many _ _ _ _ _ (c .before .before .before .before .before .before .before .before .before .before .before .before .explore .ensures) _ (search needs))
     (λ c. search needs) (λ c. search needs) (λ c. search needs) (λ c. search needs) (λ c. search needs)
     (λ c. too-wide _ _ _ _ _ (c .before .before .before .before .before .before .before .before .before .before .before .before .explore .ensures) _ (search needs))
     (λ c. search needs) (λ c. search needs) (λ c. search needs) (λ c. search needs) (λ c. search needs) (λ c. search needs) (λ c. search needs) (λ c. search needs)
-    (λ c. search (few-enough, c .before .before .before .before .before .before .make-rows .ensures, c .before .before .before .before .before .before .before .before .before .before .before .before .before .before .before .before .before .before .before .before .before .before .before .before .explore .ensures)))
+    (λ c. search (few-enough, c .before .before .before .before .before .before .before .before .make-rows .ensures, c .before .before .before .before .before .before .before .before .before .before .before .before .before .before .before .before .before .before .before .before .before .before .before .before .before .before .before .explore .ensures)))

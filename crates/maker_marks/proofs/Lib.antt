@@ -1,0 +1,2 @@
+pub mod Marks
+mod Ways

@@ -1,0 +1,4 @@
+pub mod Partitions
+pub mod Counts
+pub mod Theorems
+mod Instances

@@ -1,0 +1,1 @@
+// Partition refinement: definitions and theorems. There is no code here.
