@@ -15,6 +15,7 @@ pub mod follow;
 pub mod log;
 pub mod logs;
 pub mod make;
+pub mod passes;
 pub mod rewrite;
 pub mod ruled;
 pub mod runs;
@@ -29,7 +30,13 @@ use std::thread;
 
 /// Runs a test on every entry, on two threads that take about as long; true where it passes on all.
 pub fn for_each_entry(test: impl Test + Sync) -> bool {
-    let made = || [test.on::<make::Make>(), test.on::<runs::Runs>()];
+    let made = || {
+        [
+            test.on::<make::Make>(),
+            test.on::<passes::Passes>(),
+            test.on::<runs::Runs>(),
+        ]
+    };
     let others = || {
         [
             test.on::<tower::Tower>(),

@@ -36,12 +36,7 @@ fn made(call: &Call) -> Result<Vec<u8>, Answer> {
 
 /// The table, in an output that is long enough for every table.
 pub fn make(tower: &[u8], text: &[u8]) -> Result<Vec<u8>, Answer> {
-    made(&Call {
-        tower: tower.to_vec(),
-        text: text.to_vec(),
-        room: table::most_bytes(),
-        areas: Areas::least(),
-    })
+    made(&Call::new(tower.to_vec(), text.to_vec()))
 }
 
 pub struct Make;
@@ -52,6 +47,18 @@ pub struct Call {
     /// The length of the output.
     room: usize,
     areas: Areas<MAKER_AREAS>,
+}
+
+impl Call {
+    /// A tower and a book, with an output that is long enough for every table.
+    pub fn new(tower: Vec<u8>, text: Vec<u8>) -> Self {
+        Call {
+            tower,
+            text,
+            room: table::most_bytes(),
+            areas: Areas::least(),
+        }
+    }
 }
 
 impl fmt::Display for Call {
@@ -74,7 +81,7 @@ fn answer(made: Result<Vec<u8>, Answer>) -> Answer {
 }
 
 /// The bytes of a table, out of such an answer.
-fn file(answer: &Answer) -> Vec<u8> {
+pub fn file(answer: &Answer) -> Vec<u8> {
     let bytes = answer.values.iter().skip(1);
     bytes.map(|byte| *byte as u8).collect()
 }
