@@ -22,7 +22,7 @@ use Rattle.refinement.proofs.Partitions.{pass-same, pass-before, pass-alike, pa
 use Rattle.refinement.proofs.Theorems.{passes-room, passes-are}
 use Rattle.maker_marks.specs.Marks.{SafeMarked}
 use Rattle.maker_classes.specs.View.{View, shown, shows-in, view-of, AlikePairs}
-use Rattle.maker_classes.specs.Passes.{ReadyForPass, Classified, Begun, GoesOn, ClassesNumbered, PassReady, OneLeft, PassMade}
+use Rattle.maker_classes.specs.Passes.{ReadyForPass, Classified, Begun, FurtherPass, ClassesNumbered, PassReady, OneLeft, PassMade}
 use Rattle.maker_classes.proofs.Turns.{alike-sym, alike-trans, first-keeps}
 use Rattle.maker_classes.proofs.Ways.{class-front}
 
@@ -103,11 +103,11 @@ pub begun : (n : ℕ) (flags area marks : List ℕ) (size : ℕ) → area ≡ re
 begun n flags area marks size e marked = record { zeros = λ p. rw e (cleared-byte size p); marked = marked }
 
 -- The first pass is always made,
-pub goes-first : (made separated : ℕ) → made ≡ 0 → GoesOn made separated true
+pub goes-first : (made separated : ℕ) → made ≡ 0 → FurtherPass made separated true
 goes-first made separated e = record { on = λ _ l. absurd (omega arith); off = λ f. never-both refl f }
 
 -- and a further one where the last has separated something.
-pub goes-by : (made separated : ℕ) → (made ≡ 0 → ⊥) → GoesOn made separated (ltb 0 separated)
+pub goes-by : (made separated : ℕ) → (made ≡ 0 → ⊥) → FurtherPass made separated (ltb 0 separated)
 goes-by made separated later =
     record { on = λ e _. ltb-true 0 separated e; off = λ e. (omega (arith, later), omega (arith, ltb-false 0 separated e)) }
 
@@ -163,7 +163,7 @@ refining-start graph flags actions n first first-marks area marks ready begun lo
 
 module _ (graph flags : List ℕ) (actions n made separated : ℕ) (first first-marks area marks : List ℕ)
     (given : ReadyForPass graph flags actions n first first-marks) (so-far : Refining graph flags actions n made separated area marks)
-    (b : Bool) (goes : GoesOn made separated b) where
+    (b : Bool) (goes : FurtherPass made separated b) where
   first-pair : (kind : ℕ → ℕ) → SafePair (graph-with n actions kind graph) (safe-in flags) 0
   first-pair kind = record { there = given .least; is-safe = given .first-safe }
 

@@ -22,7 +22,7 @@ use Rattle.pair_graph.specs.Steps.{class-in, safe-in}
 use Rattle.maker_marks.specs.Marks.{marks-size, marked-in, noted-in, ClassFirsts}
 use Rattle.maker_marks.proofs.Marks.{marked-same}
 use Rattle.maker_classes.specs.View.{new-in, View, view-of, AlikePairs, buckets, InBucket}
-use Rattle.maker_classes.specs.Passes.{Tells, IsBucket, ClassesNumbered, Suits, PassGiven, PassReady, Noted, ListsLeaving, Passed, PassedFrom}
+use Rattle.maker_classes.specs.Passes.{Tells, IsBucket, ClassesNumbered, Suits, PassGiven, PassReady, NotedPair, ListsLeaving, Passed, PassedFrom}
 use Rattle.maker_classes.specs.Passes.{Leaving, ToAdopt, Adopted}
 use Rattle.maker_classes.proofs.Turns.{alike-refl, alike-sym, alike-trans, alike-bucket}
 use Rattle.maker_classes.proofs.Turns.{numbered-none, numbered-more, stays-suits}
@@ -156,7 +156,7 @@ module _ (marks : List ℕ) (entries i : ℕ) (room : marks-size ≤ length mark
   noted-last : noted-in more-marks entries ≡ i
   noted-last = stored-read marks (1000 + 2 * entries) i (omega arith) (omega arith)
 
-  noted-more : (k : ℕ) → Noted marks entries k → Noted more-marks (entries + 1) k
+  noted-more : (k : ℕ) → NotedPair marks entries k → NotedPair more-marks (entries + 1) k
   noted-more k o = record { place = o .place; within = omega (arith, o .within); is = noted-old (o .place) (o .within) ∙ o .is }
 
 module _ (graph flags : List ℕ) (n actions i : ℕ) (area marks : List ℕ) (separated : ℕ)
@@ -207,7 +207,7 @@ module _ (graph flags : List ℕ) (n actions i : ℕ) (area marks : List ℕ) (s
                     is-safe = passed .lists .is-safe;
                     leaves = passed .lists .leaves;
                     all =
-                        one-more (λ k. (new-in area k ≡ class-in (take 2000 area) k → ⊥) → Noted marks separated k) i (passed .lists .all)
+                        one-more (λ k. (new-in area k ≡ class-in (take 2000 area) k → ⊥) → NotedPair marks separated k) i (passed .lists .all)
                         (λ other. absurd (other (passed .ahead i (omega arith) l)));
                   };
             };
@@ -313,7 +313,7 @@ module _ (graph flags : List ℕ) (n actions i : ℕ) (area marks : List ℕ) (s
                 (λ p m. subst Leaves (sym (at-old p m)) (λ e. old .leaves p m (sym (new-before (noted-in marks p) (old .there p m)) ∙ e ∙ class (noted-in marks p))))
                 (subst Leaves (sym at-last) (λ e. leaving .apart (subst (AlikePairs seen i) (sym new-here ∙ e ∙ class i) (suits .alike (leaving .is-safe)))));
             all =
-                one-more (λ k. Leaves k → Noted z (separated + 1) k) i
+                one-more (λ k. Leaves k → NotedPair z (separated + 1) k) i
                 (λ k m other. noted-more marks separated i (stands .marks-room) less small k (old .all k m (λ e. other (new-before k m ∙ e ∙ sym (class k)))))
                 (λ _. record { place = separated; within = omega arith; is = at-last });
           }

@@ -11,7 +11,7 @@ use Rattle.pair_graph.specs.Steps.{class-in, safe-in, led-to}
 use Rattle.pair_graph.proofs.Moves.{allowed-below}
 use Rattle.maker_marks.specs.Marks.{marked-in, noted-in, ClassFirsts, ReadyToMark, Quiet, MarkedAgain}
 use Rattle.maker_classes.specs.View.{new-in, shown, shows-in, view-of, AlikePairs}
-use Rattle.maker_classes.specs.Passes.{ClassesNumbered, PassGiven, Noted, ListsLeaving, PassedFrom, ToAdopt, Adopted, PassMade}
+use Rattle.maker_classes.specs.Passes.{ClassesNumbered, PassGiven, NotedPair, ListsLeaving, PassedFrom, ToAdopt, Adopted, PassMade}
 use Rattle.maker_classes.proofs.Turns.{numbered-as}
 use Rattle.maker_classes.proofs.Ways.{part-long, part-room, class-front}
 
@@ -32,7 +32,7 @@ module _ (graph flags : List ℕ) (actions n : ℕ) (area mid marks : List ℕ) 
       record { few = few; fewer = lists .within; there = lists .there; area-room = stands .area-room; marks-room = stands .marks-room }
 
   -- A class is as it was, or the pair is on the list.
-  same-or-noted : (k : ℕ) → k < n → (Noted marks separated k → ⊥) → new-in mid k ≡ class-in (take 2000 mid) k
+  same-or-noted : (k : ℕ) → k < n → (NotedPair marks separated k → ⊥) → new-in mid k ≡ class-in (take 2000 mid) k
   same-or-noted k l unlisted = elim (ℕ-discrete (new-in mid k) (class-in (take 2000 mid) k)) [ yes e ↦ e | no other ↦ absurd (unlisted (lists .all k l other)) ]
 
   module _ (after : List ℕ) (adopted : Adopted n mid marks separated after) (long : length after ≡ length mid) where
@@ -48,7 +48,7 @@ module _ (graph flags : List ℕ) (actions n : ℕ) (area mid marks : List ℕ) 
         still : (p : ℕ) → noted-in marks p ≡ k → new-in mid k ≡ class-in (take 2000 mid) k → new-in mid (noted-in marks p) ≡ class-in (take 2000 mid) (noted-in marks p)
         still p e f = subst (λ x. new-in mid x ≡ class-in (take 2000 mid) x) (sym e) f
 
-        on-list : Noted marks separated k → class-in after k ≡ new-in mid k
+        on-list : NotedPair marks separated k → class-in after k ≡ new-in mid k
         on-list o = subst (λ x. class-in after x ≡ new-in mid x) (o .is) (adopted .here (o .place) (o .within))
 
     numbered : ClassesNumbered (view-of graph flags actions (take 2000 area)) (class-in (take 2000 after)) n

@@ -38,7 +38,7 @@ pub record Begun (n : ℕ) (flags area marks : List ℕ) : Type 0 where
   pub marked : SafeMarked n flags marks
 
 -- A further pass is made: none was made yet, or the last one separated some pairs.
-pub record GoesOn (made separated : ℕ) (r : Bool) : Type 0 where
+pub record FurtherPass (made separated : ℕ) (r : Bool) : Type 0 where
   pub on : r ≡ true → 0 < made → 0 < separated
   pub off : r ≡ false → (0 < made) × (separated ≡ 0)
 
@@ -91,7 +91,7 @@ pub record PassReady (graph flags : List ℕ) (actions n : ℕ) (area marks : Li
   pub level : (k : ℕ) → k < n → new-in area k ≡ class-in (old-part area) k
 
 -- Pair k is one of the first entries of the list.
-pub record Noted (marks : List ℕ) (entries k : ℕ) : Type 0 where
+pub record NotedPair (marks : List ℕ) (entries k : ℕ) : Type 0 where
   pub place : ℕ
   pub within : place < entries
   pub is : noted-in marks place ≡ k
@@ -102,7 +102,7 @@ pub record ListsLeaving (flags : List ℕ) (i : ℕ) (area marks : List ℕ) (en
   pub there : (p : ℕ) → p < entries → noted-in marks p < i
   pub is-safe : (p : ℕ) → p < entries → safe-in flags (noted-in marks p) ≡ true
   pub leaves : (p : ℕ) → p < entries → new-in area (noted-in marks p) ≡ class-in (old-part area) (noted-in marks p) → ⊥
-  pub all : (k : ℕ) → k < i → (new-in area k ≡ class-in (old-part area) k → ⊥) → Noted marks entries k
+  pub all : (k : ℕ) → k < i → (new-in area k ≡ class-in (old-part area) k → ⊥) → NotedPair marks entries k
 
 -- The pass has come to pair i: those before it have their new class, and those that leave stand in their buckets and on the list.
 pub record Passed (graph flags : List ℕ) (actions n i : ℕ) (area marks : List ℕ) (separated : ℕ) : Type 0 where
@@ -136,7 +136,7 @@ pub record ToAdopt (n : ℕ) (area marks : List ℕ) (entries : ℕ) : Type 0 wh
 -- The class of each of the first entries is its new class, and no other class is changed.
 pub record Adopted (n : ℕ) (area marks : List ℕ) (entries : ℕ) (after : List ℕ) : Type 0 where
   pub here : (p : ℕ) → p < entries → class-in after (noted-in marks p) ≡ new-in area (noted-in marks p)
-  pub else : (k : ℕ) → k < n → (Noted marks entries k → ⊥) → class-in after k ≡ class-in area k
+  pub else : (k : ℕ) → k < n → (NotedPair marks entries k → ⊥) → class-in after k ≡ class-in area k
   pub news : (k : ℕ) → new-in after k ≡ new-in area k
 
 -- ---- a whole pass

@@ -1,7 +1,7 @@
 // Which safe pairs make one row: the classes of pairs that no action ever tells apart, by partition refinement (02, item 5).
 ghost use Prim.Native.Nat.{_≤_};
 ghost use lib.ListN.{length};
-ghost use Rattle.maker_classes.specs.Passes.{ReadyForPass, Begun, GoesOn, PassReady, PassMade, Classified};
+ghost use Rattle.maker_classes.specs.Passes.{ReadyForPass, Begun, FurtherPass, PassReady, PassMade, Classified};
 
 mod pass;
 mod view;
@@ -44,7 +44,7 @@ fn begin(flags: &[u8], n: usize, classes: &mut [u8], marks: &mut [u8])
 
 // A further pass is made: it is the first, or the last one separated some pairs.
 fn goes_on(made: usize, separated: usize) -> bool
-    ensures { λ r. ⌜ GoesOn made separated r ⌝ }
+    ensures { λ r. ⌜ FurtherPass made separated r ⌝ }
 {
     if made == 0 {
         return true;
