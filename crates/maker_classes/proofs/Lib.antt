@@ -1,5 +1,4 @@
 pub mod Turns
-pub mod Looks
 pub mod Ways
 pub mod Whole
 pub mod Rounds

@@ -21,7 +21,7 @@ use Rattle.refinement.specs.Passes.{pass, partition, Separates, separates, pass
 use Rattle.refinement.proofs.Partitions.{pass-same, pass-before, pass-alike, pass-keeps, separates-out, separates-in}
 use Rattle.refinement.proofs.Theorems.{passes-room, passes-are}
 use Rattle.maker_marks.specs.Marks.{SafeMarked}
-use Rattle.maker_classes.specs.View.{View, shown, shows-in, view-of, AlikePairs}
+use Rattle.maker_view.specs.View.{View, shown, shows-in, view-of, AlikePairs}
 use Rattle.maker_classes.specs.Passes.{ReadyForPass, Classified, Begun, FurtherPass, ClassesNumbered, PassReady, OneLeft, PassMade}
 use Rattle.maker_classes.proofs.Turns.{alike-sym, alike-trans, first-keeps}
 use Rattle.maker_classes.proofs.Ways.{class-front}

@@ -5,7 +5,7 @@ use native.Mathlib.Decide.{decLt}
 use mathlib.Core.Path.{_≡_, refl, sym, _∙_}
 use mathlib.Core.Bool.{true}
 use Rattle.area_chains.proofs.Walks.{one-more}
-use Rattle.maker_classes.specs.View.{View, AlikePairs, bucket-upto, bucket-of}
+use Rattle.maker_view.specs.View.{View, AlikePairs, bucket-upto, bucket-of}
 use Rattle.maker_classes.specs.Passes.{ClassesNumbered, Suits}
 
 module _ (v : View) where

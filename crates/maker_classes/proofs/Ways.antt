@@ -21,8 +21,9 @@ use Rattle.area_chains.proofs.Additions.{added-chains, added-front}
 use Rattle.pair_graph.specs.Steps.{class-in, safe-in}
 use Rattle.maker_marks.specs.Marks.{marks-size, marked-in, noted-in, ClassFirsts}
 use Rattle.maker_marks.proofs.Marks.{marked-same}
-use Rattle.maker_classes.specs.View.{new-in, View, view-of, AlikePairs, buckets, InBucket}
-use Rattle.maker_classes.specs.Passes.{Tells, IsBucket, ClassesNumbered, Suits, PassGiven, PassReady, NotedPair, ListsLeaving, Passed, PassedFrom}
+use Rattle.maker_view.specs.View.{View, view-of, AlikePairs, buckets, Tells, IsBucket}
+use Rattle.maker_classes.specs.Passes.{new-in, InBucket}
+use Rattle.maker_classes.specs.Passes.{ClassesNumbered, Suits, PassGiven, PassReady, NotedPair, ListsLeaving, Passed, PassedFrom}
 use Rattle.maker_classes.specs.Passes.{Leaving, ToAdopt, Adopted}
 use Rattle.maker_classes.proofs.Turns.{alike-refl, alike-sym, alike-trans, alike-bucket}
 use Rattle.maker_classes.proofs.Turns.{numbered-none, numbered-more, stays-suits}

@@ -10,8 +10,8 @@ use lib.ListN.{length, take}
 use Rattle.pair_graph.specs.Steps.{class-in, safe-in, led-to}
 use Rattle.pair_graph.proofs.Moves.{allowed-below}
 use Rattle.maker_marks.specs.Marks.{marked-in, noted-in, ClassFirsts, ReadyToMark, Quiet, MarkedAgain}
-use Rattle.maker_classes.specs.View.{new-in, shown, shows-in, view-of, AlikePairs}
-use Rattle.maker_classes.specs.Passes.{ClassesNumbered, PassGiven, NotedPair, ListsLeaving, PassedFrom, ToAdopt, Adopted, PassMade}
+use Rattle.maker_view.specs.View.{shown, shows-in, view-of, AlikePairs}
+use Rattle.maker_classes.specs.Passes.{new-in, ClassesNumbered, PassGiven, NotedPair, ListsLeaving, PassedFrom, ToAdopt, Adopted, PassMade}
 use Rattle.maker_classes.proofs.Turns.{numbered-as}
 use Rattle.maker_classes.proofs.Ways.{part-long, part-room, class-front}
 

@@ -1,17 +1,34 @@
 -- What the functions of a pass promise, and what they ask for.
-use Prim.Native.Nat.{ℕ, _≤_, _<_}
+use Prim.Native.Nat.{ℕ, _+_, _*_, _≤_, _<_}
 use mathlib.Core.Path.{_≡_}
 use mathlib.Core.Bool.{Bool, true, false}
 use mathlib.Core.List.{List}
-use lib.ListN.{length}
+use lib.ListN.{length, take}
 use lib.Dec.{eqb}
-use Rattle.base.specs.Bytes.{byte-at}
+use Rattle.base.specs.Bytes.{byte-at, number-at}
 use Rattle.area_chains.specs.Chains.{Chained, head-in, link-in}
 use Rattle.pair_graph.specs.Graph.{SafePair}
 use Rattle.pair_graph.specs.Steps.{class-in, safe-in, graph-with}
 use Rattle.refinement.specs.Passes.{partition, passes}
 use Rattle.maker_marks.specs.Marks.{marks-size, marked-in, noted-in, ListedGraph, ClassFirsts, SafeMarked}
-use Rattle.maker_classes.specs.View.{old-part, new-in, links-at, heads-at, View, view-of, AlikePairs, buckets, bucket-of, InBucket}
+use Rattle.maker_view.specs.View.{View, view-of, AlikePairs, buckets, bucket-of}
+
+-- ---- the parts of the area in which a pass works: the classes, the new classes, and buckets of pairs that leave their class
+
+-- the classes that the pass begins with
+abbrev pub old-part : List ℕ → List ℕ
+old-part area = take 2000 area
+
+-- the new class of pair i
+abbrev pub new-in : List ℕ → ℕ → ℕ
+new-in area i = number-at 2 area (2000 + 2 * i)
+
+-- where the links of the buckets begin, one for each pair, and where their heads do
+abbrev pub links-at : ℕ
+links-at = 4000
+
+abbrev pub heads-at : ℕ
+heads-at = 6000
 
 -- ---- the whole
 
@@ -42,24 +59,13 @@ pub record FurtherPass (made separated : ℕ) (r : Bool) : Type 0 where
   pub on : r ≡ true → 0 < made → 0 < separated
   pub off : r ≡ false → (0 < made) × (separated ≡ 0)
 
--- ---- what is seen
-
--- r is what is seen, and at most one more than two bytes hold
-pub record Seen (r x : ℕ) : Type 0 where
-  pub is : r ≡ x
-  pub within : r ≤ 65536
-
--- the answer says whether two pairs look the same
-pub record Tells (v : View) (i j : ℕ) (r : Bool) : Type 0 where
-  pub same : r ≡ true → AlikePairs v i j
-  pub other : r ≡ false → AlikePairs v i j → ⊥
-
--- h is the bucket of pair i
-pub record IsBucket (v : View) (i h : ℕ) : Type 0 where
-  pub is : h ≡ bucket-of v i
-  pub within : h < buckets
-
 -- ---- a pass
+
+-- Pair k is safe, leaves its class, since it does not look like the first of it, and belongs to bucket h.
+pub record InBucket (v : View) (k h : ℕ) : Type 0 where
+  pub is-safe : v .safe k ≡ true
+  pub leaves : AlikePairs v k (v .class k) → ⊥
+  pub bucket : bucket-of v k ≡ h
 
 -- Every pair below i has its new class, no later pair. That of a safe pair is safe and looks the same, and it is one for all that look the same.
 pub record ClassesNumbered (v : View) (new : ℕ → ℕ) (i : ℕ) : Type 0 where

@@ -4,10 +4,6 @@ ghost use lib.ListN.{length};
 ghost use Rattle.maker_classes.specs.Passes.{ReadyForPass, Begun, FurtherPass, PassReady, PassMade, Classified};
 
 mod pass;
-mod view;
-
-// Where the new classes begin, behind the classes.
-const NEW: usize = 2000;
 
 // Writes the class of each of n pairs, two bytes each, from the first byte of `classes` on. All pairs are of one class at first;
 // each pass separates those that look different, until one separates none. Answers how many passes were made.
@@ -66,6 +62,14 @@ fn make_pass(
 {
     let separated = pass::look_all(graph, flags, actions, n, classes, marks);
     pass::adopt(n, separated, classes, marks);
-    maker_marks::mark_again(graph, flags, actions, n, &classes[..NEW], marks, separated);
+    maker_marks::mark_again(
+        graph,
+        flags,
+        actions,
+        n,
+        &classes[..pass::NEW],
+        marks,
+        separated,
+    );
     separated
 }

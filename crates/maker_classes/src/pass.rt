@@ -1,13 +1,12 @@
 // One pass over the marked pairs: one that no longer looks like the first of its class leaves the class. Those that leave a class
 // and look the same get the same new class, the number of the first of them.
 ghost use Prim.Native.Nat.{_+_, _<_};
-ghost use Rattle.maker_classes.specs.View.{old-part, new-in, view-of};
-ghost use Rattle.maker_classes.specs.Passes.{IsBucket, Suits, PassReady, Leaving, Passed, PassedFrom, ToAdopt, Adopted};
-use crate::view;
+ghost use Rattle.maker_view.specs.View.{view-of, IsBucket};
+ghost use Rattle.maker_classes.specs.Passes.{old-part, new-in, Suits, PassReady, Leaving, Passed, PassedFrom, ToAdopt, Adopted};
 
 // Where the parts of the area begin: the classes are at 0, then the new classes, and the buckets with the links and heads of their
 // chains.
-const NEW: usize = 2000;
+pub const NEW: usize = 2000;
 
 const LINKS: usize = 4000;
 
@@ -37,7 +36,7 @@ fn found(
     let mut at = area_chains::head(area, HEADS, h);
     while 0 < at {
         let k = at - 1;
-        if view::alike(graph, flags, pairs, actions, classes, k, i) {
+        if maker_view::alike(graph, flags, pairs, actions, classes, k, i) {
             return area_bytes::two_bytes(area, NEW + 2 * k);
         }
         at = area_chains::link(area, LINKS, k);
@@ -60,7 +59,7 @@ fn leave(
     requires { ⌜ Leaving (now graph) (now flags) actions pairs (now area) i ⌝ }
     ensures { λ _. ⌜ PassedFrom (now (graph .entry)) (now (flags .entry)) actions pairs (now (area .entry)) (i + 1) (now (area .exit)) (now (marks .exit)) (separated + 1) ⌝ }
 {
-    let h = view::bucket(graph, flags, pairs, actions, &area[..NEW], i);
+    let h = maker_view::bucket(graph, flags, pairs, actions, &area[..NEW], i);
     let c = found(graph, flags, pairs, actions, area, marks, i, h, separated);
     area_bytes::put_two_bytes(area, NEW + 2 * i, c);
     area_chains::add(area, HEADS, LINKS, h, i);
@@ -86,7 +85,7 @@ fn look(
         return separated;
     }
     let first = pair_graph::class(&area[..NEW], i);
-    if view::alike(graph, flags, pairs, actions, &area[..NEW], first, i) {
+    if maker_view::alike(graph, flags, pairs, actions, &area[..NEW], first, i) {
         return separated;
     }
     leave(graph, flags, pairs, actions, i, area, marks, separated);

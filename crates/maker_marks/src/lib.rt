@@ -31,7 +31,7 @@ pub fn is_marked(marks: &[u8], i: usize) -> bool
 
 // Entry p of the list.
 pub fn noted(marks: &[u8], p: usize) -> usize
-    requires { ⌜ p < 1000 ⌝ }
+    requires { ⌜ p < pair-room ⌝ }
     requires { ⌜ marks-size ≤ length (now marks) ⌝ }
     ensures { λ r. ⌜ r ≡ noted-in (now (marks .entry)) p ⌝ }
 {
@@ -40,7 +40,7 @@ pub fn noted(marks: &[u8], p: usize) -> usize
 
 // Writes pair i as entry p of the list.
 pub fn note(marks: &mut [u8], p: usize, i: usize)
-    requires { ⌜ p < 1000 ⌝ }
+    requires { ⌜ p < pair-room ⌝ }
     requires { ⌜ marks-size ≤ length (now marks) ⌝ }
     ensures { λ _. ⌜ now (marks .exit) ≡ sets (now (marks .entry)) (list-at + 2 * p) (number-bytes 2 i) ⌝ }
 {

@@ -8,8 +8,8 @@ use Rattle.outcome.specs.ReadBook.{read-outcome}
 use Rattle.outcome.specs.Make.{make-outcome}
 use Rattle.outcome.specs.Check.{check-outcome}
 use Rattle.why_outcome.specs.Why.{why-outcome}
-use Rattle.succoryvise.specs.Shown.{shown}
-use Rattle.succoryvise.specs.declared.answer.Answer.{Answer}
+use Rattle.answer_numbers.specs.Shown.{shown}
+use Rattle.answer_numbers.specs.declared.Answer.{Answer}
 
 -- The book reader.
 pub record BookShown (a : Answer) (marks : ℕ) (text nodes nodes-after : List ℕ) : Type 0 where

@@ -2,30 +2,17 @@
 // anything of its caller but slices that are memory: `&[u8]` is a pointer and a length. What each
 // answers and leaves in its areas is an equation with the definitions of `outcome`. The names of the
 // entries end in the version, so that a caller that was compiled for another one does not link.
-pub mod answer;
-
 ghost use mathlib.Core.Path.{_≡_};
 ghost use Rattle.base.specs.Answers.{follow-said, log-said};
 ghost use Rattle.outcome.specs.Follow.{follow-outcome};
 ghost use Rattle.outcome.specs.Log.{log-outcome};
-ghost use Rattle.succoryvise.specs.Shown.{shown};
+ghost use Rattle.answer_numbers.specs.Shown.{shown};
 ghost use Rattle.succoryvise.specs.Entries.{BookShown, MakeShown, CheckShown, WhyShown};
 ghost use Rattle.succoryvise.specs.Version.{interface-version};
-use answer::Answer;
-use base::BookAnswer;
-use base::FollowAnswer;
-use base::LogAnswer;
-use base::MakeAnswer;
-use base::Verdict;
-use base::WhyAnswer;
+use answer_numbers::Answer;
 
 // The version of this interface.
 const VERSION: u32 = 2;
-
-// The first value of a log's answer: every line fits, or one does not.
-const FITS: usize = 0;
-
-const FAILS: usize = 1;
 
 // The version of this interface, for those who look functions up by name and do not link them.
 #[no_mangle]
@@ -41,13 +28,7 @@ pub extern "C" fn succoryvise_version() -> u32
 pub extern "C" fn succoryvise_read_book_v2(marks: usize, text: &[u8], nodes: &mut [u8]) -> Answer
     ensures { λ a. ⌜ BookShown a marks (now (text .entry)) (now (nodes .entry)) (now (nodes .exit)) ⌝ }
 {
-    match book_reader::read_book(marks, text, nodes) {
-        BookAnswer::Read {
-            lines,
-            nodes: count,
-        } => answer::two_values(lines, count),
-        BookAnswer::Refused(refusal) => answer::refused(refusal),
-    }
+    answer_numbers::of_book(book_reader::read_book(marks, text, nodes))
 }
 
 // Makes the table for the tower and the book, and writes it to the front of `out`: its length in
@@ -82,10 +63,7 @@ pub extern "C" fn succoryvise_make_v2(
         flags,
         classes,
     );
-    match made {
-        MakeAnswer::Made(length) => answer::value(length),
-        MakeAnswer::Refused(refusal) => answer::refused(refusal),
-    }
+    answer_numbers::of_make(made)
 }
 
 // Whether the table is good for the tower and the book, or the first reason why not. Refused with
@@ -104,11 +82,8 @@ pub extern "C" fn succoryvise_check_v2(
 ) -> Answer
     ensures { λ a. ⌜ CheckShown a (now (tower .entry)) (now (text .entry)) (now (table .entry)) (now (nodes .entry)) (now (pairs .entry)) (now (index .entry)) (now (graph .entry)) (now (sets .entry)) (now (room .entry)) (now (nodes .exit)) (now (pairs .exit)) (now (index .exit)) (now (graph .exit)) (now (sets .exit)) (now (room .exit)) ⌝ }
 {
-    match checker::check(tower, text, table, nodes, pairs, index, graph, sets, room) {
-        Verdict::Good => answer::yes(),
-        Verdict::NotGood(reason) => answer::not_good(reason),
-        Verdict::Refused(refusal) => answer::refused(refusal),
-    }
+    let verdict = checker::check(tower, text, table, nodes, pairs, index, graph, sets, room);
+    answer_numbers::of_check(verdict)
 }
 
 // The row that an action leads to from a row of the table, or why there is none.
@@ -116,10 +91,7 @@ pub extern "C" fn succoryvise_check_v2(
 pub extern "C" fn succoryvise_follow_v2(table: &[u8], row: usize, action: usize) -> Answer
     ensures { λ a. ⌜ a ≡ shown (follow-said (follow-outcome (now (table .entry)) row action)) ⌝ }
 {
-    match follower::follow(table, row, action) {
-        FollowAnswer::Row(next) => answer::value(next),
-        FollowAnswer::Refused(refusal) => answer::refused(refusal),
-    }
+    answer_numbers::of_follow(follower::follow(table, row, action))
 }
 
 // What a log comes to along the table: 0 and the final row, or 1 and the number of the first line that
@@ -128,12 +100,7 @@ pub extern "C" fn succoryvise_follow_v2(table: &[u8], row: usize, action: usize)
 pub extern "C" fn succoryvise_read_log_v2(tower: &[u8], table: &[u8], log: &[u8]) -> Answer
     ensures { λ a. ⌜ a ≡ shown (log-said (log-outcome (now (tower .entry)) (now (table .entry)) (now (log .entry)))) ⌝ }
 {
-    match log_reader::read_log(tower, table, log) {
-        LogAnswer::Row(row) => answer::two_values(FITS, row),
-        LogAnswer::Line(line) => answer::two_values(FAILS, line),
-        LogAnswer::NotGood(reason) => answer::not_good(reason),
-        LogAnswer::Refused(refusal) => answer::refused(refusal),
-    }
+    answer_numbers::of_log(log_reader::read_log(tower, table, log))
 }
 
 // Why the table is not good for the tower and the book. Where it is turned down with 14 e: the length
@@ -156,7 +123,7 @@ pub extern "C" fn succoryvise_why_v2(
 ) -> Answer
     ensures { λ a. ⌜ WhyShown a (now (tower .entry)) (now (text .entry)) (now (table .entry)) (now (list .entry)) (now (nodes .entry)) (now (pairs .entry)) (now (index .entry)) (now (graph .entry)) (now (sets .entry)) (now (room .entry)) (now (list .exit)) (now (nodes .exit)) (now (pairs .exit)) (now (index .exit)) (now (graph .exit)) (now (sets .exit)) (now (room .exit)) ⌝ }
 {
-    match why::show(
+    let shows = why::show(
         tower,
         text,
         table,
@@ -167,14 +134,6 @@ pub extern "C" fn succoryvise_why_v2(
         graph,
         sets,
         room,
-    ) {
-        WhyAnswer::Shown {
-            length,
-            line,
-            position,
-        } => answer::three_values(length, line, position),
-        WhyAnswer::Good => answer::yes(),
-        WhyAnswer::NotGood(reason) => answer::not_good(reason),
-        WhyAnswer::Refused(refusal) => answer::refused(refusal),
-    }
+    );
+    answer_numbers::of_why(shows)
 }

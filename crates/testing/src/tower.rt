@@ -3,13 +3,12 @@ ghost use mathlib.Core.Path.{_≡_};
 ghost use Rattle.logic.specs.Tower.{FitTower};
 ghost use Rattle.reading.specs.TowerReading.{read-tower};
 ghost use Rattle.file_tower.specs.TowerRead.{tower-read};
-ghost use Rattle.succoryvise.specs.Shown.{shown};
+ghost use Rattle.answer_numbers.specs.Shown.{shown};
 ghost use Rattle.testing.specs.Said.{tower-said};
 use crate::NOTHING;
+use answer_numbers::Answer;
 use file_tower::Reached;
 use file_tower::TowerRead;
-use succoryvise::answer;
-use succoryvise::answer::Answer;
 
 // The fields, by number.
 const STATES: u32 = 0;
@@ -39,8 +38,8 @@ pub extern "C" fn test_read_tower(tower: &[u8]) -> Answer
     ensures { λ a. ⌜ a ≡ shown (tower-said (tower-read (read-tower (now (tower .entry))))) ⌝ }
 {
     match file_tower::read_tower(tower) {
-        TowerRead::Fit => answer::yes(),
-        TowerRead::Refused(refusal) => answer::refused(refusal),
+        TowerRead::Fit => answer_numbers::yes(),
+        TowerRead::Refused(refusal) => answer_numbers::refused(refusal),
     }
 }
 

@@ -1,7 +1,7 @@
 -- `maker_classes::pass::found` meets its contract.
 -- The invariant: whatever looks the same is still ahead in the bucket. The measure: the number that the walk has come to.
 use lib.ListN.{take}
-use Rattle.maker_classes.specs.View.{view-of}
+use Rattle.maker_view.specs.View.{view-of}
 use Rattle.maker_classes.proofs.Ways.{part-long, part-room, Seeking, seek-start, seek-falls, seek-on, seek-hit, seek-end, seek-pair}
 use borrow.Author.Needs.{needs}
 use Rattle.maker_classes.proofs.pass.found.Statement.{statement}
