@@ -24,11 +24,11 @@ use Rattle.pair_graph.specs.Steps.{move-at, graph-of, graph-size}
 use Rattle.pair_graph.specs.GraphOf.{numbered, SaysStep, says-not-enabled, says-broken, says-to}
 use Rattle.pair_trial.specs.Walked.{walked, Searchable, Walkable}
 use Rattle.pair_trial.specs.Trial.{pair-of, pair-in}
-use Rattle.pair_search.specs.Explored.{found, HoldsPairs, Explored, pairs-of, PairsFilled, WideRight, SaysMove, moves-not, moves-broken, moves-to, RightGraph, Turning, with-new, Turned, SearchBegun}
+use Rattle.pair_step.specs.Stepped.{pairs-of, PairsFilled, WideRight, SaysMove, moves-not, moves-broken, moves-to, RightGraph, Turning}
+use Rattle.pair_step.proofs.PairEntries.{pairs-length, pairs-at, pairs-same, pairs-more, pairs-none, getD-there, state-of-pair, pending-of-pair, weighed, filled-few}
+use Rattle.pair_search.specs.Explored.{found, HoldsPairs, Explored, with-new, Turned, SearchBegun}
 use Rattle.pair_search.specs.declared.Found.the-variants.{TooMany, TooWide, Met}
 use Rattle.pair_search.specs.declared.Round.{Round}
-use Rattle.pair_search.proofs.PairEntries.{pairs-length, pairs-at, pairs-same, pairs-more, pairs-none, getD-there, state-of-pair, weighed, filled-few}
-use Rattle.pair_search.proofs.Entering.{pending-of-pair}
 use Rattle.pair_search.proofs.Turns.{search-next, search-end, search-over}
 
 -- Some element passes: one before the last, or the last.

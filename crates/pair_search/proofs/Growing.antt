@@ -17,8 +17,9 @@ use Rattle.pair_sets.proofs.Entries.{equal-numbers}
 use Rattle.pair_graph.specs.Steps.{graph-size}
 use Rattle.pair_trial.specs.Walked.{walked, Searchable}
 use Rattle.pair_trial.specs.Trial.{pair-of, pair-in, Waits, Trying}
-use Rattle.pair_search.specs.Explored.{pairs-of, with-one, PairsFilled, RightGraph, Searching, Stepped, with-new, Grown}
-use Rattle.pair_search.proofs.PairEntries.{weighed, filled-few}
+use Rattle.pair_step.specs.Stepped.{pairs-of, with-one, PairsFilled, RightGraph, Searching, Stepped}
+use Rattle.pair_step.proofs.PairEntries.{weighed, filled-few}
+use Rattle.pair_search.specs.Explored.{with-new, Grown}
 use Rattle.pair_search.proofs.Turns.{numbers-cons, one-more}
 
 -- ---- the actions by their numbers

@@ -1,9 +1,5 @@
-mod PairEntries
 mod Turns
-mod Entering
-mod Following
-mod Repeating
 mod Growing
-mod Blocking
+mod Expanding
 mod Exploring
 pub mod Ended

@@ -13,7 +13,7 @@ use borrow.Author.Tests.{lt-ltb, le-ltb}
 use Rattle.base.specs.Choice.{pick}
 use Rattle.base.specs.Lists.{some-of, count-from, present, total}
 use Rattle.base.specs.Search.{new-ones, search-on}
-use Rattle.pair_search.specs.Explored.{with-one}
+use Rattle.pair_step.specs.Stepped.{with-one}
 
 module _ {X : Type 0} (same : X → X → Bool) (followers : X → List X) (weight : X → ℕ) (most : ℕ) where
   search-turn : (n : ℕ) (seen : List X) (x : X) (todo : List X) → total (map weight seen) ≤ most

@@ -36,6 +36,17 @@ pub const PLACES: usize = 30736;
 
 // ---- the tower that is searched
 
+// Where the search starts: the tower's start state, or row 0.
+pub fn start(tower: &[u8], table: &[u8], rows: bool) -> usize
+    requires { ⌜ Files (now tower) (now table) rows ⌝ }
+    ensures { λ r. ⌜ r ≡ walked (now (tower .entry)) (now (table .entry)) rows .start ⌝ }
+{
+    if rows {
+        return 0;
+    }
+    file_tower::start(tower)
+}
+
 // The tower's state that state x of it stands for.
 pub fn tower_state(tower: &[u8], table: &[u8], rows: bool, x: usize) -> usize
     requires { ⌜ Files (now tower) (now table) rows ⌝ }

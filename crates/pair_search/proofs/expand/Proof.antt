@@ -1,11 +1,10 @@
 -- `pair_search::expand` meets its contract.
 use borrow.Author.Needs.{needs}
-use Rattle.pair_search.proofs.Following.{pair-room-below}
-use Rattle.pair_search.proofs.Blocking.{state-written}
+use Rattle.pair_search.proofs.Expanding.{state-written, block-low}
 use Rattle.pair_search.proofs.expand.Statement.{statement}
 use Rattle.pair_search.proofs.expand.Tie as tie
 
-ruleset all = (needs, pair-room-below, state-written)
+ruleset all = (needs, state-written, block-low)
 
 pub expand-spec : {M : Type 1} → statement M
 expand-spec =

@@ -1,6 +1,6 @@
 -- `pair_search::turn` meets its contract.
 use borrow.Author.Needs.{needs}
-use Rattle.pair_search.proofs.Blocking.{narrow-spare, expand-narrow, turned-on}
+use Rattle.pair_search.proofs.Expanding.{narrow-spare, expand-narrow, turned-on}
 use Rattle.pair_search.proofs.turn.Statement.{statement}
 use Rattle.pair_search.proofs.turn.Tie as tie
 

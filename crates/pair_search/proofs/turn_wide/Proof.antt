@@ -1,7 +1,7 @@
 -- `pair_search::turn_wide` meets its contract.
 use borrow.Author.Needs.{needs}
 use Rattle.pair_trial.proofs.Waiting.{room-still}
-use Rattle.pair_search.proofs.Blocking.{trial-ready, block-number, block-low, block-space, expand-tried, turned-full, tried-spare, turned-on}
+use Rattle.pair_search.proofs.Expanding.{trial-ready, block-number, block-low, block-space, expand-tried, turned-full, tried-spare, turned-on}
 use Rattle.pair_search.proofs.turn_wide.Statement.{statement}
 use Rattle.pair_search.proofs.turn_wide.Tie as tie
 

@@ -1,0 +1,5 @@
+pub mod PairEntries
+mod Entering
+mod Following
+mod Repeating
+mod Blocking
