@@ -1,2 +1,1 @@
-mod SafePairs
 mod Ways

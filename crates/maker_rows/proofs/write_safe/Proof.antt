@@ -1,8 +1,8 @@
--- `maker::write_safe` meets its contract.
+-- `maker_rows::write_safe` meets its contract.
 use borrow.Author.Needs.{needs}
-use Rattle.maker.proofs.Ways.{classifiable, short-numbers, writable, safe-made, safe-no-room}
-use Rattle.maker.proofs.write_safe.Statement.{statement}
-use Rattle.maker.proofs.write_safe.Tie as tie
+use Rattle.maker_rows.proofs.Ways.{classifiable, short-numbers, writable, safe-made, safe-no-room}
+use Rattle.maker_rows.proofs.write_safe.Statement.{statement}
+use Rattle.maker_rows.proofs.write_safe.Tie as tie
 
 ruleset all = (needs, classifiable, short-numbers, writable, safe-made, safe-no-room)
 

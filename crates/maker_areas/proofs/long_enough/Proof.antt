@@ -1,9 +1,9 @@
--- `maker::long_enough` meets its contract.
+-- `maker_areas::long_enough` meets its contract.
 use borrow.Author.Needs.{needs}
 use borrow.Author.Tests.{not-true, not-false}
-use Rattle.maker.proofs.Ways.{short-lent, short-flags, classes-decide}
-use Rattle.maker.proofs.long_enough.Statement.{statement}
-use Rattle.maker.proofs.long_enough.Tie as tie
+use Rattle.maker_areas.proofs.Laws.{short-lent, short-flags, classes-decide}
+use Rattle.maker_areas.proofs.long_enough.Statement.{statement}
+use Rattle.maker_areas.proofs.long_enough.Tie as tie
 
 pub long-enough-spec : {M : Type 1} → statement M
 long-enough-spec =

@@ -1,9 +1,9 @@
--- `maker::make_rows` meets its contract.
+-- `maker_rows::make_rows` meets its contract.
 use borrow.Author.Needs.{needs}
 use borrow.Author.Tests.{not-true, not-false}
-use Rattle.maker.proofs.Ways.{flags-enough, met-safe, no-table, rows-made}
-use Rattle.maker.proofs.make_rows.Statement.{statement}
-use Rattle.maker.proofs.make_rows.Tie as tie
+use Rattle.maker_rows.proofs.Ways.{flags-enough, met-safe, no-table, rows-made}
+use Rattle.maker_rows.proofs.make_rows.Statement.{statement}
+use Rattle.maker_rows.proofs.make_rows.Tie as tie
 
 ruleset all = (needs, not-true, not-false, flags-enough, met-safe, no-table, rows-made)
 

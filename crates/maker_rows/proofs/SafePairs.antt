@@ -25,7 +25,7 @@ use Rattle.maker_graph.proofs.Safe.{largest-safe}
 use Rattle.maker_graph.proofs.OneRow.{SafeGraph}
 use Rattle.maker_graph.proofs.SameTable.{same-table}
 use Rattle.maker_removal.specs.Removal.{Removed}
-use Rattle.maker.specs.Making.{made-table-file, graph-in}
+use Rattle.maker_rows.specs.Rows.{made-table-file, graph-in}
 
 -- Number 0 is the first pair.
 first-number : (tower : Tower) (book : Book) → numbered tower book 0 ≡ first-pair tower book

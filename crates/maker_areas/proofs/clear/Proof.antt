@@ -1,10 +1,10 @@
--- `maker::clear_all` meets its contract.
+-- `maker_areas::clear` meets its contract.
 use borrow.Author.Needs.{needs}
-use Rattle.maker.proofs.clear_all.Statement.{statement}
-use Rattle.maker.proofs.clear_all.Tie as tie
+use Rattle.maker_areas.proofs.clear.Statement.{statement}
+use Rattle.maker_areas.proofs.clear.Tie as tie
 
-pub clear-all-spec : {M : Type 1} → statement M
-clear-all-spec =
+pub clear-spec : {M : Type 1} → statement M
+clear-spec =
     tie.close
     (tie.spec
     (λ c κs. search needs) (λ c κs. search needs) (λ c κs. search needs)
