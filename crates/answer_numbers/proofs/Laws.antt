@@ -1,7 +1,7 @@
 -- From an answer that is known to how it is shown.
 use Prim.Native.Nat.{ℕ}
 use mathlib.Core.Path.{_≡_, sym, _∙_, ap}
-use Rattle.base.specs.Answers.{Said, row-of, letter-of, refusal-number, refusal-place, refusal-said, reason-said, book-said, make-said, verdict-said, follow-said, log-said, why-said}
+use Rattle.base.specs.Answers.{Said, row-of, letter-of, refusal-number, refusal-place, refusal-said, reason-said}
 use Rattle.base.specs.declared.Reason.{Reason}
 use Rattle.base.specs.declared.Refusal.{Refusal}
 use Rattle.answer_numbers.specs.Shown.{shown}
@@ -22,26 +22,5 @@ unfolding shown reason-said
 reason-shown q l p e f = rw (e, f)
 
 -- An answer is shown by what is said of the one that it is.
-abbrev pub ShownBy : {X : Type 0} → (X → Said) → Type 0
-ShownBy {X} said = (x y : X) (z : Answer) → x ≡ y → z ≡ shown (said y) → z ≡ shown (said x)
-
-pub shown-by : {X : Type 0} (said : X → Said) → ShownBy said
+pub shown-by : {X : Type 0} (said : X → Said) (x y : X) (z : Answer) → x ≡ y → z ≡ shown (said y) → z ≡ shown (said x)
 shown-by said x y z e g = g ∙ ap (λ w. shown (said w)) (sym e)
-
-pub book-by : ShownBy book-said
-book-by = shown-by book-said
-
-pub make-by : ShownBy make-said
-make-by = shown-by make-said
-
-pub check-by : ShownBy verdict-said
-check-by = shown-by verdict-said
-
-pub follow-by : ShownBy follow-said
-follow-by = shown-by follow-said
-
-pub log-by : ShownBy log-said
-log-by = shown-by log-said
-
-pub why-by : ShownBy why-said
-why-by = shown-by why-said

@@ -1,12 +1,11 @@
 -- Counting rows and classes: a pass that separates rows gives more classes, and there are no more classes than rows.
-use Prim.Native.Nat.{ℕ, zero, suc, _+_, _≤_, _<_}
+use Prim.Native.Nat.{ℕ, suc, _≤_, _<_}
 use native.Mathlib.Omega.{arith}
-use native.Mathlib.Decide.{ℕ-discrete, decLt}
+use native.Mathlib.Decide.{decLt}
 use mathlib.Core.Path.{_≡_, refl, ap, _∙_, subst}
 use mathlib.Core.Bool.{Bool, true, false, _&&_, not}
 use lib.ListN.{getD}
 use borrow.Author.Tests.{not-true}
-use Rattle.base.specs.Choice.{pick}
 use Rattle.base.specs.Lists.{every, below, place-of}
 use Rattle.base.proofs.Lists.{whether, never-both, false-by, not-in, and-left, and-right, and-both, every-below, below-every, length-below, getD-below, below-mem, place-of-found, place-of-at, place-of-before, IsSame}
 use Rattle.pair_graph.specs.Graph.{Graph, SafePair}

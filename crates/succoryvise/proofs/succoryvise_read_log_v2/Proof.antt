@@ -1,8 +1,9 @@
 -- `succoryvise::succoryvise_read_log_v2` meets its contract.
 use borrow.Author.Needs.{needs}
-use Rattle.succoryvise.proofs.Laws.{log-by}
+use Rattle.base.specs.Answers.{log-said}
+use Rattle.succoryvise.proofs.Laws.{shown-of}
 use Rattle.succoryvise.proofs.succoryvise_read_log_v2.Statement.{statement}
 use Rattle.succoryvise.proofs.succoryvise_read_log_v2.Tie as tie
 
 pub succoryvise-read-log-v2-spec : {M : Type 1} → statement M
-succoryvise-read-log-v2-spec = tie.close (tie.spec (λ c κs. search needs) (λ c κs. search needs) (λ c. search log-by))
+succoryvise-read-log-v2-spec = tie.close (tie.spec (λ c κs. search needs) (λ c κs. search needs) (λ c. search (shown-of log-said)))
