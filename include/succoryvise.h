@@ -132,7 +132,7 @@ struct succoryvise_answer {
 uint32_t succoryvise_version(void);
 
 /* Reads a rule book under so many marks (P of the tower): 15, 2 (over 16 marks), or 6 to 10.
- * Done: first is the number of lines, a `ticks` line among them, second that of nodes. */
+ * Done: first is the number of lines, second that of nodes. */
 struct succoryvise_answer succoryvise_read_book(
     size_t marks,
     const uint8_t *text, size_t text_length,

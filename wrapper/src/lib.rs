@@ -86,7 +86,7 @@ pub const LONGEST_RUN: usize = 1_000;
 #[derive(Clone, Copy, Debug, PartialEq, Eq)]
 #[non_exhaustive]
 pub struct BookCounts {
-    /// Its lines: one for each rule, and a `ticks` line where it begins with one.
+    /// Its lines, each of which is a rule.
     pub lines: usize,
     /// The nodes of its formulas.
     pub nodes: usize,

@@ -9,7 +9,7 @@ use Rattle.base.specs.declared.BookAnswer.{BookAnswer}
 use Rattle.base.specs.declared.BookAnswer.TheVariants as Reads
 use Rattle.logic.specs.Book.{Book}
 use Rattle.logic.specs.Tower.{most_marks}
-use Rattle.reading.specs.BookReading.{first_rule, read_book}
+use Rattle.reading.specs.BookReading.{read_book}
 use Rattle.reading.proofs.BookLines.{book_few}
 use Rattle.outcome.specs.ReadBook.{book_answer}
 use Rattle.book_progression.specs.NodeBytes.{IsHeld}
@@ -42,7 +42,7 @@ module _ (marks : ℕ) (text first nodes : List ℕ) (a : BookAnswer) (lines cou
             read = e;
           }
 
-      go : (o : Answer Book) → read_book marks text ≡ o → Reads.Read lines count ≡ book_answer (first_rule text) o → BookHeld marks text nodes
+      go : (o : Answer Book) → read_book marks text ≡ o → Reads.Read lines count ≡ book_answer o → BookHeld marks text nodes
       go (refuse q) p e = absurd (let z : ◌≡◌ {A = ℕ} 0 1 = cc in omega arith)
       go (give book) p e = known book p
 

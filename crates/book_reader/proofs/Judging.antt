@@ -128,13 +128,13 @@ kept_all a le = length-take-le node_count_at a (omega arith)
 -- ---- a line
 
 -- How a line is judged: by the state as by the definitions.
-pub data Verdict (r : Turn) (marks k : ℕ) (rules : Book) (form : Form) (f : Formula) (b q : ℕ) (y : List ℕ) : Type 0 where
-  down : (why : Refusal) → judge_line marks k rules (Reading.line form f b q) ≡ refuse why → r ≡ T.Refused why → Verdict r marks k rules form f b q y
-  fine : judge_line marks k rules (Reading.line form f b q) ≡ give (record { rules = rules ++ (record { form = form; formula = f } ∷ []); place = q })
+pub data Verdict (r : Turn) (marks : ℕ) (rules : Book) (form : Form) (f : Formula) (b q : ℕ) (y : List ℕ) : Type 0 where
+  down : (why : Refusal) → judge_line marks rules (Reading.line form f b q) ≡ refuse why → r ≡ T.Refused why → Verdict r marks rules form f b q y
+  fine : judge_line marks rules (Reading.line form f b q) ≡ give (record { rules = rules ++ (record { form = form; formula = f } ∷ []); place = q })
       → r ≡ T.Next q → over_number f ≡ false → over_mark marks f ≡ false → length (nodes rules) + size f ≤ 60 → (state_of y).fault ≡ 255
-      → Verdict r marks k rules form f b q y
+      → Verdict r marks rules form f b q y
 
-module _ (usual marks : ℕ) (rules : Book) (line : ℕ) (a : List ℕ) (held : HeldSoFar usual marks rules line a) (form : Form) (f : Formula) (b : ℕ) (y : List ℕ)
+module _ (marks : ℕ) (rules : Book) (line : ℕ) (a : List ℕ) (held : HeldSoFar marks rules line a) (form : Form) (f : Formula) (b : ℕ) (y : List ℕ)
     (absorbed : state_of y ≡ absorb 16 b f (state_of a)) where
   fault_after : (state_of y).fault ≡ least (over_number f) (over_mark marks f) (ltb 16 b) (not (timed_right f))
   unfolding absorb fault_of least
@@ -172,35 +172,35 @@ module _ (usual marks : ℕ) (rules : Book) (line : ℕ) (a : List ℕ) (held : 
           le-ltb 60 (state_of y).nodes.count (omega (arith, held.counted, ltb-false 60 (length (nodes rules) + length (parts f)) e)) ∙ sym e
 
   -- The line is judged alike.
-  verdict : (k q : ℕ) (r : Turn) → r ≡ judged k q (state_of y) → (x1 x2 x3 x4 x5 : Bool) → over_number f ≡ x1 → over_mark marks f ≡ x2
-      → ltb 60 (length (nodes rules) + size f) ≡ x3 → ltb 16 b ≡ x4 → timed_right f ≡ x5 → Verdict r marks k rules form f b q y
+  verdict : (q : ℕ) (r : Turn) → r ≡ judged line q (state_of y) → (x1 x2 x3 x4 x5 : Bool) → over_number f ≡ x1 → over_mark marks f ≡ x2
+      → ltb 60 (length (nodes rules) + size f) ≡ x3 → ltb 16 b ≡ x4 → timed_right f ≡ x5 → Verdict r marks rules form f b q y
   unfolding judge_line ◌if◌else◌ over_limit most_nodes most_brackets judged
-  verdict k q r e true x2 x3 x4 x5 e1 e2 e3 e4 e5 =
-      down (Number k) (rw e1) (e ∙ rw (fault_after, e1, least_7 true (over_mark marks f) (ltb 16 b) (not (timed_right f))))
-  verdict k q r e false true x3 x4 x5 e1 e2 e3 e4 e5 =
-      down (Mark k) (rw (e1, e2))
+  verdict q r e true x2 x3 x4 x5 e1 e2 e3 e4 e5 =
+      down (Number line) (rw (e1, held.count_lines)) (e ∙ rw (fault_after, e1, least_7 true (over_mark marks f) (ltb 16 b) (not (timed_right f))))
+  verdict q r e false true x3 x4 x5 e1 e2 e3 e4 e5 =
+      down (Mark line) (rw (e1, e2, held.count_lines))
       (e ∙ rw (fault_after, e1, e2, least_7 false true (ltb 16 b) (not (timed_right f)), least_8 true (ltb 16 b) (not (timed_right f))))
-  verdict k q r e false false true x4 x5 e1 e2 e3 e4 e5 =
-      down (Limit k) (rw (e1, e2, e3))
+  verdict q r e false false true x4 x5 e1 e2 e3 e4 e5 =
+      down (Limit line) (rw (e1, e2, e3, held.count_lines))
       (e ∙ rw (fault_after, e1, e2, least_7 false false (ltb 16 b) (not (timed_right f)), least_8 false (ltb 16 b) (not (timed_right f)), count_after, e3))
-  verdict k q r e false false false true x5 e1 e2 e3 e4 e5 =
-      down (Limit k) (rw (e1, e2, e3, e4))
+  verdict q r e false false false true x5 e1 e2 e3 e4 e5 =
+      down (Limit line) (rw (e1, e2, e3, e4, held.count_lines))
       (e ∙ rw (fault_after, e1, e2, e4, least_7 false false true (not (timed_right f)), least_8 false true (not (timed_right f)), count_after, e3, least_9 true (not (timed_right f))))
-  verdict k q r e false false false false false e1 e2 e3 e4 e5 =
-      down (Timed k) (rw (e1, e2, e3, e4, e5))
+  verdict q r e false false false false false e1 e2 e3 e4 e5 =
+      down (Timed line) (rw (e1, e2, e3, e4, e5, held.count_lines))
       (e ∙ rw (fault_after, e1, e2, e4, e5, least_7 false false false true, least_8 false false true, count_after, e3, least_9 false true, least_10 true))
-  verdict k q r e false false false false true e1 e2 e3 e4 e5 =
+  verdict q r e false false false false true e1 e2 e3 e4 e5 =
       let fault : (state_of y).fault ≡ 255 = fault_after ∙ rw (e1, e2, e4, e5) least_none in
       fine (rw (e1, e2, e3, e4, e5)) (e ∙ rw (fault, count_after, e3)) e1 e2 (omega (arith, ltb-false 60 (length (nodes rules) + size f) e3)) fault
 
-  pub line_judged : (k q : ℕ) (r : Turn) → r ≡ judged k q (state_of y) → Verdict r marks k rules form f b q y
-  line_judged k q r e =
-      verdict k q r e (over_number f) (over_mark marks f) (ltb 60 (length (nodes rules) + size f)) (ltb 16 b) (timed_right f) refl refl refl refl refl
+  pub line_judged : (q : ℕ) (r : Turn) → r ≡ judged line q (state_of y) → Verdict r marks rules form f b q y
+  line_judged q r e =
+      verdict q r e (over_number f) (over_mark marks f) (ltb 60 (length (nodes rules) + size f)) (ltb 16 b) (timed_right f) refl refl refl refl refl
 
   -- One rule more is held, once its line is put down.
   pub held_more : (q : ℕ) (z : List ℕ) → marks ≤ 16 → 512 ≤ length a → over_number f ≡ false → over_mark marks f ≡ false
       → length (nodes rules) + size f ≤ 60 → (state_of y).fault ≡ 255 → PutsLine line (form_code form) y z
-      → HeldSoFar usual marks (rules ++ (record { form = form; formula = f } ∷ [])) (line + 1) z
+      → HeldSoFar marks (rules ++ (record { form = form; formula = f } ∷ [])) (line + 1) z
   unfolding put_line size last_node
   held_more q z le long n m few fault puts =
       let rule : Rule = record { form = form; formula = f } in
@@ -209,7 +209,7 @@ module _ (usual marks : ℕ) (rules : Book) (line : ℕ) (a : List ℕ) (held : 
       let more = length_more rules rule in
       let some = size_some f in
       let room : length rules < 60 = omega (arith, held.lined) in
-      let put = puts.put (omega (arith)) in
+      let put = puts.put (omega (arith, held.count_lines)) in
       let exact = count_exact (parts f) (state_of a).nodes (omega (arith, held.counted)) in
       record {
         count_lines = omega (arith, held.count_lines);

@@ -29,7 +29,7 @@ use Rattle.reading.specs.Tokens.{stands, skip}
 use Rattle.reading.specs.Grammar.{bad, got, formula_at}
 use Rattle.reading.specs.BookArea.{lines_at, node_count_at, line_count_at, HoldsBook, form_code}
 use Rattle.reading.specs.BookReading as Reading
-use Rattle.reading.specs.BookReading.{most_bytes, most_ticks, usual_bound, first_rule, ReadSoFar, judge_line, line_at, worded, ended, lines_step, read_lines, read_book}
+use Rattle.reading.specs.BookReading.{most_bytes, usual_bound, ReadSoFar, judge_line, line_at, worded, ended, lines_step, read_lines, read_book}
 use Rattle.outcome.specs.Areas.{book_areas}
 use Rattle.outcome.specs.ReadBook.{book_answer, book_under, read_outcome}
 use Rattle.text_numerals.proofs.Laws.{byte_inside}
@@ -37,19 +37,45 @@ use Rattle.book_nodes.specs.State.{fault_at, timed_at, marks_at, usual_at, state
 use Rattle.book_nodes.proofs.Area.{byte_set, state, state_sets}
 use Rattle.book_formula.specs.Parse.{Reads, not_of, is_read}
 use Rattle.reading.proofs.SpelledFormulas.{formula_ends}
-use Rattle.reading.proofs.SpelledTokens.{passage_inside}
-use Rattle.reading.proofs.Headings.{HeadingWays, way_plain, way_none, way_over, way_ticks, heading_ways, ticks_some}
 use Rattle.reading.proofs.SpelledLines.{line_ends}
-use Rattle.book_heading.specs.Heading.{headed}
-use Rattle.book_heading.specs.declared.Headed.{Headed}
-use Rattle.book_heading.specs.declared.Headed.TheVariants as H
 use Rattle.book_reader.specs.declared.Line.{Line}
 use Rattle.book_reader.specs.declared.Line.TheVariants as L
 use Rattle.book_reader.specs.declared.Turn.{Turn}
 use Rattle.book_reader.specs.declared.Turn.TheVariants as T
-use Rattle.book_reader.specs.Lines.{LineRead, not_line, is_line, RestRead, judged, put_line, PutsLine, Keeps, HeldSoFar, Turned, turned_down, gone_on, Turns, lines_from, Coming, RulesRead, Answers, Outcome}
+use Rattle.book_reader.specs.Lines.{ComparingWord, LineRead, not_line, is_line, RestRead, judged, put_line, PutsLine, Keeps, HeldSoFar, Turned, turned_down, gone_on, Turns, lines_from, Coming, Answers, Outcome}
 use Rattle.book_reader.proofs.Kept.{keeps_none, holds_whole}
 use Rattle.book_reader.proofs.Judging.{Verdict, down, fine, line_judged, held_more}
+
+-- ---- words
+
+pub comparing_start : (s : List ℕ) (at : ℕ) (word : List ℕ) → ComparingWord s at word 0 at
+comparing_start s at word = record { few = omega arith; here = omega arith; same = refl }
+
+pub comparing_short : (s : List ℕ) (at : ℕ) (word : List ℕ) (i p : ℕ) → ComparingWord s at word i p → i < length word → length s ≤ p
+    → false ≡ begins word (drop at s)
+unfolding begins
+comparing_short s at word i p h lt le = sym (h.same ∙ rw (drop_of_length-le s le, drop-cons word i 0 lt))
+
+pub comparing_other : (s : List ℕ) (at : ℕ) (word : List ℕ) (i p : ℕ) → ComparingWord s at word i p → i < length word → p < length s
+    → (get_or s p 0 ≡ get_or word i 0 → ⊥) → false ≡ begins word (drop at s)
+unfolding begins
+comparing_other s at word i p h lt inside n =
+    sym (h.same ∙ rw (drop-cons s p 0 inside, drop-cons word i 0 lt, ne_eqb (get_or word i 0) (get_or s p 0) (λ e. n (sym e))))
+
+next_same : (s word : List ℕ) (i p : ℕ) → i < length word → p < length s → get_or s p 0 ≡ get_or word i 0
+    → begins (drop i word) (drop p s) ≡ begins (drop (i + 1) word) (drop (p + 1) s)
+unfolding begins
+next_same s word i p lt inside e =
+    rw (drop-cons s p 0 inside, drop-cons word i 0 lt, eq-eqb (get_or word i 0) (get_or s p 0) (sym e), add-one i, add-one p)
+
+pub comparing_more : (s : List ℕ) (at : ℕ) (word : List ℕ) (i p : ℕ) → ComparingWord s at word i p → i < length word → p < length s
+    → get_or s p 0 ≡ get_or word i 0 → ComparingWord s at word (i + 1) (p + 1)
+comparing_more s at word i p h lt inside e =
+    record { few = omega arith; here = omega (arith, h.here); same = h.same ∙ next_same s word i p lt inside e }
+
+pub comparing_all : (s : List ℕ) (at : ℕ) (word : List ℕ) (i p : ℕ) → ComparingWord s at word i p → length word ≤ i → true ≡ begins word (drop at s)
+unfolding begins
+comparing_all s at word i p h le = sym (h.same ∙ rw (drop_of_length-le word le))
 
 -- ---- lines
 
@@ -128,61 +154,58 @@ line_none s at t u a e f g k = not_line (line_third (usual_in a) s at (sym e ∙
 
 -- ---- one line
 
--- The line is read with the number that is held.
-usual_line : {usual marks : ℕ} {rules : Logic.Book} {lines : ℕ} (s : List ℕ) (at : ℕ) (a : List ℕ) → HeldSoFar usual marks rules lines a
-    → line_at usual s at ≡ line_at (usual_in a) s at
+-- The line is read with the usual bound.
+usual_line : {marks : ℕ} {rules : Logic.Book} {lines : ℕ} (s : List ℕ) (at : ℕ) (a : List ℕ) → HeldSoFar marks rules lines a
+    → line_at usual_bound s at ≡ line_at (usual_in a) s at
 usual_line s at a held = ap (λ (u : ℕ). line_at u s at) (sym held.known_usual)
 
-pub one_bad : (s : List ℕ) (at first line : ℕ) (r : Line) (a z : List ℕ) → LineRead r (line_at (usual_in a) s at) a z → r ≡ L.Bad
-    → Turns (T.Refused (Grammar (first + line))) s at first line a z
+pub one_bad : (s : List ℕ) (at line : ℕ) (r : Line) (a z : List ℕ) → LineRead r (line_at (usual_in a) s at) a z → r ≡ L.Bad
+    → Turns (T.Refused (Grammar line)) s at line a z
 unfolding judge_line
-one_bad s at first line r a z (not_line e f) g =
+one_bad s at line r a z (not_line e f) g =
     record {
-      from = λ usual marks rules le inside held.
-          turned_down (Grammar (first + line)) (ap (judge_line marks (first + line) rules) (usual_line s at a held ∙ e)) refl;
+      from = λ marks rules le inside held.
+          turned_down (Grammar line) (ap (judge_line marks rules) (usual_line s at a held ∙ e) ∙ ap (λ (n : ℕ). refuse (Grammar n)) held.count_lines) refl;
     }
-one_bad s at first line r a z (is_line form f b q e g h) k = let x : ◌≡◌ {A = ℕ} 0 1 = cc in absurd (omega arith)
+one_bad s at line r a z (is_line form f b q e g h) k = let x : ◌≡◌ {A = ℕ} 0 1 = cc in absurd (omega arith)
 
-pub one_refused : (s : List ℕ) (at first line code end : ℕ) (r : Line) (t : Turn) (why : Refusal) (a z : List ℕ) → LineRead r (line_at (usual_in a) s at) a z
-    → r ≡ L.Read code end → t ≡ judged (first + line) end (state_of z) → t ≡ T.Refused why → Turns t s at first line a z
-one_refused s at first line code end r t why a z (not_line e f) g h i = let x : ◌≡◌ {A = ℕ} 0 1 = cc in absurd (omega arith)
-one_refused s at first line code end r t why a z (is_line form f b q e k o) g h i =
+pub one_refused : (s : List ℕ) (at line code end : ℕ) (r : Line) (t : Turn) (why : Refusal) (a z : List ℕ) → LineRead r (line_at (usual_in a) s at) a z
+    → r ≡ L.Read code end → t ≡ judged line end (state_of z) → t ≡ T.Refused why → Turns t s at line a z
+one_refused s at line code end r t why a z (not_line e f) g h i = let x : ◌≡◌ {A = ℕ} 0 1 = cc in absurd (omega arith)
+one_refused s at line code end r t why a z (is_line form f b q e k o) g h i =
     let same : q ≡ end = cc in
-    record {
-      from = λ usual marks rules le inside held.
-          finish usual marks rules (line_judged usual marks rules line a held form f b z o (first + line) end t h) (usual_line s at a held ∙ e ∙ ap (Reading.line form f b) same);
-    }
+    record { from = λ marks rules le inside held. finish marks rules (line_judged marks rules line a held form f b z o end t h) (usual_line s at a held ∙ e ∙ ap (Reading.line form f b) same) }
   where
-    finish : (usual marks : ℕ) (rules : Logic.Book) → Verdict t marks (first + line) rules form f b end z → line_at usual s at ≡ Reading.line form f b end
-        → Turned t (judge_line marks (first + line) rules (line_at usual s at)) usual marks line z
-    finish usual marks rules (down w j l) d = turned_down w (ap (judge_line marks (first + line) rules) d ∙ j) l
-    finish usual marks rules (fine j l m n p u) d = let x : ◌≡◌ {A = ℕ} 0 1 = cc in absurd (omega arith)
+    finish : (marks : ℕ) (rules : Logic.Book) → Verdict t marks rules form f b end z → line_at usual_bound s at ≡ Reading.line form f b end
+        → Turned t (judge_line marks rules (line_at usual_bound s at)) marks line z
+    finish marks rules (down w j l) d = turned_down w (ap (judge_line marks rules) d ∙ j) l
+    finish marks rules (fine j l m n p u) d = let x : ◌≡◌ {A = ℕ} 0 1 = cc in absurd (omega arith)
 
-pub one_next : (s : List ℕ) (at first line code end after : ℕ) (r : Line) (t : Turn) (a y z : List ℕ) → 512 ≤ length a → LineRead r (line_at (usual_in a) s at) a y
-    → r ≡ L.Read code end → t ≡ judged (first + line) end (state_of y) → t ≡ T.Next after → PutsLine line code y z → Turns (T.Next after) s at first line a z
-one_next s at first line code end after r t a y z long (not_line e f) g h i puts = let x : ◌≡◌ {A = ℕ} 0 1 = cc in absurd (omega arith)
-one_next s at first line code end after r t a y z long (is_line form f b q e k o) g h i puts =
+pub one_next : (s : List ℕ) (at line code end after : ℕ) (r : Line) (t : Turn) (a y z : List ℕ) → 512 ≤ length a → LineRead r (line_at (usual_in a) s at) a y
+    → r ≡ L.Read code end → t ≡ judged line end (state_of y) → t ≡ T.Next after → PutsLine line code y z → Turns (T.Next after) s at line a z
+one_next s at line code end after r t a y z long (not_line e f) g h i puts = let x : ◌≡◌ {A = ℕ} 0 1 = cc in absurd (omega arith)
+one_next s at line code end after r t a y z long (is_line form f b q e k o) g h i puts =
     let same : q ≡ end = cc in
     let coded : form_code form ≡ code = cc in
     record {
-      from = λ usual marks rules le inside held.
-          finish usual marks rules le held (line_judged usual marks rules line a held form f b y o (first + line) end t h)
-          (usual_line s at a held ∙ e ∙ ap (Reading.line form f b) same) (rw (← coded) at puts);
+      from = λ marks rules le inside held.
+          finish marks rules le held (line_judged marks rules line a held form f b y o end t h) (usual_line s at a held ∙ e ∙ ap (Reading.line form f b) same)
+          (rw (← coded) at puts);
     }
   where
-    finish : (usual marks : ℕ) (rules : Logic.Book) → marks ≤ 16 → HeldSoFar usual marks rules line a → Verdict t marks (first + line) rules form f b end y
-        → line_at usual s at ≡ Reading.line form f b end → PutsLine line (form_code form) y z
-        → Turned (T.Next after) (judge_line marks (first + line) rules (line_at usual s at)) usual marks line z
-    finish usual marks rules le held (down w j l) d p = let x : ◌≡◌ {A = ℕ} 0 1 = cc in absurd (omega arith)
-    finish usual marks rules le held (fine j l m n u v) d p =
-        gone_on (rules ++ (record { form = form; formula = f } ∷ [])) end (ap (judge_line marks (first + line) rules) d ∙ j) (sym i ∙ l)
-        (held_more usual marks rules line a held form f b y o end z le long m n u v p)
+    finish : (marks : ℕ) (rules : Logic.Book) → marks ≤ 16 → HeldSoFar marks rules line a → Verdict t marks rules form f b end y
+        → line_at usual_bound s at ≡ Reading.line form f b end → PutsLine line (form_code form) y z
+        → Turned (T.Next after) (judge_line marks rules (line_at usual_bound s at)) marks line z
+    finish marks rules le held (down w j l) d p = let x : ◌≡◌ {A = ℕ} 0 1 = cc in absurd (omega arith)
+    finish marks rules le held (fine j l m n u v) d p =
+        gone_on (rules ++ (record { form = form; formula = f } ∷ [])) end (ap (judge_line marks rules) d ∙ j) (sym i ∙ l)
+        (held_more marks rules line a held form f b y o end z le long m n u v p)
 
 -- ---- all lines
 
-no_give {ℓ} : {C : Type ℓ} (marks k : ℕ) (rules : Logic.Book) (pr : ReadSoFar) → judge_line marks k rules Reading.no_line ≡ give pr → C
+no_give {ℓ} : {C : Type ℓ} (marks : ℕ) (rules : Logic.Book) (pr : ReadSoFar) → judge_line marks rules Reading.no_line ≡ give pr → C
 unfolding judge_line
-no_give marks k rules pr f = let x : ◌≡◌ {A = ℕ} 0 1 = cc in absurd (omega arith)
+no_give marks rules pr f = let x : ◌≡◌ {A = ℕ} 0 1 = cc in absurd (omega arith)
 
 give_same : {A : Type 0} {x y : A} → give x ≡ give y → x ≡ y
 give_same e = cc
@@ -191,20 +214,20 @@ given_place : (rules : Logic.Book) (form : Form) (f : Formula) (q : ℕ) (pr : R
     → give (record { rules = rules ++ (record { form = form; formula = f } ∷ []); place = q }) ≡ give pr → q ≡ pr.place
 given_place rules form f q pr e = ap (λ (x : ReadSoFar). x.place) (give_same e)
 
-judge_given : (marks k : ℕ) (rules : Logic.Book) (form : Form) (f : Formula) (b q : ℕ) (pr : ReadSoFar)
-    → judge_line marks k rules (Reading.line form f b q) ≡ give pr → q ≡ pr.place
+judge_given : (marks : ℕ) (rules : Logic.Book) (form : Form) (f : Formula) (b q : ℕ) (pr : ReadSoFar)
+    → judge_line marks rules (Reading.line form f b q) ≡ give pr → q ≡ pr.place
 unfolding judge_line
-judge_given marks k rules form f b q pr e =
-    let (_, e2) = if_gives (Number k) (Reading.over_number f) _ e in
-    let (_, e3) = if_gives (Mark k) (Reading.over_mark marks f) _ e2 in
-    let (_, e4) = if_gives (Limit k) (Reading.over_limit rules f b) _ e3 in
-    let (_, e5) = if_gives (Timed k) (not (Logic.timed_right f)) _ e4 in
+judge_given marks rules form f b q pr e =
+    let (_, e2) = if_gives (Number (length rules)) (Reading.over_number f) _ e in
+    let (_, e3) = if_gives (Mark (length rules)) (Reading.over_mark marks f) _ e2 in
+    let (_, e4) = if_gives (Limit (length rules)) (Reading.over_limit rules f b) _ e3 in
+    let (_, e5) = if_gives (Timed (length rules)) (not (Logic.timed_right f)) _ e4 in
     given_place rules form f q pr e5
 
-judge_place : (usual marks k : ℕ) (rules : Logic.Book) (x : Reading.Line) (s : List ℕ) (p : ℕ) (pr : ReadSoFar) → line_at usual s p ≡ x
-    → judge_line marks k rules x ≡ give pr → (p < pr.place) × (pr.place ≤ length s)
-judge_place usual marks k rules Reading.no_line s p pr e f = no_give marks k rules pr f
-judge_place usual marks k rules (Reading.line form f b q) s p pr e g = rw (judge_given marks k rules form f b q pr g) at (line_ends usual s p form f b q e)
+judge_place : (marks : ℕ) (rules : Logic.Book) (x : Reading.Line) (s : List ℕ) (p : ℕ) (pr : ReadSoFar) → line_at usual_bound s p ≡ x
+    → judge_line marks rules x ≡ give pr → (p < pr.place) × (pr.place ≤ length s)
+judge_place marks rules Reading.no_line s p pr e f = no_give marks rules pr f
+judge_place marks rules (Reading.line form f b q) s p pr e g = rw (judge_given marks rules form f b q pr g) at (line_ends usual_bound s p form f b q e)
 
 then_refused : (w : Refusal) (f g : ReadSoFar → Answer Logic.Book) → (refuse w then f) ≡ (refuse w then g)
 unfolding ◌then◌
@@ -214,6 +237,96 @@ then_given : (pr : ReadSoFar) (f g : ReadSoFar → Answer Logic.Book) → f pr �
 unfolding ◌then◌
 then_given pr f g e = e
 
+lines_fall : (marks : ℕ) (s : List ℕ)
+    → Falls (λ (here : ReadSoFar). length s - here.place) (λ here. refuse (Grammar (length here.rules))) (lines_step usual_bound marks s) (λ here r. Unit {0})
+unfolding lines_step
+lines_fall marks s =
+    record {
+      at_stop = λ x. tt;
+      kept = λ x f h. tt;
+      same = λ x f g h agree. step x f g agree (leb (length s) x.place) refl;
+    }
+  where
+    more : (x : ReadSoFar) (f g : ReadSoFar → Answer Logic.Book)
+        → ((y : ReadSoFar) → length s - y.place < length s - x.place → f y ≡ g y) → x.place < length s
+        → (o : Answer ReadSoFar) → judge_line marks x.rules (line_at usual_bound s x.place) ≡ o → (o then f) ≡ (o then g)
+    more x f g agree lt (refuse w) e = then_refused w f g
+    more x f g agree lt (give pr) e =
+        let (ahead, inside) = judge_place marks x.rules (line_at usual_bound s x.place) s x.place pr refl e in
+        then_given pr f g (agree pr (omega arith))
+
+    step : (x : ReadSoFar) (f g : ReadSoFar → Answer Logic.Book)
+        → ((y : ReadSoFar) → length s - y.place < length s - x.place → f y ≡ g y)
+        → (t : Bool) → leb (length s) x.place ≡ t
+        → pick (leb (length s) x.place) (λ _. give x.rules) (λ _. judge_line marks x.rules (line_at usual_bound s x.place) then f)
+        ≡ pick (leb (length s) x.place) (λ _. give x.rules) (λ _. judge_line marks x.rules (line_at usual_bound s x.place) then g)
+    step x f g agree true e = rw e
+    step x f g agree false e =
+        rw e (more x f g agree (leb-false (length s) x.place e) (judge_line marks x.rules (line_at usual_bound s x.place)) refl)
+
+lines_eq : (marks : ℕ) (s : List ℕ) (here : ReadSoFar) → lines_from marks s here ≡ lines_step usual_bound marks s here (lines_from marks s)
+unfolding lines_from
+lines_eq marks s here =
+    run_eq (λ (h : ReadSoFar). length s - h.place) (λ h. refuse (Grammar (length h.rules))) (lines_step usual_bound marks s) (λ h r. Unit {0}) (lines_fall marks s) here
+
+lines_over : (marks : ℕ) (s : List ℕ) (rules : Logic.Book) (at : ℕ) → length s ≤ at → lines_from marks s (record { rules = rules; place = at }) ≡ give rules
+unfolding lines_step
+lines_over marks s rules at le = lines_eq marks s (record { rules = rules; place = at }) ∙ rw (le-leb (length s) at le)
+
+lines_on : (marks : ℕ) (s : List ℕ) (rules : Logic.Book) (at : ℕ) → at < length s
+    → lines_from marks s (record { rules = rules; place = at }) ≡ (judge_line marks rules (line_at usual_bound s at) then lines_from marks s)
+unfolding lines_step
+lines_on marks s rules at lt = lines_eq marks s (record { rules = rules; place = at }) ∙ rw (lt-leb (length s) at lt)
+
+pub coming_start : (marks : ℕ) (s a : List ℕ) → HeldSoFar marks [] 0 a → Coming marks s 0 0 a a
+unfolding lines_from read_lines
+coming_start marks s a h = record { long = refl; rules = []; held = h; same = refl }
+
+pub coming_on : (marks : ℕ) (s : List ℕ) (at lines next : ℕ) (l a z : List ℕ) (t : Turn) → marks ≤ 16 → Coming marks s at lines l a → at < length s
+    → Turns t s at lines a z → t ≡ T.Next next → length z ≡ length a → Coming marks s next (lines + 1) l z
+coming_on marks s at lines next l a z t le h lt turns e len = finish (turns.from marks h.rules le lt h.held)
+  where
+    finish : Turned t (judge_line marks h.rules (line_at usual_bound s at)) marks lines z → Coming marks s next (lines + 1) l z
+    finish (turned_down why f g) = let x : ◌≡◌ {A = ℕ} 0 1 = cc in absurd (omega arith)
+    finish (gone_on rules q f g held) =
+        let same : q ≡ next = cc in
+        record {
+          long = len ∙ h.long;
+          rules = rules;
+          held = held;
+          same = ap (λ (m : ℕ). lines_from marks s (record { rules = rules; place = m })) (sym same)
+              ∙ sym (lines_on marks s h.rules at lt ∙ then_on (lines_from marks s) f) ∙ h.same;
+        }
+
+pub coming_less : (marks : ℕ) (s : List ℕ) (at lines next : ℕ) (l a z : List ℕ) (t : Turn) → marks ≤ 16 → Coming marks s at lines l a → at < length s
+    → Turns t s at lines a z → t ≡ T.Next next → length s - next < length s - at
+coming_less marks s at lines next l a z t le h lt turns e = finish (turns.from marks h.rules le lt h.held)
+  where
+    finish : Turned t (judge_line marks h.rules (line_at usual_bound s at)) marks lines z → length s - next < length s - at
+    finish (turned_down why f g) = let x : ◌≡◌ {A = ℕ} 0 1 = cc in absurd (omega arith)
+    finish (gone_on rules q f g held) =
+        let same : q ≡ next = cc in
+        let (ahead, inside) = judge_place marks h.rules (line_at usual_bound s at) s at (record { rules = rules; place = q }) refl f in
+        omega arith
+
+read_whole : (marks : ℕ) (s : List ℕ) → length s ≤ 4096 → read_book marks s ≡ read_lines usual_bound marks s
+unfolding read_book ◌if◌else◌ most_bytes
+read_whole marks s le = rw (le-ltb 4096 (length s) le)
+
+answers_refused : (marks : ℕ) (s z : List ℕ) (why : Refusal) → read_book marks s ≡ refuse why → Answers (Book.Refused why) marks s z
+unfolding book_answer
+answers_refused marks s z why e =
+    record { answer = sym (ap book_answer e); area = λ book f. gives_not_refuses f e }
+
+answers_read : (marks : ℕ) (s z : List ℕ) (rules : Logic.Book) {lines n : ℕ} → read_book marks s ≡ give rules → length rules ≡ lines
+    → n ≡ length (nodes rules) → HoldsBook z rules → Answers (Book.Read lines n) marks s z
+unfolding book_answer
+answers_read marks s z rules e f g h =
+    record {
+      answer = rw (← f, g) (sym (ap book_answer e));
+      area = λ book k. let same : rules ≡ book = give_same (sym e ∙ k) in rw same at h;
+    }
+
 count_byte : (a : List ℕ) → byte_at a node_count_at ≡ (state_of a).nodes.count
 unfolding state_of
 count_byte a = refl
@@ -222,201 +335,44 @@ kept_book : (a : List ℕ) (rules : Logic.Book) → Keeps (state_of a).nodes.kep
 unfolding state_of
 kept_book a rules h = h
 
-module _ (usual first marks : ℕ) (s : List ℕ) where
-  -- the next line, judged
-  abbrev judged_at : ReadSoFar → Answer ReadSoFar
-  judged_at x = judge_line marks (first + length x.rules) x.rules (line_at usual s x.place)
+pub lines_refused : (marks : ℕ) (s : List ℕ) (at lines : ℕ) (l a z : List ℕ) (t : Turn) (why : Refusal) → marks ≤ 16 → length s ≤ 4096
+    → Coming marks s at lines l a → at < length s → Turns t s at lines a z → t ≡ T.Refused why → Answers (Book.Refused why) marks s z
+lines_refused marks s at lines l a z t why le few h lt turns e = finish (turns.from marks h.rules le lt h.held)
+  where
+    finish : Turned t (judge_line marks h.rules (line_at usual_bound s at)) marks lines z → Answers (Book.Refused why) marks s z
+    finish (turned_down w f g) =
+        let same : w ≡ why = cc in
+        answers_refused marks s z why
+        (read_whole marks s few ∙ sym h.same ∙ lines_on marks s h.rules at lt ∙ then_stays (lines_from marks s) (f ∙ ap (λ (x : Refusal). refuse x) same))
+    finish (gone_on rules q f g held) = let x : ◌≡◌ {A = ℕ} 0 1 = cc in absurd (omega arith)
 
-  lines_fall : Falls (λ (here : ReadSoFar). length s - here.place) (λ here. refuse (Grammar (first + length here.rules))) (lines_step usual first marks s) (λ here r. Unit {0})
-  unfolding lines_step
-  lines_fall =
-      record {
-        at_stop = λ x. tt;
-        kept = λ x f h. tt;
-        same = λ x f g h agree. step x f g agree (leb (length s) x.place) refl;
-      }
-    where
-      more : (x : ReadSoFar) (f g : ReadSoFar → Answer Logic.Book)
-          → ((y : ReadSoFar) → length s - y.place < length s - x.place → f y ≡ g y) → x.place < length s
-          → (o : Answer ReadSoFar) → judged_at x ≡ o → (o then f) ≡ (o then g)
-      more x f g agree lt (refuse w) e = then_refused w f g
-      more x f g agree lt (give pr) e =
-          let (ahead, inside) = judge_place usual marks (first + length x.rules) x.rules (line_at usual s x.place) s x.place pr refl e in
-          then_given pr f g (agree pr (omega arith))
+pub lines_read : (marks : ℕ) (s : List ℕ) (at lines m n : ℕ) (l a : List ℕ) → 512 ≤ length l → length s ≤ 4096 → Coming marks s at lines l a
+    → length s ≤ at → m ≡ lines → n ≡ byte_at (set a line_count_at (m % 256)) node_count_at
+    → Answers (Book.Read lines n) marks s (set a line_count_at (m % 256))
+lines_read marks s at lines m n l a room few h le told e =
+    let small : m % 256 ≡ lines = omega (arith, told, h.held.count_lines, h.held.lined, h.held.few) in
+    let counted : byte_at (set a line_count_at (m % 256)) node_count_at ≡ length (nodes h.rules) =
+    get_or-set_other a line_count_at node_count_at (m % 256) 0 (λ x. omega arith) ∙ count_byte a ∙ h.held.counted in
+    answers_read marks s (set a line_count_at (m % 256)) h.rules (read_whole marks s few ∙ sym h.same ∙ lines_over marks s h.rules at le)
+    h.held.count_lines (e ∙ counted)
+    (holds_whole (set a line_count_at (m % 256)) h.rules h.held.few (omega (arith, h.held.lined, h.held.few))
+    (rw (take-set-le node_count_at a line_count_at (m % 256) (omega arith)) (kept_book a h.rules h.held.book)) counted
+    (get_or-set_same a line_count_at (m % 256) 0 (omega (arith, h.long)) ∙ small ∙ sym h.held.count_lines))
 
-      step : (x : ReadSoFar) (f g : ReadSoFar → Answer Logic.Book)
-          → ((y : ReadSoFar) → length s - y.place < length s - x.place → f y ≡ g y)
-          → (t : Bool) → leb (length s) x.place ≡ t
-          → pick (leb (length s) x.place) (λ _. give x.rules) (λ _. judged_at x then f)
-          ≡ pick (leb (length s) x.place) (λ _. give x.rules) (λ _. judged_at x then g)
-      step x f g agree true e = rw e
-      step x f g agree false e = rw e (more x f g agree (leb-false (length s) x.place e) (judged_at x) refl)
-
-  lines_eq : (here : ReadSoFar) → lines_from usual first marks s here ≡ lines_step usual first marks s here (lines_from usual first marks s)
-  unfolding lines_from
-  lines_eq here =
-      run_eq (λ (h : ReadSoFar). length s - h.place) (λ h. refuse (Grammar (first + length h.rules))) (lines_step usual first marks s) (λ h r. Unit {0}) lines_fall here
-
-  lines_over : (rules : Logic.Book) (at : ℕ) → length s ≤ at → lines_from usual first marks s (record { rules = rules; place = at }) ≡ give rules
-  unfolding lines_step
-  lines_over rules at le = lines_eq (record { rules = rules; place = at }) ∙ rw (le-leb (length s) at le)
-
-  lines_on : (rules : Logic.Book) (at lines : ℕ) → length rules ≡ lines → at < length s → lines_from usual first marks s (record { rules = rules; place = at })
-      ≡ (judge_line marks (first + lines) rules (line_at usual s at) then lines_from usual first marks s)
-  unfolding lines_step
-  lines_on rules at lines e lt = lines_eq (record { rules = rules; place = at }) ∙ rw (lt-leb (length s) at lt, e)
-
-  pub coming_start : (place : ℕ) (a : List ℕ) → HeldSoFar usual marks [] 0 a → Coming usual first marks s place place 0 a a
-  unfolding lines_from read_lines
-  coming_start place a h = record { long = refl; rules = []; held = h; same = refl }
-
-  pub coming_on : (place at lines next : ℕ) (l a z : List ℕ) (t : Turn) → marks ≤ 16 → Coming usual first marks s place at lines l a → at < length s
-      → Turns t s at first lines a z → t ≡ T.Next next → length z ≡ length a → Coming usual first marks s place next (lines + 1) l z
-  coming_on place at lines next l a z t le h lt turns e len = finish (turns.from usual marks h.rules le lt h.held)
-    where
-      finish : Turned t (judge_line marks (first + lines) h.rules (line_at usual s at)) usual marks lines z → Coming usual first marks s place next (lines + 1) l z
-      finish (turned_down why f g) = let x : ◌≡◌ {A = ℕ} 0 1 = cc in absurd (omega arith)
-      finish (gone_on rules q f g held) =
-          let same : q ≡ next = cc in
-          record {
-            long = len ∙ h.long;
-            rules = rules;
-            held = held;
-            same = ap (λ (m : ℕ). lines_from usual first marks s (record { rules = rules; place = m })) (sym same)
-                ∙ sym (lines_on h.rules at lines h.held.count_lines lt ∙ then_on (lines_from usual first marks s) f) ∙ h.same;
-          }
-
-  pub coming_less : (place at lines next : ℕ) (l a z : List ℕ) (t : Turn) → marks ≤ 16 → Coming usual first marks s place at lines l a → at < length s
-      → Turns t s at first lines a z → t ≡ T.Next next → length s - next < length s - at
-  coming_less place at lines next l a z t le h lt turns e = finish (turns.from usual marks h.rules le lt h.held)
-    where
-      finish : Turned t (judge_line marks (first + lines) h.rules (line_at usual s at)) usual marks lines z → length s - next < length s - at
-      finish (turned_down why f g) = let x : ◌≡◌ {A = ℕ} 0 1 = cc in absurd (omega arith)
-      finish (gone_on rules q f g held) =
-          let same : q ≡ next = cc in
-          let (ahead, inside) = judge_place usual marks (first + lines) h.rules (line_at usual s at) s at (record { rules = rules; place = q }) refl f in
-          omega arith
-
-  rules_refused : (place : ℕ) (z : List ℕ) (why : Refusal) → read_lines usual first marks s place ≡ refuse why → RulesRead (Book.Refused why) usual first marks s place z
-  unfolding book_answer
-  rules_refused place z why e = record { answer = sym (ap (book_answer first) e); area = λ book f. gives_not_refuses f e }
-
-  rules_given : (place : ℕ) (z : List ℕ) (rules : Logic.Book) {lines n : ℕ} → read_lines usual first marks s place ≡ give rules → length rules ≡ lines
-      → n ≡ length (nodes rules) → HoldsBook z rules → RulesRead (Book.Read (first + lines) n) usual first marks s place z
-  unfolding book_answer
-  rules_given place z rules e f g h =
-      record {
-        answer = rw (← f, g) (sym (ap (book_answer first) e));
-        area = λ book k. let same : rules ≡ book = give_same (sym e ∙ k) in rw same at h;
-      }
-
-  pub lines_refused : (place at lines : ℕ) (l a z : List ℕ) (t : Turn) (why : Refusal) → marks ≤ 16 → Coming usual first marks s place at lines l a → at < length s
-      → Turns t s at first lines a z → t ≡ T.Refused why → RulesRead (Book.Refused why) usual first marks s place z
-  lines_refused place at lines l a z t why le h lt turns e = finish (turns.from usual marks h.rules le lt h.held)
-    where
-      finish : Turned t (judge_line marks (first + lines) h.rules (line_at usual s at)) usual marks lines z → RulesRead (Book.Refused why) usual first marks s place z
-      finish (turned_down w f g) =
-          let same : w ≡ why = cc in
-          rules_refused place z why
-          (sym h.same ∙ lines_on h.rules at lines h.held.count_lines lt
-          ∙ then_stays (lines_from usual first marks s) (f ∙ ap (λ (x : Refusal). refuse x) same))
-      finish (gone_on rules q f g held) = let x : ◌≡◌ {A = ℕ} 0 1 = cc in absurd (omega arith)
-
-  pub lines_read : (place at lines m n : ℕ) (l a : List ℕ) → 512 ≤ length l → Coming usual first marks s place at lines l a
-      → length s ≤ at → m ≡ lines → n ≡ byte_at (set a line_count_at (m % 256)) node_count_at
-      → RulesRead (Book.Read (first + lines) n) usual first marks s place (set a line_count_at (m % 256))
-  lines_read place at lines m n l a room h le told e =
-      let small : m % 256 ≡ lines = omega (arith, told, h.held.count_lines, h.held.lined, h.held.few) in
-      let counted : byte_at (set a line_count_at (m % 256)) node_count_at ≡ length (nodes h.rules) =
-      get_or-set_other a line_count_at node_count_at (m % 256) 0 (λ x. omega arith) ∙ count_byte a ∙ h.held.counted in
-      rules_given place (set a line_count_at (m % 256)) h.rules (sym h.same ∙ lines_over h.rules at le) h.held.count_lines (e ∙ counted)
-      (holds_whole (set a line_count_at (m % 256)) h.rules h.held.few (omega (arith, h.held.lined, h.held.few))
-      (rw (take-set-le node_count_at a line_count_at (m % 256) (omega arith)) (kept_book a h.rules h.held.book)) counted
-      (get_or-set_same a line_count_at (m % 256) 0 (omega (arith, h.long)) ∙ small ∙ sym h.held.count_lines))
-
-  pub lines_few : (place at lines : ℕ) (l a : List ℕ) → Coming usual first marks s place at lines l a → lines ≤ 60
-  lines_few place at lines l a h = omega (arith, h.held.count_lines, h.held.lined, h.held.few)
-
--- ---- a whole book
-
-answers_refused : (marks : ℕ) (s z : List ℕ) (why : Refusal) → read_book marks s ≡ refuse why → Answers (Book.Refused why) marks s z
-unfolding book_answer
-answers_refused marks s z why e = record { answer = sym (ap (book_answer (first_rule s)) e); area = λ book f. gives_not_refuses f e }
+pub lines_few : (marks : ℕ) (s : List ℕ) (at lines : ℕ) (l a : List ℕ) → Coming marks s at lines l a → lines ≤ 60
+lines_few marks s at lines l a h = omega (arith, h.held.count_lines, h.held.lined, h.held.few)
 
 pub book_long : (marks : ℕ) (s z : List ℕ) → 4096 < length s → Answers (Book.Refused (Limit 0)) marks s z
 unfolding read_book ◌if◌else◌ most_bytes
 book_long marks s z lt = answers_refused marks s z (Limit 0) (rw (lt-ltb 4096 (length s) lt))
 
--- what follows the beginning of a text
-headed_refused : (o : Answer Reading.Heading) (h : Headed) (why : Refusal) → h ≡ headed o → h ≡ H.Refused why → o ≡ refuse why
-unfolding headed
-headed_refused (refuse w) h why e f = let same : w ≡ why = cc in ap (λ (x : Refusal). refuse x) same
-headed_refused (give g) h why e f = let x : ◌≡◌ {A = ℕ} 0 1 = cc in absurd (omega arith)
-
-headed_read : (o : Answer Reading.Heading) (h : Headed) (u p : ℕ) → h ≡ headed o → h ≡ H.Read u p → o ≡ give (record { usual = u; place = p })
-unfolding headed
-headed_read (refuse w) h u p e f = let x : ◌≡◌ {A = ℕ} 0 1 = cc in absurd (omega arith)
-headed_read (give g) h u p e f = let a : g.usual ≡ u = cc in let b : g.place ≡ p = cc in rw (← a, ← b)
-
-pub book_headed_not : (marks : ℕ) (s z : List ℕ) (h : Headed) (why : Refusal) → length s ≤ 4096 → h ≡ headed (Reading.heading s) → h ≡ H.Refused why
-    → Answers (Book.Refused why) marks s z
-unfolding read_book ◌if◌else◌ ◌then◌ most_bytes
-book_headed_not marks s z h why le e f = answers_refused marks s z why (rw (le-ltb 4096 (length s) le, headed_refused (Reading.heading s) h why e f))
-
-read_on : (marks : ℕ) (s : List ℕ) (u p : ℕ) → length s ≤ 4096 → Reading.heading s ≡ give (record { usual = u; place = p })
-    → read_book marks s ≡ read_lines u (first_rule s) marks s p
-unfolding read_book ◌if◌else◌ ◌then◌ most_bytes
-read_on marks s u p le e = rw (le-ltb 4096 (length s) le, e)
-
-read_one : {h k : Reading.Heading} → give h ≡ give k → (h.usual ≡ k.usual) × (h.place ≡ k.place)
-read_one e = let same = give_same e in (ap (λ (x : Reading.Heading). x.usual) same, ap (λ (x : Reading.Heading). x.place) same)
-
-pub book_headed : (marks : ℕ) (s y z : List ℕ) (h : Headed) (u p n : ℕ) (r : BookAnswer) → length s ≤ 4096 → h ≡ headed (Reading.heading s) → h ≡ H.Read u p
-    → n ≡ first_rule s → HeldSoFar u marks [] 0 y → RulesRead r (usual_in y) n marks s p z → Answers r marks s z
-book_headed marks s y z h u p n r le e f g held rules =
-    let same : read_book marks s ≡ read_lines (usual_in y) n marks s p =
-    read_on marks s u p le (headed_read (Reading.heading s) h u p e f) ∙ rw (held.known_usual, g) in
-    record { answer = rules.answer ∙ rw (g) (ap (book_answer (first_rule s)) (sym (rw g at same))); area = λ book k. rules.area book (sym same ∙ k) }
-
--- a heading that is read: its number fits a byte, and the rules begin inside the text
-record Begins (s : List ℕ) (u p : ℕ) : Type 0 where
-  low : u ≤ 254
-  inside : p ≤ length s
-
-begins_at : (s : List ℕ) (u p : ℕ) (o : Answer Reading.Heading) → HeadingWays s o → o ≡ give (record { usual = u; place = p }) → Begins s u p
-unfolding usual_bound most_ticks
-begins_at s u p _ (way_plain has) e =
-    let (a, b) = read_one e in record { low = omega (arith, a); inside = omega (arith, b) }
-begins_at s u p _ (way_none has none) e = gives_not_refuses refl (sym e)
-begins_at s u p _ (way_over n first over) e = gives_not_refuses refl (sym e)
-begins_at s u p _ (way_ticks n place line spells le passage) e =
-    let (a, b) = read_one e in record { low = omega (arith, a); inside = omega (arith, b, passage_inside passage (ticks_some spells)) }
-
-pub headed_usual : (s : List ℕ) (h : Headed) (u p : ℕ) → h ≡ headed (Reading.heading s) → h ≡ H.Read u p → u ≤ 254
-headed_usual s h u p e f = (begins_at s u p (Reading.heading s) (heading_ways s) (headed_read (Reading.heading s) h u p e f)).low
-
-pub headed_inside : (s : List ℕ) (h : Headed) (u p : ℕ) → h ≡ headed (Reading.heading s) → h ≡ H.Read u p → p ≤ length s
-headed_inside s h u p e f = (begins_at s u p (Reading.heading s) (heading_ways s) (headed_read (Reading.heading s) h u p e f)).inside
-
-pub first_low : (s : List ℕ) (n : ℕ) → n ≡ first_rule s → n ≤ 1
-unfolding first_rule
-first_low s n e = go (Reading.has_ticks s) e
-  where
-    go : (t : Bool) → n ≡ pick t (λ _. 1) (λ _. 0) → n ≤ 1
-    go true e = omega (arith, e)
-    go false e = omega (arith, e)
-
--- the area holds the number that it was given
-pub held_known : (u marks : ℕ) (a : List ℕ) → HeldSoFar u marks [] 0 a → HeldSoFar (usual_in a) marks [] 0 a
-held_known u marks a h = rw (← h.known_usual) at h
-
 -- ---- the entry
 
-pub under_over : (marks : ℕ) (s : List ℕ) → 16 < marks → Book.Refused Range ≡ book_answer (first_rule s) (book_under marks s)
+pub under_over : (marks : ℕ) (s : List ℕ) → 16 < marks → Book.Refused Range ≡ book_answer (book_under marks s)
 unfolding book_answer book_under ◌if◌else◌ most_marks
 under_over marks s lt = rw (lt-ltb 16 marks lt)
 
-pub under_book : (marks : ℕ) (s z : List ℕ) (r : BookAnswer) → marks ≤ 16 → Answers r marks s z → r ≡ book_answer (first_rule s) (book_under marks s)
+pub under_book : (marks : ℕ) (s z : List ℕ) (r : BookAnswer) → marks ≤ 16 → Answers r marks s z → r ≡ book_answer (book_under marks s)
 unfolding book_under ◌if◌else◌ most_marks
 under_book marks s z r le h = h.answer ∙ rw (le-ltb 16 marks le)
 
@@ -429,7 +385,7 @@ outcome_short marks s a lt =
       areas = rw (lt-leb 512 (length a) lt);
     }
 
-pub outcome_whole : (marks : ℕ) (s a y z : List ℕ) (r : BookAnswer) → 512 ≤ length a → r ≡ book_answer (first_rule s) (book_under marks s)
+pub outcome_whole : (marks : ℕ) (s a y z : List ℕ) (r : BookAnswer) → 512 ≤ length a → r ≡ book_answer (book_under marks s)
     → length y ≡ length a → z ≡ replicate (length y) 0 → Outcome r marks s a z
 unfolding read_outcome long_enough book_areas cleared
 outcome_whole marks s a y z r le e len f =
@@ -480,20 +436,19 @@ started_bytes a m u j long =
       byte_set a node_count_at j 0 (omega arith),
     )
 
-pub started : (a : List ℕ) (marks u : ℕ) → 512 ≤ length a → marks ≤ 16 → u ≤ 254
-    → HeldSoFar u marks [] 0 (set (set (set (set a node_count_at 0) fault_at 255) marks_at (marks % 256)) usual_at (u % 256))
+pub started : (a : List ℕ) (marks u : ℕ) → 512 ≤ length a → marks ≤ 16 → u ≡ usual_bound
+    → HeldSoFar marks [] 0 (set (set (set (set a node_count_at 0) fault_at 255) marks_at (marks % 256)) usual_at u)
 unfolding state_of nodes joined
-started a marks u long le low =
+started a marks u long le e =
     let small : marks % 256 ≡ marks = omega arith in
-    let fits : u % 256 ≡ u = omega arith in
     record {
       count_lines = refl;
       few = omega arith;
       lined = omega arith;
-      counted = started_bytes a (marks % 256) (u % 256) node_count_at long;
-      faultless = started_bytes a (marks % 256) (u % 256) fault_at long;
-      known_marks = started_bytes a (marks % 256) (u % 256) marks_at long ∙ small;
-      known_usual = started_bytes a (marks % 256) (u % 256) usual_at long ∙ fits;
+      counted = started_bytes a (marks % 256) u node_count_at long;
+      faultless = started_bytes a (marks % 256) u fault_at long;
+      known_marks = started_bytes a (marks % 256) u marks_at long ∙ small;
+      known_usual = started_bytes a (marks % 256) u usual_at long ∙ e;
       book = keeps_none _;
     }
 

@@ -3,6 +3,7 @@ use Rattle.std.specs.Prelude.{ℕ, ◌+◌, ◌-◌, ◌*◌, ◌≤◌, ◌<◌
 use Rattle.std.proofs.lemmas.List.Edits.{sets}
 use Rattle.base.specs.Choice.{pick}
 use Rattle.base.specs.Recursion.{run}
+use Rattle.base.specs.Lists.{begins}
 use Rattle.base.specs.Answers.{book_said, Answer, refuse, give}
 use Rattle.base.specs.declared.Refusal.{Refusal}
 use Rattle.base.specs.declared.Refusal.TheVariants.{Grammar, Number, Mark, Limit, Timed}
@@ -12,13 +13,19 @@ use Rattle.reading.specs.Tokens.{skip}
 use Rattle.reading.specs.Grammar.{formula_at}
 use Rattle.reading.specs.BookArea.{HoldsBook, form_code, node_size, lines_at, line_size, nodes_bytes, lines_bytes}
 use Rattle.reading.specs.BookReading as Reading
-use Rattle.reading.specs.BookReading.{first_rule, ReadSoFar, judge_line, line_at, lines_step, read_lines, read_book}
+use Rattle.reading.specs.BookReading.{usual_bound, ReadSoFar, judge_line, line_at, lines_step, read_lines, read_book}
 use Rattle.outcome.specs.ReadBook.{book_answer, read_outcome}
 use Rattle.book_nodes.specs.State.{State, state_of, usual_in, absorb, last_node}
 use Rattle.book_reader.specs.declared.Line.{Line}
 use Rattle.book_reader.specs.declared.Line.TheVariants as L
 use Rattle.book_reader.specs.declared.Turn.{Turn}
 use Rattle.book_reader.specs.declared.Turn.TheVariants as T
+
+-- A word as far as it was compared.
+pub record ComparingWord (s : List ℕ) (at : ℕ) (word : List ℕ) (i p : ℕ) : Type 0 where
+  pub few : i ≤ length word
+  pub here : p ≡ at + i
+  pub same : begins word (drop at s) ≡ begins (drop i word) (drop p s)
 
 -- The answer of reading a line that should be x: nothing is said of the area where it is not of the grammar.
 pub data LineRead (r : Line) (x : Reading.Line) (a z : List ℕ) : Type 0 where
@@ -64,47 +71,42 @@ pub record Keeps (kept : List ℕ) (rules : Book) : Type 0 where
   pub line_part : take (line_size * length rules) (drop lines_at kept) ≡ lines_bytes 0 0 rules
 
 -- The area holds these rules, of which there are so many, and nothing is at fault.
-pub record HeldSoFar (usual marks : ℕ) (rules : Book) (lines : ℕ) (a : List ℕ) : Type 0 where
+pub record HeldSoFar (marks : ℕ) (rules : Book) (lines : ℕ) (a : List ℕ) : Type 0 where
   pub count_lines : length rules ≡ lines
   pub few : length (nodes rules) ≤ 60
   pub lined : length rules ≤ length (nodes rules)
   pub counted : (state_of a).nodes.count ≡ length (nodes rules)
   pub faultless : (state_of a).fault ≡ 255
   pub known_marks : (state_of a).marks ≡ marks
-  pub known_usual : usual_in a ≡ usual
+  pub known_usual : usual_in a ≡ usual_bound
   pub book : Keeps (state_of a).nodes.kept rules
 
 -- How reading the next line ends: with a refusal, or with the rules held and the position of the next.
-pub data Turned (r : Turn) (x : Answer ReadSoFar) (usual marks lines : ℕ) (z : List ℕ) : Type 0 where
-  turned_down : (why : Refusal) → x ≡ refuse why → r ≡ T.Refused why → Turned r x usual marks lines z
-  gone_on : (rules : Book) (q : ℕ) → x ≡ give (record { rules = rules; place = q }) → r ≡ T.Next q → HeldSoFar usual marks rules (lines + 1) z
-      → Turned r x usual marks lines z
+pub data Turned (r : Turn) (x : Answer ReadSoFar) (marks lines : ℕ) (z : List ℕ) : Type 0 where
+  turned_down : (why : Refusal) → x ≡ refuse why → r ≡ T.Refused why → Turned r x marks lines z
+  gone_on : (rules : Book) (q : ℕ) → x ≡ give (record { rules = rules; place = q }) → r ≡ T.Next q → HeldSoFar marks rules (lines + 1) z
+      → Turned r x marks lines z
 
 -- What reading one line answers and leaves, whatever rules are held.
-pub record Turns (r : Turn) (s : List ℕ) (at first lines : ℕ) (a z : List ℕ) : Type 0 where
-  pub from : (usual marks : ℕ) (rules : Book) → marks ≤ 16 → at < length s → HeldSoFar usual marks rules lines a
-      → Turned r (judge_line marks (first + lines) rules (line_at usual s at)) usual marks lines z
+pub record Turns (r : Turn) (s : List ℕ) (at lines : ℕ) (a z : List ℕ) : Type 0 where
+  pub from : (marks : ℕ) (rules : Book) → marks ≤ 16 → at < length s → HeldSoFar marks rules lines a
+      → Turned r (judge_line marks rules (line_at usual_bound s at)) marks lines z
 
 -- the lines from here on
-unfoldable pub lines_from : ℕ → ℕ → ℕ → List ℕ → ReadSoFar → Answer Book
-lines_from usual first marks s here =
-    run (λ (here : ReadSoFar). length s - here.place) (λ here. refuse (Grammar (first + length here.rules))) (lines_step usual first marks s) here
+unfoldable pub lines_from : ℕ → List ℕ → ReadSoFar → Answer Book
+lines_from marks s here =
+    run (λ (here : ReadSoFar). length s - here.place) (λ here. refuse (Grammar (length here.rules))) (lines_step usual_bound marks s) here
 
 -- How far the reading has come between two lines.
-pub record Coming (usual first marks : ℕ) (s : List ℕ) (place at lines : ℕ) (begun a : List ℕ) : Type 0 where
+pub record Coming (marks : ℕ) (s : List ℕ) (at lines : ℕ) (begun a : List ℕ) : Type 0 where
   pub long : length a ≡ length begun
   pub rules : Book
-  pub held : HeldSoFar usual marks rules lines a
-  pub same : lines_from usual first marks s (record { rules = rules; place = at }) ≡ read_lines usual first marks s place
-
--- What reading the rules answers, and that the area holds those that were read.
-pub record RulesRead (r : BookAnswer) (usual first marks : ℕ) (s : List ℕ) (place : ℕ) (z : List ℕ) : Type 0 where
-  pub answer : r ≡ book_answer first (read_lines usual first marks s place)
-  pub area : (book : Book) → read_lines usual first marks s place ≡ give book → HoldsBook z book
+  pub held : HeldSoFar marks rules lines a
+  pub same : lines_from marks s (record { rules = rules; place = at }) ≡ read_lines usual_bound marks s
 
 -- What reading a whole book answers, and that the area holds a book that was read.
 pub record Answers (r : BookAnswer) (marks : ℕ) (s : List ℕ) (z : List ℕ) : Type 0 where
-  pub answer : r ≡ book_answer (first_rule s) (read_book marks s)
+  pub answer : r ≡ book_answer (read_book marks s)
   pub area : (book : Book) → read_book marks s ≡ give book → HoldsBook z book
 
 -- The whole outcome of the book reader.

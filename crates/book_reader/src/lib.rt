@@ -7,7 +7,6 @@ ghost use Rattle.book_nodes.specs.State as State;
 ghost use Rattle.book_reader.specs.Lines as Lines;
 
 use base::{BookAnswer, Refusal};
-use book_heading::Headed;
 
 // 01, 'Why a call is turned down': the most marks, bytes and nodes.
 const MOST_MARKS: usize = 16;
@@ -21,6 +20,9 @@ const BOOK_AREA: usize = 512;
 
 // Nothing is at fault.
 const NO_FAULT: u8 = 255;
+
+// A number left out after A, E or U.
+const USUAL_BOUND: u8 = 20;
 
 // A line that was read: 1 for `always` and 0 for `start`, and the position after its byte 10.
 #[derive(Drop)]
@@ -36,15 +38,34 @@ pub enum Turn {
     Refused(Refusal),
 }
 
+// The text goes on with this word.
+fn begins_with(s: &[u8], at: usize, word: &[u8]) -> bool
+    ensures { result ≡ begins word.now (drop at s.now) }
+{
+    let mut i = 0;
+    let mut p = at;
+    while i < word.len() {
+        if s.len() <= p {
+            return false;
+        }
+        if s[p] != word[i] {
+            return false;
+        }
+        i += 1;
+        p += 1;
+    }
+    true
+}
+
 // The line at a position, of one of the forms that a book may have.
 fn read_line(s: &[u8], at: usize, area: &mut [u8]) -> Line
     requires { (512 ≤ length area.old) × ((length s.now ≤ 4096) × (at ≤ length s.now)) }
     ensures { Lines.LineRead result (Reading.line_at (State.usual_in area.old) s.now at) area.old area.new }
 {
-    if book_tokens::begins_with(s, at, b"always ") {
+    if begins_with(s, at, b"always ") {
         return line_rest(s, at + 6, 1, area);
     }
-    if book_tokens::begins_with(s, at, b"start ") {
+    if begins_with(s, at, b"start ") {
         return line_rest(s, at + 5, 0, area);
     }
     Line::Bad
@@ -108,16 +129,15 @@ fn put_line(area: &mut [u8], line: usize, form: u8)
     area[at + 3] = timed;
 }
 
-// The next line, of rule `line` where the first rule stands in line `first`: read and judged, and put
-// down where nothing is at fault.
-fn one_line(s: &[u8], at: usize, first: usize, line: usize, area: &mut [u8]) -> Turn
-    requires { (512 ≤ length area.old) × ((length s.now ≤ 4096) × ((at ≤ length s.now) × ((first ≤ 1) × (line ≤ 60)))) }
-    ensures { Lines.Turns result s.now at first line area.old area.new }
+// The next line, read and judged, and put down where nothing is at fault.
+fn one_line(s: &[u8], at: usize, line: usize, area: &mut [u8]) -> Turn
+    requires { (512 ≤ length area.old) × ((length s.now ≤ 4096) × ((at ≤ length s.now) × (line ≤ 60))) }
+    ensures { Lines.Turns result s.now at line area.old area.new }
 {
     let Line::Read { form, next } = read_line(s, at, area) else {
-        return Turn::Refused(Refusal::Grammar(first + line));
+        return Turn::Refused(Refusal::Grammar(line));
     };
-    let judged = judge(first + line, next, area);
+    let judged = judge(line, next, area);
     let Turn::Next(after) = judged else {
         return judged;
     };
@@ -126,14 +146,14 @@ fn one_line(s: &[u8], at: usize, first: usize, line: usize, area: &mut [u8]) -> 
 }
 
 // The reader's own bytes before the first line.
-fn start(marks: usize, usual: usize, area: &mut [u8])
-    requires { (512 ≤ length area.old) × ((marks ≤ 16) × (usual ≤ 254)) }
-    ensures { Lines.HeldSoFar usual marks [] 0 area.new }
+fn start(marks: usize, area: &mut [u8])
+    requires { (512 ≤ length area.old) × (marks ≤ 16) }
+    ensures { Lines.HeldSoFar marks [] 0 area.new }
 {
     area[book_nodes::NODE_COUNT] = 0;
     area[book_nodes::FAULT] = NO_FAULT;
     area[book_nodes::MARKS] = (marks % 256) as u8;
-    area[book_nodes::USUAL] = (usual % 256) as u8;
+    area[book_nodes::USUAL] = USUAL_BOUND;
 }
 
 // Reads a book under P marks into a lent area: nodes, lines and the numbers of both (reading/specs/BookArea).
@@ -144,26 +164,19 @@ pub fn read_lines(marks: usize, text: &[u8], area: &mut [u8]) -> BookAnswer
     if MOST_BYTES < text.len() {
         return BookAnswer::Refused(Refusal::Limit(0));
     }
-    match book_heading::heading(text) {
-        Headed::Refused(why) => BookAnswer::Refused(why),
-        Headed::Read { usual, place } => {
-            start(marks, usual, area);
-            all_lines(marks, text, book_heading::first_rule(text), place, area)
-        }
-    }
+    start(marks, area);
+    all_lines(marks, text, area)
 }
 
-// The rules one after the other, from a position to the end of the text; the first stands in line `first`.
-fn all_lines(marks: usize, text: &[u8], first: usize, place: usize, area: &mut [u8]) -> BookAnswer
-    requires in_bounds { (512 ≤ length area.old) × ((marks ≤ 16) × (length text.now ≤ 4096)) }
-    requires first_bound { (first ≤ 1) × (place ≤ length text.now) }
-    requires held_so_far { Lines.HeldSoFar (State.usual_in area.old) marks [] 0 area.old }
-    ensures { Lines.RulesRead result (State.usual_in area.old) first marks text.now place area.new }
+// The lines one after the other, to the end of the text.
+fn all_lines(marks: usize, text: &[u8], area: &mut [u8]) -> BookAnswer
+    requires { (512 ≤ length area.old) × ((marks ≤ 16) × ((length text.now ≤ 4096) × Lines.HeldSoFar marks [] 0 area.old)) }
+    ensures { Lines.Answers result marks text.now area.new }
 {
     let mut lines = 0;
-    let mut at = place;
+    let mut at = 0;
     while at < text.len() {
-        let turned = one_line(text, at, first, lines, area);
+        let turned = one_line(text, at, lines, area);
         match turned {
             Turn::Next(next) => {
                 at = next;
@@ -176,7 +189,7 @@ fn all_lines(marks: usize, text: &[u8], first: usize, place: usize, area: &mut [
     }
     area[book_nodes::LINE_COUNT] = (lines % 256) as u8;
     BookAnswer::Read {
-        lines: first + lines,
+        lines,
         nodes: wide(area[book_nodes::NODE_COUNT]),
     }
 }
@@ -203,7 +216,7 @@ pub fn read_book(marks: usize, text: &[u8], area: &mut [u8]) -> BookAnswer
 // The book under P marks; P above 16 is 2, before the book.
 fn read_under(marks: usize, text: &[u8], area: &mut [u8]) -> BookAnswer
     requires { 512 ≤ length area.old }
-    ensures { result ≡ book_answer (Reading.first_rule text.now) (book_under marks text.now) }
+    ensures { result ≡ book_answer (book_under marks text.now) }
 {
     if MOST_MARKS < marks {
         return BookAnswer::Refused(Refusal::Range);

@@ -1,6 +1,5 @@
 // The tokens of a rule book (01, 'Rule book'), each read at a position of the text.
-ghost use Rattle.std.specs.Prelude.{◌≡◌, ◌+◌, ◌≤◌, ◌<◌, length, drop};
-ghost use Rattle.base.specs.Lists.{begins};
+ghost use Rattle.std.specs.Prelude.{◌≡◌, ◌+◌, ◌≤◌, ◌<◌, length};
 ghost use Rattle.reading.specs.Tokens as Tokens;
 ghost use Rattle.reading.specs.Grammar as Grammar;
 ghost use Rattle.book_tokens.specs.Told as Told;
@@ -127,25 +126,6 @@ pub fn skip(s: &[u8], at: usize) -> usize
         next += 1;
     }
     next
-}
-
-// The text goes on with this word.
-pub fn begins_with(s: &[u8], at: usize, word: &[u8]) -> bool
-    ensures { result ≡ begins word.now (drop at s.now) }
-{
-    let mut i = 0;
-    let mut p = at;
-    while i < word.len() {
-        if s.len() <= p {
-            return false;
-        }
-        if s[p] != word[i] {
-            return false;
-        }
-        i += 1;
-        p += 1;
-    }
-    true
 }
 
 // The position behind this byte, spaces before it passed over, if it stands there.

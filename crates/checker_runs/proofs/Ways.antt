@@ -24,7 +24,7 @@ use Rattle.logic.specs.Book.{Book}
 use Rattle.logic.specs.Tables.{Table, rows_tower}
 use Rattle.first_runs.specs.Numbered.{NoLater}
 use Rattle.reading.specs.TowerReading.{read_tower}
-use Rattle.reading.specs.BookReading.{first_rule, read_book}
+use Rattle.reading.specs.BookReading.{read_book}
 use Rattle.reading.specs.TableReading.{read_table, table_of}
 use Rattle.reading.proofs.FitInput.{laid_out_read}
 use Rattle.outcome.specs.ReadBook.{book_answer}
@@ -311,12 +311,12 @@ module _ (tower text table nodes graph : List ℕ) (marks : ℕ) (fit : FitTower
   book_refused a why answers e =
       refused_so tower text table nodes graph why (book_next tower text table fit ∙ go (read_book (tower_of tower).marks text) refl)
     where
-      told : Reads.Refused why ≡ book_answer (first_rule text) (read_book (tower_of tower).marks text)
-      told = sym e ∙ answers.answer ∙ ap (λ z. book_answer (first_rule text) (read_book z text)) at-marks
+      told : Reads.Refused why ≡ book_answer (read_book (tower_of tower).marks text)
+      told = sym e ∙ answers.answer ∙ ap (λ z. book_answer (read_book z text)) at-marks
 
       go : (o : Answer Book) → read_book (tower_of tower).marks text ≡ o → (o then λ book. checked_table (tower_of tower) book table) ≡ refuse why
-      go (refuse q) p = let same : q ≡ why = cc (told, ap (book_answer (first_rule text)) p) in ap refuse same
-      go (give book) p = cc (told, ap (book_answer (first_rule text)) p)
+      go (refuse q) p = let same : q ≡ why = cc (told, ap book_answer p) in ap refuse same
+      go (give book) p = cc (told, ap book_answer p)
 
   -- The book is read into the area: the table decides.
   pub book_good : (r : Examined) → TableExamined r tower table nodes graph → BookHeld marks text nodes → Examines r tower text table nodes graph

@@ -16,7 +16,7 @@ use Rattle.base.specs.declared.MakeAnswer.TheVariants as Make
 use Rattle.logic.specs.Tower.{FitTower, tower_of}
 use Rattle.logic.specs.Book.{Book}
 use Rattle.reading.specs.TowerReading.{read_tower}
-use Rattle.reading.specs.BookReading.{first_rule, read_book}
+use Rattle.reading.specs.BookReading.{read_book}
 use Rattle.alternatives.specs.Pairs.{over_pairs, over_alternatives}
 use Rattle.outcome.specs.Areas.{make_areas}
 use Rattle.outcome.specs.ReadBook.{book_answer}
@@ -118,10 +118,10 @@ module _ (tower text nodes out : List ℕ) (marks : ℕ) (fit : FitTower tower) 
   book_refused a why answers e =
       refused_ends (made_file tower text) why out (book_next ∙ go (read_book (tower_of tower).marks text) told)
     where
-      told : Reads.Refused why ≡ book_answer (first_rule text) (read_book (tower_of tower).marks text)
-      told = sym e ∙ answers.answer ∙ ap (λ z. book_answer (first_rule text) (read_book z text)) at-marks
+      told : Reads.Refused why ≡ book_answer (read_book (tower_of tower).marks text)
+      told = sym e ∙ answers.answer ∙ ap (λ z. book_answer (read_book z text)) at-marks
 
-      go : (o : Answer Book) → Reads.Refused why ≡ book_answer (first_rule text) o → (o then λ book. made_table_file tower book) ≡ refuse why
+      go : (o : Answer Book) → Reads.Refused why ≡ book_answer o → (o then λ book. made_table_file tower book) ≡ refuse why
       go (refuse q) f = unfold ◌then◌ in (let same : why ≡ q = unfold book_answer in cc in ap refuse (sym same))
       go (give book) f = absurd (unfold book_answer in let z : ◌≡◌ {A = ℕ} 0 1 = cc in omega arith)
 

@@ -32,7 +32,7 @@ use Rattle.logic.specs.TableFile.{table_file}
 use Rattle.logic.proofs.Canonical.{good_follows, made_fewest}
 use Rattle.logic.proofs.TableFile.{Fits, made_fits}
 use Rattle.reading.specs.TowerReading.{read_tower}
-use Rattle.reading.specs.BookReading.{first_rule, read_book}
+use Rattle.reading.specs.BookReading.{read_book}
 use Rattle.reading.specs.TableReading.{rows_of, table_of, read_table}
 use Rattle.reading.proofs.FitInput.{tower_fits, table_read, laid_out_read}
 use Rattle.reading.proofs.HeldTable.{FileHolds, file_holds}
@@ -63,14 +63,14 @@ module _ (marks : ℕ) (text : List ℕ) (areas : List (List ℕ)) where
   reads_over : long_enough book_areas areas ≡ true → most_marks < marks → (read_outcome marks text areas).answer ≡ Book.Refused Range
   unfolding book_answer book_under
   reads_over enough over =
-      (book_enough marks text areas enough).0 ∙ ap (book_answer (first_rule text)) (if_refuses Range _ (lt-ltb most_marks marks over))
+      (book_enough marks text areas enough).0 ∙ ap book_answer (if_refuses Range _ (lt-ltb most_marks marks over))
 
-  reads_as : long_enough book_areas areas ≡ true → marks ≤ most_marks → (read_outcome marks text areas).answer ≡ book_answer (first_rule text) (read_book marks text)
+  reads_as : long_enough book_areas areas ≡ true → marks ≤ most_marks → (read_outcome marks text areas).answer ≡ book_answer (read_book marks text)
   unfolding book_under
-  reads_as enough few = (book_enough marks text areas enough).0 ∙ ap (book_answer (first_rule text)) (if_on Range _ (le-ltb most_marks marks few))
+  reads_as enough few = (book_enough marks text areas enough).0 ∙ ap book_answer (if_on Range _ (le-ltb most_marks marks few))
 
   read_by : long_enough book_areas areas ≡ true → marks ≤ most_marks → (o : Answer Book) → read_book marks text ≡ o
-      → RightRead marks text areas (book_answer (first_rule text) o)
+      → RightRead marks text areas (book_answer o)
   unfolding book_answer
   read_by enough few (refuse r) e = read_refused enough few r e
   read_by enough few (give book) e = read_given enough few book e
@@ -92,8 +92,8 @@ module _ (marks : ℕ) (text : List ℕ) (areas : List (List ℕ)) where
   unfolding book_answer
   read_only _ (read_area short) = (book_short marks text areas short).0
   read_only _ (read_range enough over) = reads_over enough over
-  read_only _ (read_refused enough few r e) = reads_as enough few ∙ ap (book_answer (first_rule text)) e
-  read_only _ (read_given enough few book e) = reads_as enough few ∙ ap (book_answer (first_rule text)) e
+  read_only _ (read_refused enough few r e) = reads_as enough few ∙ ap book_answer e
+  read_only _ (read_given enough few book e) = reads_as enough few ∙ ap book_answer e
 
 -- ---- the checker
 

@@ -1,18 +1,18 @@
--- The customer's letter, demands 1 to 3, and items 2, 3 and 6 of 02, each sentence above its theorems. They are about the outcomes on bytes with which the
+-- The customer's letter, demands 1 to 3, and items 2 and 3 of 02, each sentence above its theorems. They are about the outcomes on bytes with which the
 -- contracts of the entries are equations: `read_outcome`, `make_outcome`, `check_outcome`, `follow_outcome` and `log_outcome`. The words are those
 -- of crate `logic`; nothing here speaks of how an answer is found. Where the other words stand, in specs/ here:
 --   `FitFiles`, `FitTable`, `MadeCall`: Calls · the right answer of each entry: RightAnswer, with `FirstReason` in VerdictRight · what holds of every
 --   call: EveryCall · what an answer shows: Shown · `MoreThan`, `GivesOver` and what is reached: Reached · the follower: FollowChain · the log: LoggedRun ·
---   what was answered before 02, item 3: Before; and before item 6: Shipped.
--- Numbers and places of answers are in base/specs/Answers.antt. The proofs are in Answering.antt, Refusals.antt, Following.antt, Logs.antt,
--- Before.antt and ShippedTables.antt.
-use Prim.Native.Nat.{ℕ, ◌+◌, ◌≤◌}
+--   what was answered before 02, item 3: Before.
+-- Numbers and places of answers are in base/specs/Answers.antt. The proofs are in Answering.antt, Refusals.antt, Following.antt, Logs.antt
+-- and Before.antt.
+use Prim.Native.Nat.{ℕ, ◌≤◌}
 use mathlib.Core.Path.{◌≡◌, sym, ◌∙◌, subst}
 use mathlib.Core.Logic.{◌↔◌, ◌⊎◌}
 use mathlib.Core.Bool.{true}
-use mathlib.Core.List.{List, ◌++◌}
+use mathlib.Core.List.{List}
 use lib.ListN.{length}
-use Rattle.base.specs.Bytes.{long_enough, cleared}
+use Rattle.base.specs.Bytes.{long_enough}
 use Rattle.base.specs.Answers.{book_said, make_said, verdict_said, follow_said, log_said, Answer, give, ◌then◌}
 use Rattle.base.specs.declared.Reason.{Reason}
 use Rattle.base.specs.declared.Refusal.{Refusal}
@@ -32,9 +32,7 @@ use Rattle.logic.specs.Book.{Book, nodes}
 use Rattle.logic.specs.Sides.{OneSided}
 use Rattle.logic.specs.Tables.{Table, rows_tower, Allows, Good, GoodAllow}
 use Rattle.logic.specs.TableFile.{table_file}
-use Rattle.reading.specs.TowerReading.{read_tower}
-use Rattle.reading.specs.BookReading.{most_bytes, first_rule, read_book}
-use Rattle.reading.specs.BookBefore.{read_before, ticks_20}
+use Rattle.reading.specs.BookReading.{read_book}
 use Rattle.reading.specs.LogReading.{read_log}
 use Rattle.reading.specs.LogSpelling.{RightLog}
 use Rattle.reading.specs.declared.Stroke.{Stroke}
@@ -43,7 +41,7 @@ use Rattle.reading.specs.TableReading.{laid_out, table_of}
 use Rattle.alternatives.specs.Pairs.{most_pairs}
 use Rattle.outcome.specs.Areas.{book_areas, make_areas, check_areas}
 use Rattle.outcome.specs.ReadBook.{read_outcome}
-use Rattle.outcome.specs.Make.{made_file, fitting, written, make_outcome}
+use Rattle.outcome.specs.Make.{made_file, make_outcome}
 use Rattle.outcome.specs.Check.{Finding, verdict, checked_file, check_outcome}
 use Rattle.outcome.specs.Follow.{follow_outcome}
 use Rattle.outcome.specs.Log.{log_outcome}
@@ -51,7 +49,6 @@ use Rattle.outcome.specs.Reached.{ReachedPair, ReachedItem, MoreThan, GivesOver}
 use Rattle.outcome.specs.VerdictRight.{FirstReason}
 use Rattle.outcome.specs.Calls.{FitFiles, FitTable, MadeCall}
 use Rattle.outcome.specs.Before.{MadeBefore, JudgedBefore}
-use Rattle.outcome.specs.Shipped.{made_before, checked_before}
 use Rattle.outcome.specs.EveryCall.{book_numbers, make_numbers, check_numbers, follow_numbers, log_numbers, RefusesWith, AreasRight}
 use Rattle.outcome.specs.FollowChain.{FollowsTo, Chain}
 use Rattle.outcome.specs.RightAnswer.{RightRead, read_given, RightMake, make_pairs, make_wide, make_none, RightCheck, check_judged, RightFollow, RightLogged}
@@ -62,7 +59,6 @@ use Rattle.outcome.proofs.Answering as Answering
 use Rattle.outcome.proofs.Following as Following
 use Rattle.outcome.proofs.Logs as Logs
 use Rattle.outcome.proofs.Before as Before
-use Rattle.outcome.proofs.ShippedTables as Shipped
 
 -- ---- 1. 'Where a tower file, rule book, table, row, action or lent area is not fit to use, the call refuses with the number that our paper
 -- gives;'
@@ -124,9 +120,9 @@ follow_refuses file row action = Refusals.follow_refuses file row action
 
 -- 'if it is fit and within the stated sizes, the call answers.'
 
--- the book reader: the numbers of lines, a `ticks` line among them, and nodes
+-- the book reader: the numbers of lines and nodes
 pub reads : (marks : ℕ) (text : List ℕ) (areas : List (List ℕ)) (book : Book) → marks ≤ most_marks → read_book marks text ≡ give book
-    → long_enough book_areas areas ≡ true → (read_outcome marks text areas).answer ≡ Book.Read (first_rule text + length book) (length (nodes book))
+    → long_enough book_areas areas ≡ true → (read_outcome marks text areas).answer ≡ Book.Read (length book) (length (nodes book))
 reads marks text areas book few e enough = Answering.read_only marks text areas _ (read_given enough few book e)
 
 -- the maker: with pairs that count no more than 1,000, of which none gives over 16 alternatives, and some good table it makes one, and says 16
@@ -347,23 +343,3 @@ pub judged_as_before : (tower-file text file : List ℕ) (tower : Tower) (book :
     → FitTable tower file table → OneSided book → (o : Answer Finding) → JudgedBefore tower book table o → checked_file tower-file text file ≡ o
 judged_as_before tower-file text file tower book table fit laid sided o before =
     Before.judged_as_before tower-file text file tower book table fit laid sided o before
-
--- ---- 02, item 6: 'A book may begin with the line `ticks n`'. The theorems above are over these books; where such a line is read, reading/specs/RightBook
--- and reading/specs/Spelling.
-
--- 'Shipped books with numbers left out receive `ticks 20` and, if then within 4,096 bytes, must give the tables they gave.' A book that was read is one
--- for which the maker's call ends with what was made,
-pub makes_shipped : (tower-file text : List ℕ) (tower : Tower) (book : Book) → read_tower tower-file ≡ give tower
-    → read_before tower.marks text ≡ give book → length (ticks_20 ++ text) ≤ most_bytes → (output : List ℕ) (areas : List (List ℕ))
-    → long_enough make_areas areas ≡ true
-    → make_outcome tower-file (ticks_20 ++ text) output areas
-    ≡ written (made_before tower-file text then λ file. fitting (length output) file) output (cleared areas)
-makes_shipped tower-file text tower book tower_read before short output areas enough =
-    Shipped.shipped_makes tower-file text tower book tower_read before short output areas enough
-
--- and the checker says of any table what it said.
-pub checks_shipped : (tower-file text : List ℕ) (tower : Tower) (book : Book) → read_tower tower-file ≡ give tower
-    → read_before tower.marks text ≡ give book → length (ticks_20 ++ text) ≤ most_bytes → (file : List ℕ) (areas : List (List ℕ))
-    → long_enough check_areas areas ≡ true → (check_outcome tower-file (ticks_20 ++ text) file areas).answer ≡ verdict (checked_before tower-file text file)
-checks_shipped tower-file text tower book tower_read before short file areas enough =
-    Shipped.shipped_checks tower-file text tower book tower_read before short file areas enough

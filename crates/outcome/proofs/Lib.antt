@@ -18,12 +18,10 @@ pub mod Following
 pub mod Logs
 pub mod Answering
 pub mod Before
-pub mod ShippedTables
 pub mod Demands
 pub mod Instances
 pub mod TinyTowers
 pub mod KindTable
 pub mod SideTable
 pub mod RefusalTable
-pub mod TicksTable
 pub mod LogInstances

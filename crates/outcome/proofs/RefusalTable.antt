@@ -11,7 +11,6 @@ use Rattle.base.specs.declared.Refusal.{Refusal}
 use Rattle.base.specs.declared.Refusal.TheVariants.{TowerSize, Range, Action, Target, Mask, NoTable, Layout}
 use Rattle.base.specs.declared.Reason.TheVariants.{Stopped}
 use Rattle.logic.specs.Book.{Book}
-use Rattle.reading.specs.BookReading.{first_rule}
 use Rattle.outcome.specs.Areas.{book_areas, make_areas}
 use Rattle.outcome.specs.ReadBook.{book_answer, book_under}
 use Rattle.outcome.specs.Make.{made_file}
@@ -35,9 +34,9 @@ unfolding TowerSays make_said
 tower_fit tower file few e output areas room enough = ap make_said (file_answered tower [] output areas file enough e (omega arith))
 
 -- a book is said as it is read
-pub book_as : (text : List ℕ) (o : Answer Book) → book_under 3 text ≡ o → BookSays text (book_said (book_answer (first_rule text) o))
+book_as : (text : List ℕ) (o : Answer Book) → book_under 3 text ≡ o → BookSays text (book_said (book_answer o))
 unfolding BookSays
-book_as text o e areas enough = ap book_said ((book_enough 3 text areas enough).0 ∙ ap (book_answer (first_rule text)) e)
+book_as text o e areas enough = ap book_said ((book_enough 3 text areas enough).0 ∙ ap book_answer e)
 
 -- All of them.
 pub refusal_table : RefusalTable

@@ -1,5 +1,5 @@
 -- Which refusals the definitions can give at all, for every input; and what becomes of the lent areas.
-use Prim.Native.Nat.{ℕ, zero, suc, ◌+◌, ◌-◌}
+use Prim.Native.Nat.{ℕ, zero, suc, ◌-◌}
 use mathlib.Core.Path.{◌≡◌, refl, sym, ◌∙◌, ap, subst}
 use mathlib.Core.Bool.{Bool, true, false, ◌||◌, not}
 use mathlib.Core.Option.{Option, none, some}
@@ -9,7 +9,6 @@ use lib.ListN.{length}
 use lib.Dec.{leb, ltb, eqb}
 use Rattle.base.specs.Choice.{pick}
 use Rattle.base.specs.Lists.{some_of, below}
-use Rattle.base.specs.Text.{byte}
 use Rattle.base.specs.Bytes.{long_enough, cleared}
 use Rattle.base.specs.Recursion.{to_depth, run}
 use Rattle.base.specs.Answers.{Said, answered, refused, row_of, letter_of, refusal_number, refusal_place, refusal_said, reason_said, book_said, make_said, verdict_said, follow_said, log_said, Answer, refuse, give, ◌if◌else◌, ◌then◌}
@@ -27,8 +26,7 @@ use Rattle.logic.specs.Tower.{Tower, most_marks, tower_of, no_header, bad_counts
 use Rattle.logic.specs.Book.{Book, timed_right}
 use Rattle.logic.specs.Tables.{Table, move}
 use Rattle.reading.specs.TowerReading.{read_tower}
-use Rattle.reading.specs.Tokens.{stands, skip, Token, number_token}
-use Rattle.reading.specs.BookReading.{most_bytes, most_ticks, Heading, has_ticks, first_rule, ticks_line, heading, Line, no_line, line, line_at, ReadSoFar, over_number, over_mark, over_limit, judge_line, lines_step, read_lines, read_book}
+use Rattle.reading.specs.BookReading.{Line, no_line, line, line_at, ReadSoFar, most_bytes, usual_bound, over_number, over_mark, over_limit, judge_line, lines_step, read_lines, read_book}
 use Rattle.reading.specs.TableReading.{laid_out, rows_of, table_actions, table_of, read_table}
 use Rattle.reading.specs.LogReading.{log_from, read_log}
 use Rattle.alternatives.specs.Pairs.{first_pair, over_pairs, over_alternatives}
@@ -85,50 +83,34 @@ module _ (P : Refusal → Type 0) where
   -- the book: 6 to 10
   module _ (grammar : (l : ℕ) → P (Grammar l)) (number : (l : ℕ) → P (Number l)) (mark : (l : ℕ) → P (Mark l)) (limit : (l : ℕ) → P (Limit l))
       (timed : (l : ℕ) → P (Timed l)) (marks : ℕ) (text : List ℕ) where
-    ticks_only : (o : Option (Token ℕ)) → Only P (ticks_line text o)
-    unfolding ticks_line
-    ticks_only none = refuse_only (Grammar 0) (grammar 0)
-    ticks_only (some n) =
-        if_only (Grammar 0) (not (stands text n.next (byte "\n"))) _ (grammar 0)
-        (if_only (Number 0) (ltb most_ticks n.said) _ (number 0)
-        (give_only _))
-
-    heading_only : Only P (heading text)
-    unfolding heading
-    heading_only = pick_only (has_ticks text) _ _ (ticks_only (number_token text (skip text 5))) (give_only _)
-
-    line_only : (n : ℕ) (before : Book) (l : Line) → Only P (judge_line marks n before l)
+    line_only : (before : Book) (l : Line) → Only P (judge_line marks before l)
     unfolding judge_line
-    line_only n before no_line = refuse_only (Grammar n) (grammar n)
-    line_only n before (line form f brackets p) =
-        if_only (Number n) (over_number f) _ (number n)
-        (if_only (Mark n) (over_mark marks f) _ (mark n)
-        (if_only (Limit n) (over_limit before f brackets) _ (limit n)
-        (if_only (Timed n) (not (timed_right f)) _ (timed n)
+    line_only before no_line = refuse_only (Grammar (length before)) (grammar (length before))
+    line_only before (line form f brackets p) =
+        if_only (Number (length before)) (over_number f) _ (number (length before))
+        (if_only (Mark (length before)) (over_mark marks f) _ (mark (length before))
+        (if_only (Limit (length before)) (over_limit before f brackets) _ (limit (length before))
+        (if_only (Timed (length before)) (not (timed_right f)) _ (timed (length before))
         (give_only _))))
 
-    module _ (usual first : ℕ) where
-      left : ReadSoFar → ℕ
-      left here = length text - here.place
+    left : ReadSoFar → ℕ
+    left here = length text - here.place
 
-      stuck : ReadSoFar → Answer Book
-      stuck here = refuse (Grammar (first + length here.rules))
+    stuck : ReadSoFar → Answer Book
+    stuck here = refuse (Grammar (length here.rules))
 
-      rest_only : (n : ℕ) (here : ReadSoFar) → Only P (to_depth left stuck (lines_step usual first marks text) n here)
-      unfolding to_depth stuck lines_step
-      rest_only zero here = refuse_only (Grammar (first + length here.rules)) (grammar (first + length here.rules))
-      rest_only (suc n) here =
-          pick_only (leb (length text) here.place) _ _ (give_only here.rules)
-          (then_only (judge_line marks (first + length here.rules) here.rules (line_at usual text here.place)) _
-          (line_only (first + length here.rules) here.rules (line_at usual text here.place))
-          (λ on. rest_only n on))
+    rest_only : (n : ℕ) (here : ReadSoFar) → Only P (to_depth left stuck (lines_step usual_bound marks text) n here)
+    unfolding to_depth stuck lines_step
+    rest_only zero here = refuse_only (Grammar (length here.rules)) (grammar (length here.rules))
+    rest_only (suc n) here =
+        pick_only (leb (length text) here.place) _ _ (give_only here.rules)
+        (then_only (judge_line marks here.rules (line_at usual_bound text here.place)) _ (line_only here.rules (line_at usual_bound text here.place))
+        (λ on. rest_only n on))
 
     pub book_only : Only P (read_book marks text)
     unfolding read_book read_lines run left stuck
     book_only =
-        if_only (Limit 0) (ltb most_bytes (length text)) _ (limit 0)
-        (then_only (heading text) _ heading_only
-        (λ h. rest_only h.usual (first_rule text) (suc (length text - h.place)) (record { rules = []; place = h.place })))
+        if_only (Limit 0) (ltb most_bytes (length text)) _ (limit 0) (rest_only (suc (length text - 0)) (record { rules = []; place = 0 }))
 
   -- the table: 13
   pub table_only : P Layout → (tower : Tower) (bytes : List ℕ) → Only P (read_table tower bytes)
@@ -232,16 +214,16 @@ module _ {X : Type 0} (say : X → Said) (numbers lengths : List ℕ) (areas aft
 
 -- ---- the book reader
 
-book_inner : (marks : ℕ) (text : List ℕ) → RefusesWith (2 ∷ 6 ∷ 7 ∷ 8 ∷ 9 ∷ 10 ∷ []) (book_said (book_answer (first_rule text) (book_under marks text)))
+book_inner : (marks : ℕ) (text : List ℕ) → RefusesWith (2 ∷ 6 ∷ 7 ∷ 8 ∷ 9 ∷ 10 ∷ []) (book_said (book_answer (book_under marks text)))
 unfolding One some_of book_said book_answer book_under
 book_inner marks text =
-    said_only (λ o. book_said (book_answer (first_rule text) o)) (2 ∷ 6 ∷ 7 ∷ 8 ∷ 9 ∷ 10 ∷ []) (λ r. refl) (λ book. answered_with _ _) (book_under marks text)
+    said_only (λ o. book_said (book_answer o)) (2 ∷ 6 ∷ 7 ∷ 8 ∷ 9 ∷ 10 ∷ []) (λ r. refl) (λ book. answered_with _ _) (book_under marks text)
     (if_only (One (2 ∷ 6 ∷ 7 ∷ 8 ∷ 9 ∷ 10 ∷ [])) Range (ltb most_marks marks) _ refl
     (book_only (One (2 ∷ 6 ∷ 7 ∷ 8 ∷ 9 ∷ 10 ∷ [])) (λ l. refl) (λ l. refl) (λ l. refl) (λ l. refl) (λ l. refl) marks text))
 
 module _ (marks : ℕ) (text : List ℕ) (areas : List (List ℕ)) where
   pub book_enough : long_enough book_areas areas ≡ true
-      → ((read_outcome marks text areas).answer ≡ book_answer (first_rule text) (book_under marks text)) × ((read_outcome marks text areas).areas ≡ cleared areas)
+      → ((read_outcome marks text areas).answer ≡ book_answer (book_under marks text)) × ((read_outcome marks text areas).areas ≡ cleared areas)
   unfolding read_outcome
   book_enough e = (rw e refl, rw e refl)
 
@@ -253,13 +235,13 @@ module _ (marks : ℕ) (text : List ℕ) (areas : List (List ℕ)) where
   pub book_refuses : RefusesWith book_numbers (book_said (read_outcome marks text areas).answer)
   unfolding book_numbers book_said refusal_said
   book_refuses =
-      call_refuses book_said (2 ∷ 6 ∷ 7 ∷ 8 ∷ 9 ∷ 10 ∷ []) book_areas areas (read_outcome marks text areas).areas (book_answer (first_rule text) (book_under marks text))
+      call_refuses book_said (2 ∷ 6 ∷ 7 ∷ 8 ∷ 9 ∷ 10 ∷ []) book_areas areas (read_outcome marks text areas).areas (book_answer (book_under marks text))
       (read_outcome marks text areas).answer (Book.Refused Area) refl (book_inner marks text) book_enough book_short
 
   pub book_areas_right : AreasRight book_areas areas ((read_outcome marks text areas).answer ≡ Book.Refused Area) (read_outcome marks text areas).areas
   unfolding book_said refusal_said some_of
   book_areas_right =
-      call_areas book_said (2 ∷ 6 ∷ 7 ∷ 8 ∷ 9 ∷ 10 ∷ []) book_areas areas (read_outcome marks text areas).areas (book_answer (first_rule text) (book_under marks text))
+      call_areas book_said (2 ∷ 6 ∷ 7 ∷ 8 ∷ 9 ∷ 10 ∷ []) book_areas areas (read_outcome marks text areas).areas (book_answer (book_under marks text))
       (read_outcome marks text areas).answer (Book.Refused Area) refl (book_inner marks text) book_enough book_short refl
 
 -- ---- the maker

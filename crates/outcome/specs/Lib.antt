@@ -16,11 +16,9 @@ pub mod FollowChain
 pub mod RightAnswer
 pub mod Shown
 pub mod Before
-pub mod Shipped
 pub mod SmallTower
 pub mod TinyTowers
 pub mod KindTable
 pub mod SideTable
 pub mod RefusalTable
-pub mod TicksTable
 pub mod LogTable

@@ -1,5 +1,5 @@
 -- The book reader's outcome: 15, 2, the book.
-use Rattle.std.specs.Prelude.{ℕ, ◌+◌, List, length, ltb}
+use Rattle.std.specs.Prelude.{ℕ, List, length, ltb}
 use Rattle.base.specs.Choice.{pick}
 use Rattle.base.specs.Bytes.{long_enough, cleared}
 use Rattle.base.specs.Answers.{Answer, refuse, give, ◌if◌else◌}
@@ -8,13 +8,13 @@ use Rattle.base.specs.declared.BookAnswer.{BookAnswer}
 use Rattle.base.specs.declared.BookAnswer.TheVariants.{Read, Refused}
 use Rattle.logic.specs.Tower.{most_marks}
 use Rattle.logic.specs.Book.{Book, nodes}
-use Rattle.reading.specs.BookReading.{first_rule, read_book}
+use Rattle.reading.specs.BookReading.{read_book}
 use Rattle.outcome.specs.Areas.{book_areas}
 
--- the numbers of lines and nodes, where so many lines stand before the first rule
-unfoldable pub book_answer : ℕ → Answer Book → BookAnswer
-book_answer first (refuse r) = Refused r
-book_answer first (give book) = Read (first + length book) (length (nodes book))
+-- the numbers of lines and nodes
+unfoldable pub book_answer : Answer Book → BookAnswer
+book_answer (refuse r) = Refused r
+book_answer (give book) = Read (length book) (length (nodes book))
 
 -- the book under a given P; P above 16 is 2, before the book
 unfoldable pub book_under : ℕ → List ℕ → Answer Book
@@ -28,5 +28,5 @@ pub record BookOutcome : Type 0 where
 unfoldable pub read_outcome : ℕ → List ℕ → List (List ℕ) → BookOutcome
 read_outcome marks text areas =
     pick (long_enough book_areas areas)
-    (λ _. record { answer = book_answer (first_rule text) (book_under marks text); areas = cleared areas })
+    (λ _. record { answer = book_answer (book_under marks text); areas = cleared areas })
     (λ _. record { answer = Refused Area; areas = areas })

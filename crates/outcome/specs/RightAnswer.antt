@@ -1,6 +1,6 @@
 -- 01, 'A number is given when its condition holds and nothing before it in the order does, and never else': the answer of each entry and why it
 -- is the right one, in the papers' order, without computing what the code computes. Each case takes what the cases before it leave.
-use Rattle.std.specs.Prelude.{ℕ, ◌+◌, ◌≤◌, ◌<◌, ◌≡◌, ◌⊎◌, true, false, List, length}
+use Rattle.std.specs.Prelude.{ℕ, ◌≤◌, ◌<◌, ◌≡◌, ◌⊎◌, true, false, List, length}
 use Rattle.std.proofs.Math.Option.{none}
 use Rattle.base.specs.Bytes.{long_enough}
 use Rattle.base.specs.Answers.{Answer, give, refuse}
@@ -23,7 +23,7 @@ use Rattle.logic.specs.Book.{Book, nodes}
 use Rattle.logic.specs.Tables.{Table, move, Good, IsMade}
 use Rattle.logic.specs.TableFile.{table_file}
 use Rattle.reading.specs.TowerReading.{read_tower}
-use Rattle.reading.specs.BookReading.{first_rule, read_book}
+use Rattle.reading.specs.BookReading.{read_book}
 use Rattle.reading.specs.TableReading.{laid_out, rows_of, table_actions, table_of, read_table}
 use Rattle.reading.specs.LogReading.{read_log}
 use Rattle.reading.specs.declared.Stroke.{Stroke}
@@ -36,14 +36,14 @@ use Rattle.outcome.specs.VerdictRight.{RightBelow, FirstOfRows, FirstReason}
 use Rattle.outcome.specs.FollowChain.{FollowsTo}
 use Rattle.outcome.specs.LoggedRun.{LoggedRun, FirstMisfit}
 
--- The book reader: 15, 2, the book; or the numbers of lines, a `ticks` line among them, and nodes.
+-- The book reader: 15, 2, the book; or the numbers of lines and nodes.
 pub data RightRead (marks : ℕ) (text : List ℕ) (areas : List (List ℕ)) : BookAnswer → Type 0 where
   read_area : long_enough book_areas areas ≡ false → RightRead marks text areas (Book.Refused Area)
   read_range : long_enough book_areas areas ≡ true → most_marks < marks → RightRead marks text areas (Book.Refused Range)
   read_refused : long_enough book_areas areas ≡ true → marks ≤ most_marks → (r : Refusal) → read_book marks text ≡ refuse r
       → RightRead marks text areas (Book.Refused r)
   read_given : long_enough book_areas areas ≡ true → marks ≤ most_marks → (book : Book) → read_book marks text ≡ give book
-      → RightRead marks text areas (Book.Read (first_rule text + length book) (length (nodes book)))
+      → RightRead marks text areas (Book.Read (length book) (length (nodes book)))
 
 -- The maker: 15; the tower; the book; 11; 20; 12; 16; or the length of the made table's file.
 pub data RightMake (tower-file text output : List ℕ) (areas : List (List ℕ)) : MakeAnswer → Type 0 where

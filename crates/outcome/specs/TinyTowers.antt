@@ -60,20 +60,20 @@ pub record TinyTowerTable : Type 0 where
   pub no_less_below : Says (one_state 0) "always N >= 6 T\n" no_table
   pub more_at : Says (one_state 0) "always N > 5 T\n" no_table
   pub more_above : Says (one_state 0) "always N > 4 T\n" one_row
-  -- p0 holds for d ticks: A with no number forbids 40 as 40 does and 39 does not, and allows 41 as 40 does and 41 does not
-  pub always_40 : Says (leaves_p0 40) "start A p0\n" no_table
-  pub always_40_by_39 : Says (leaves_p0 40) "start A 39 p0\n" two_rows
-  pub always_41 : Says (leaves_p0 41) "start A p0\n" two_rows
-  pub always_41_by_41 : Says (leaves_p0 41) "start A 41 p0\n" no_table
-  -- p0 holds after d ticks: E and U with no number allow 40 as 40 does and 39 does not, and forbid 41 as 40 does and 41 does not
-  pub within_40 : Says (enters_p0 40) "start E p0\n" two_rows
-  pub within_40_by_39 : Says (enters_p0 40) "start E 39 p0\n" no_table
-  pub within_41 : Says (enters_p0 41) "start E p0\n" no_table
-  pub within_41_by_41 : Says (enters_p0 41) "start E 41 p0\n" two_rows
-  pub until_40 : Says (enters_p0 40) "start U (T, p0)\n" two_rows
-  pub until_40_by_39 : Says (enters_p0 40) "start U 39 (T, p0)\n" no_table
-  pub until_41 : Says (enters_p0 41) "start U (T, p0)\n" no_table
-  pub until_41_by_41 : Says (enters_p0 41) "start U 41 (T, p0)\n" two_rows
+  -- p0 holds for d ticks: A with no number forbids 20 as 20 does and 19 does not, and allows 21 as 20 does and 21 does not
+  pub always_20 : Says (leaves_p0 20) "start A p0\n" no_table
+  pub always_20_by_19 : Says (leaves_p0 20) "start A 19 p0\n" two_rows
+  pub always_21 : Says (leaves_p0 21) "start A p0\n" two_rows
+  pub always_21_by_21 : Says (leaves_p0 21) "start A 21 p0\n" no_table
+  -- p0 holds after d ticks: E and U with no number allow 20 as 20 does and 19 does not, and forbid 21 as 20 does and 21 does not
+  pub within_20 : Says (enters_p0 20) "start E p0\n" two_rows
+  pub within_20_by_19 : Says (enters_p0 20) "start E 19 p0\n" no_table
+  pub within_21 : Says (enters_p0 21) "start E p0\n" no_table
+  pub within_21_by_21 : Says (enters_p0 21) "start E 21 p0\n" two_rows
+  pub until_20 : Says (enters_p0 20) "start U (T, p0)\n" two_rows
+  pub until_20_by_19 : Says (enters_p0 20) "start U 19 (T, p0)\n" no_table
+  pub until_21 : Says (enters_p0 21) "start U (T, p0)\n" no_table
+  pub until_21_by_21 : Says (enters_p0 21) "start U 21 (T, p0)\n" two_rows
   -- P is 3: bit 3 of a mask is refused with 5, bit 2 is mark 2 and no other
   pub bit_3 : Says (one_state 8) "" (refused 5 0 [])
   pub bit_2 : Says (one_state 4) "always p2\n" one_row

@@ -64,15 +64,8 @@ pub const NO_MARK: u8 = 28;
 
 pub const NO_DIGIT: u8 = 29;
 
-pub const NOT_FIRST: u8 = 30;
-
-pub const NO_TICKS: u8 = 31;
-
-pub const BEHIND_TICKS: u8 = 32;
-
 // What is expected: a unit; an operator, a bracket or the end; the comparison of N; its number; a
-// number or a unit; a number or the bracket of U; the bracket of U; the number of a `ticks` line; the
-// end of that line.
+// number or a unit; a number or the bracket of U; the bracket of U.
 const UNIT: u8 = 0;
 
 const AFTER: u8 = 1;
@@ -86,10 +79,6 @@ const MAYBE_NUMBER: u8 = 4;
 const MAYBE_BOUND: u8 = 5;
 
 const BRACKET: u8 = 6;
-
-const TICKS: u8 = 7;
-
-const END: u8 = 8;
 
 // Open brackets: of a formula; of U before its comma, and behind it.
 const PLAIN: u8 = 0;
@@ -128,25 +117,28 @@ fn found(at: usize, what: u8) -> Scan {
     }
 }
 
-// What a byte that is in no book is, or else what the place is in want of.
-fn strange(text: &[u8], at: usize, want: u8) -> u8 {
-    if text.len() <= at {
-        return want;
-    }
-    match text[at] {
-        13 => CARRIAGE_RETURN,
-        9 => TAB,
-        10 | 32..=126 => want,
-        _ => NOT_ASCII,
-    }
-}
-
-// What a byte that fits nowhere in a formula is, or else what the place is in want of.
+// What a byte that fits nowhere is, or else what the place is in want of.
 fn cause(text: &[u8], at: usize, want: u8) -> u8 {
-    match byte_at(text, at) {
-        b'-' | b'=' => ARROW,
-        _ => strange(text, at, want),
+    let b = byte_at(text, at);
+    if b == 13 {
+        return CARRIAGE_RETURN;
     }
+    if b == 9 {
+        return TAB;
+    }
+    if b < 32 {
+        return NOT_ASCII;
+    }
+    if 126 < b {
+        return NOT_ASCII;
+    }
+    if b == b'-' {
+        return ARROW;
+    }
+    if b == b'=' {
+        return ARROW;
+    }
+    want
 }
 
 // Whether the byte is a connective's letter, but small.
@@ -331,24 +323,6 @@ fn bracket(text: &[u8], at: usize, open: usize, stack: &mut [u8]) -> Scan {
     opened(at, open, FIRST_PART, stack)
 }
 
-// The number of a `ticks` line is expected.
-fn ticks_number(text: &[u8], at: usize) -> Scan {
-    if !is_digit(byte_at(text, at)) {
-        return found(at, strange(text, at, NO_TICKS));
-    }
-    on(behind_number(text, at), END, 0)
-}
-
-// Something stands behind the number of a `ticks` line.
-fn behind_ticks(text: &[u8], at: usize) -> Scan {
-    if is_digit(byte_at(text, at)) {
-        if is_digit(byte_at(text, down(at))) {
-            return found(at, LONG_NUMBER);
-        }
-    }
-    found(at, strange(text, at, BEHIND_TICKS))
-}
-
 // A token that begins at this place.
 fn token(text: &[u8], scan: Scan, stack: &mut [u8]) -> Scan {
     let at = scan.at;
@@ -361,13 +335,11 @@ fn token(text: &[u8], scan: Scan, stack: &mut [u8]) -> Scan {
         NUMBER => number(text, at, open),
         MAYBE_NUMBER => maybe_number(text, at, open, UNIT),
         MAYBE_BOUND => maybe_number(text, at, open, BRACKET),
-        TICKS => ticks_number(text, at),
-        END => behind_ticks(text, at),
         _ => bracket(text, at, open, stack),
     }
 }
 
-// The line ends behind a unit, with so many brackets open, or behind the number of `ticks`.
+// The line ends behind a unit, with so many brackets open.
 fn ended_after(text: &[u8], end: usize, open: usize) -> Scan {
     if 0 < open {
         return found(end, NOT_CLOSED);
@@ -386,11 +358,10 @@ fn ended_after(text: &[u8], end: usize, open: usize) -> Scan {
 fn ended(text: &[u8], end: usize, scan: Scan) -> Scan {
     let expected = scan.expected;
     match expected {
-        AFTER | END => ended_after(text, end, scan.open),
+        AFTER => ended_after(text, end, scan.open),
         COMPARISON => found(end, NO_COMPARISON),
         NUMBER => found(end, NO_NUMBER),
         MAYBE_BOUND | BRACKET => found(end, NO_BRACKET),
-        TICKS => found(end, NO_TICKS),
         _ => found(end, NO_UNIT),
     }
 }
@@ -410,9 +381,9 @@ fn turn(text: &[u8], end: usize, scan: Scan, stack: &mut [u8]) -> Scan {
     token(text, scan, stack)
 }
 
-// The tokens from a place on, with room for a stack. A token takes two turns at most, so that every line comes to its end.
-fn tokens(text: &[u8], at: usize, end: usize, expected: u8, stack: &mut [u8]) -> Scan {
-    let mut scan = on(at, expected, 0);
+// The formula, from a place on, with room for a stack. A token takes two turns at most, so that every line comes to its end.
+fn formula(text: &[u8], at: usize, end: usize, stack: &mut [u8]) -> Scan {
+    let mut scan = on(at, UNIT, 0);
     let mut turns = 16384usize;
     while turns > 0 {
         turns -= 1;
@@ -421,30 +392,16 @@ fn tokens(text: &[u8], at: usize, end: usize, expected: u8, stack: &mut [u8]) ->
     scan
 }
 
-// The word was read; a space and what is expected of such a line follow.
-fn behind_word(text: &[u8], at: usize, end: usize, expected: u8) -> Scan {
-    if end <= at {
-        return ended(text, end, on(at, expected, 0));
-    }
+// The word was read; a space and the formula follow.
+fn behind_word(text: &[u8], at: usize, end: usize) -> Scan {
     if byte_at(text, at) != b' ' {
-        return found(at, strange(text, at, NO_SPACE));
+        return found(at, cause(text, at, NO_SPACE));
     }
     let mut stack = [0u8; 4096];
-    tokens(text, at, end, expected, &mut stack)
+    formula(text, at, end, &mut stack)
 }
 
-// A line that begins with `ticks`, in capitals too.
-fn ticks(text: &[u8], start: usize, end: usize) -> Scan {
-    if 0 < start {
-        return found(start, NOT_FIRST);
-    }
-    if !stands_at(text, start, b"ticks", false) {
-        return found(start, CAPITAL_WORD);
-    }
-    behind_word(text, 5, end, TICKS)
-}
-
-// No word stands at the start of the line.
+// No word of a rule stands at the start of the line.
 fn no_word(text: &[u8], start: usize) -> Scan {
     if stands_at(text, start, b"always", true) {
         return found(start, CAPITAL_WORD);
@@ -466,13 +423,10 @@ pub fn scan_line(text: &[u8], start: usize, end: usize) -> Scan {
         return found(start, EMPTY_LINE);
     }
     if stands_at(text, start, b"always", false) {
-        return behind_word(text, plus(start, 6), end, UNIT);
+        return behind_word(text, plus(start, 6), end);
     }
     if stands_at(text, start, b"start", false) {
-        return behind_word(text, plus(start, 5), end, UNIT);
-    }
-    if stands_at(text, start, b"ticks", true) {
-        return ticks(text, start, end);
+        return behind_word(text, plus(start, 5), end);
     }
     no_word(text, start)
 }

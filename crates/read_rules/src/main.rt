@@ -15,7 +15,7 @@ fn tell(answer: BookAnswer, tower: &[u8], book: &[u8], tower_bytes: &[u8], text:
             let mut line = [0u8; 4096];
             let n = program_listing::sizes(lines, nodes, &mut line);
             if program_files::print(&line[..n]) {
-                words_notes::left_out(book, text, lines, book_heading::usual(text));
+                words_notes::left_out(book, text, lines);
             }
         }
         BookAnswer::Refused(why) => {

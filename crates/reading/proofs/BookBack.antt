@@ -7,7 +7,6 @@ use mathlib.Core.List.{List, [], ◌∷◌, ◌++◌, map, append_assoc, append-
 use mathlib.Core.List.{Memᴰ}
 use lib.ListN.{length, drop, length-append}
 use borrow.Author.Tests.{le-leb, lt-leb, le-ltb}
-use lib.Seq.{drop-append_seam}
 use Rattle.base.specs.Lists.{begins, joined}
 use Rattle.base.specs.Text.{ascii}
 use Rattle.base.specs.Recursion.{run}
@@ -20,10 +19,9 @@ use Rattle.logic.specs.Book.{Formula, parts, size, nodes, timed_right, at_start,
 use Rattle.reading.specs.Tokens.{stands, skip, is_digit}
 use Rattle.reading.specs.Grammar.{got, formula_at}
 use Rattle.reading.specs.BookReading as Reading
-use Rattle.reading.specs.BookReading.{most_bytes, most_nodes, most_brackets, has_ticks, ended, worded, line_at, over_number, over_mark, over_limit, ReadSoFar, judge_line, lines_step, read_lines, read_book}
+use Rattle.reading.specs.BookReading.{most_bytes, most_nodes, most_brackets, usual_bound, ended, worded, line_at, over_number, over_mark, over_limit, ReadSoFar, judge_line, lines_step, read_lines, read_book}
 use Rattle.reading.specs.Spelling.{spaces, or_units, Spells, word, SpellsLine, spells_line, SpellsBook, spells_none, spells_more, WithinLimits, BookOf}
 use Rattle.reading.proofs.TextPlaces.{Span, Pieces, span_inside, span_left, span_right, pieces, behind_piece, piece_byte, pieces_end}
-use Rattle.reading.proofs.Headings.{HeadingRead, headed_plain, heading_read}
 use Rattle.reading.proofs.FormulaBack.{past_spaces, is_there, spelled_clear, formula_back}
 
 -- ---- lines
@@ -83,10 +81,10 @@ record FitRule (marks : ℕ) (rule : Rule) : Type 0 where
   timed : timed_right rule.formula ≡ true
 
 -- A line within the limits is judged well.
-judged_well : (marks k : ℕ) (before : Book) (rule : Rule) (b q : ℕ) → FitRule marks rule → length (nodes before) + size rule.formula ≤ 60 → b ≤ 16
-    → judge_line marks k before (Reading.line rule.form rule.formula b q) ≡ give (record { rules = before ++ (rule ∷ []); place = q })
+judged_well : (marks : ℕ) (before : Book) (rule : Rule) (b q : ℕ) → FitRule marks rule → length (nodes before) + size rule.formula ≤ 60 → b ≤ 16
+    → judge_line marks before (Reading.line rule.form rule.formula b q) ≡ give (record { rules = before ++ (rule ∷ []); place = q })
 unfolding judge_line ◌if◌else◌ over_limit most_nodes most_brackets
-judged_well marks k before rule b q fit few low =
+judged_well marks before rule b q fit few low =
     rw (fit.numbers, fit.propositions, le-ltb 60 (length (nodes before) + size rule.formula) few, le-ltb 16 b low, fit.timed)
 
 -- a line has bytes
@@ -95,47 +93,47 @@ unfolding joined word ascii
 line_some (spells_line everywhere i spelled) = omega arith
 line_some (spells_line at_start i spelled) = omega arith
 
-module _ (usual first marks : ℕ) (s : List ℕ) where
+module _ (marks : ℕ) (s : List ℕ) where
   -- the lines from here on, at most n deep
   unfoldable pub lines_deep : ℕ → ReadSoFar → Answer Book
-  lines_deep n here = Deep.to_depth (λ (h : ReadSoFar). length s - h.place) (λ h. refuse (Grammar (first + length h.rules))) (lines_step usual first marks s) n here
+  lines_deep n here = Deep.to_depth (λ (h : ReadSoFar). length s - h.place) (λ h. refuse (Grammar (length h.rules))) (lines_step usual_bound marks s) n here
 
   lines_end : (n : ℕ) (before : Book) (p : ℕ) → length s ≤ p → lines_deep (suc n) (record { rules = before; place = p }) ≡ give before
   unfolding lines_deep Deep.to_depth lines_step
   lines_end n before p le = rw (le-leb (length s) p le)
 
-  lines_on : (n : ℕ) (before : Book) (p : ℕ) (on : ReadSoFar) → p < length s → judge_line marks (first + length before) before (line_at usual s p) ≡ give on
+  lines_on : (n : ℕ) (before : Book) (p : ℕ) (on : ReadSoFar) → p < length s → judge_line marks before (line_at usual_bound s p) ≡ give on
       → lines_deep (suc n) (record { rules = before; place = p }) ≡ lines_deep n on
   unfolding lines_deep Deep.to_depth lines_step ◌then◌
   lines_on n before p on lt e = rw (lt-leb (length s) p lt, e)
 
   -- one line more
-  line_more : (rule : Rule) (book : Book) (b c : ℕ) (line text rest : List ℕ) → SpellsLine usual rule b line → (before : Book) (p e n : ℕ)
+  line_more : (rule : Rule) (book : Book) (b c : ℕ) (line text rest : List ℕ) → SpellsLine usual_bound rule b line → (before : Book) (p e n : ℕ)
       → Span s p (line ++ text) rest e → length s - p < suc n → FitRule marks rule → length (nodes (before ++ (rule ∷ book))) ≤ 60 → max b c ≤ 16
       → lines_deep (suc n) (record { rules = before; place = p }) ≡ lines_deep n (record { rules = before ++ (rule ∷ []); place = p + length line })
-  line_more rule book b c line text rest one before p e n h lt fit few low =
+  line_more rule book b c line text rest first before p e n h lt fit few low =
       let here = span_left line text h in
-      let told = ap (judge_line marks (first + length before) before) (line_read one here)
-      ∙ judged_well marks (first + length before) before rule b (p + length line) fit (omega (arith, nodes_around before rule book)) (omega (arith, low)) in
-      lines_on n before p _ (omega (arith, span_inside here (line_some one), line_some one)) told
+      let told = ap (judge_line marks before) (line_read first here)
+      ∙ judged_well marks before rule b (p + length line) fit (omega (arith, nodes_around before rule book)) (omega (arith, low)) in
+      lines_on n before p _ (omega (arith, span_inside here (line_some first), line_some first)) told
 
-  line_shorter : {rule : Rule} {b : ℕ} {line : List ℕ} (text rest : List ℕ) (p n : ℕ) → {e : ℕ} → SpellsLine usual rule b line → Span s p (line ++ text) rest e
+  line_shorter : {rule : Rule} {b : ℕ} {line : List ℕ} (text rest : List ℕ) (p n : ℕ) → {e : ℕ} → SpellsLine usual_bound rule b line → Span s p (line ++ text) rest e
       → length s - p < suc n → length s - (p + length line) < n
-  line_shorter {line = line} text rest p n one h lt =
+  line_shorter {line = line} text rest p n first h lt =
       let here = span_left line text h in
-      omega (arith, span_inside here (line_some one), line_some one)
+      omega (arith, span_inside here (line_some first), line_some first)
 
   -- the lines of a book, and then whatever is said of the rest
-  lines_through : {book : Book} {c : ℕ} {text : List ℕ} → SpellsBook usual book c text → (before : Book) (p e n : ℕ) (rest : List ℕ) → Span s p text rest e
+  lines_through : {book : Book} {c : ℕ} {text : List ℕ} → SpellsBook usual_bound book c text → (before : Book) (p e n : ℕ) (rest : List ℕ) → Span s p text rest e
       → length s - p < n → ((rule : Rule) → Memᴰ rule book → FitRule marks rule) → length (nodes (before ++ book)) ≤ 60 → c ≤ 16
       → (r : Answer Book) → ((m : ℕ) → length s - e < m → lines_deep m (record { rules = before ++ book; place = e }) ≡ r)
       → lines_deep n (record { rules = before; place = p }) ≡ r
   lines_through spells_none before p e n rest h lt fit few low r after =
       ap₂ (λ (z : Book) (q : ℕ). lines_deep n (record { rules = z; place = q })) (sym (append-nil before)) (omega (arith, h.ends)) ∙ after n (omega (arith, h.ends))
-  lines_through (spells_more one others) before p e zero rest h lt fit few low r after = absurd (omega arith)
-  lines_through (spells_more {rule = rule} {book = book} {b = b} {c = c} {line = line} {text = text} one others) before p e (suc n) rest h lt fit few low r after =
-      line_more rule book b c line text rest one before p e n h lt (fit rule (Memᴰ.head refl)) few low
-      ∙ lines_through others (before ++ (rule ∷ [])) (p + length line) e n rest (span_right line text h) (line_shorter text rest p n one h lt)
+  lines_through (spells_more first others) before p e zero rest h lt fit few low r after = absurd (omega arith)
+  lines_through (spells_more {rule = rule} {book = book} {b = b} {c = c} {line = line} {text = text} first others) before p e (suc n) rest h lt fit few low r after =
+      line_more rule book b c line text rest first before p e n h lt (fit rule (Memᴰ.head refl)) few low
+      ∙ lines_through others (before ++ (rule ∷ [])) (p + length line) e n rest (span_right line text h) (line_shorter text rest p n first h lt)
       (λ other m. fit other (Memᴰ.tail m)) (rw (append_assoc before (rule ∷ []) book) few) (omega (arith, low)) r
       (λ m l. ap (λ (z : Book). lines_deep m (record { rules = z; place = e })) (append_assoc before (rule ∷ []) book) ∙ after m l)
 
@@ -144,46 +142,21 @@ fit_rules : {marks : ℕ} {book : Book} {b : ℕ} → WithinLimits marks book b 
 unfolding FitBook
 fit_rules limits rule m = record { numbers = limits.numbers rule m; propositions = limits.propositions rule m; timed = limits.timed rule m }
 
--- ---- whole texts
-
--- a text that begins with a rule's line, or with those of a book, has no `ticks` line
-pub line_plain : {usual : ℕ} {rule : Rule} {b : ℕ} {line : List ℕ} → SpellsLine usual rule b line → (rest : List ℕ) → has_ticks (line ++ rest) ≡ false
-unfolding has_ticks begins joined word ascii
-line_plain (spells_line everywhere i spelled) rest = refl
-line_plain (spells_line at_start i spelled) rest = refl
-
-pub book_plain : {usual : ℕ} {book : Book} {b : ℕ} {text : List ℕ} → SpellsBook usual book b text → (rest : List ℕ) → has_ticks rest ≡ false → has_ticks (text ++ rest) ≡ false
-book_plain spells_none rest e = e
-book_plain (spells_more {line = line} {text = text} one others) rest e = ap has_ticks (append_assoc line text rest) ∙ line_plain one (text ++ rest)
-
-module _ {marks usual first : ℕ} {text : List ℕ} (head : List ℕ) {before : Book} {b : ℕ} {begun : List ℕ} (rest : List ℕ) (known : HeadingRead text usual first (length head))
-    (spells : SpellsBook usual before b begun) (limits : WithinLimits marks before b) (short : length text ≤ most_bytes) (all : text ≡ head ++ (begun ++ rest)) where
+module _ {marks : ℕ} {text : List ℕ} {before : Book} {b : ℕ} {begun : List ℕ} (rest : List ℕ) (spells : SpellsBook usual_bound before b begun) (limits : WithinLimits marks before b)
+    (short : length text ≤ most_bytes) (all : text ≡ begun ++ rest) where
   -- A text that begins with a book is read up to its end, and then on.
   pub read_through : (r : Answer Book)
-      → ((m : ℕ) → length text - (length head + length begun) < m → lines_deep usual first marks text m (record { rules = before; place = length head + length begun }) ≡ r)
-      → read_book marks text ≡ r
-  unfolding read_book read_lines run lines_deep most_bytes most_nodes most_brackets ◌then◌
+      → ((m : ℕ) → length text - length begun < m → lines_deep marks text m (record { rules = before; place = length begun }) ≡ r) → read_book marks text ≡ r
+  unfolding read_book read_lines run lines_deep most_bytes most_nodes most_brackets
   read_through r after =
-      if_on (Limit 0) _ (le-ltb 4096 (length text) short)
-      ∙ rw (known.read, known.lines)
-      (lines_through usual first marks text spells [] (length head) (length head + length begun) (suc (length text - length head)) rest
-      (record { text = ap (drop (length head)) all ∙ drop-append_seam head (begun ++ rest); ends = refl }) (omega arith)
-      (fit_rules limits) limits.few_nodes limits.few_brackets r after)
+      if_on (Limit 0) (read_lines usual_bound marks text) (le-ltb 4096 (length text) short)
+      ∙ lines_through marks text spells [] 0 (length begun) (suc (length text - 0)) rest (record { text = all; ends = omega arith }) (omega arith)
+      (fit_rules limits) limits.few_nodes limits.few_brackets r after
 
 -- A book that is spelled within the limits is read back.
 pub book_read : {marks : ℕ} {text : List ℕ} {book : Book} → BookOf marks text book → read_book marks text ≡ give book
-unfolding has_ticks begins ascii
-book_read {marks} {text} {book} h =
-    read_through h.head [] (heading_read h.heading h.rules h.all clear) h.spells h.limits h.few_bytes
-    (h.all ∙ ap (λ z. h.head ++ z) (sym (append-nil h.rules))) (give book) last
+book_read {marks} {text} {book} h = read_through [] h.spells h.limits h.few_bytes (sym (append-nil text)) (give book) last
   where
-    clear : h.first ≡ 0 → has_ticks text ≡ false
-    clear = headed_plain h.heading h.rules h.all (ap has_ticks (sym (append-nil h.rules)) ∙ book_plain h.spells [] refl)
-
-    ends : length text ≡ length h.head + length h.rules
-    ends = ap length h.all ∙ length-append h.head h.rules
-
-    last : (m : ℕ) → length text - (length h.head + length h.rules) < m
-        → lines_deep h.usual h.first marks text m (record { rules = book; place = length h.head + length h.rules }) ≡ give book
+    last : (m : ℕ) → length text - length text < m → lines_deep marks text m (record { rules = book; place = length text }) ≡ give book
     last zero lt = absurd (omega arith)
-    last (suc m) lt = lines_end h.usual h.first marks text m book (length h.head + length h.rules) (omega (arith, ends))
+    last (suc m) lt = lines_end marks text m book (length text) (omega arith)

@@ -19,7 +19,7 @@ use Rattle.base.proofs.Lists.{or_fails_left, joined_append}
 use Rattle.base.proofs.Answers.{gives_not_refuses, if_gives, then_gives}
 use Rattle.logic.specs.Book.{Formula, parts, size, timed_right, nodes, Rule, Book, FitBook}
 use Rattle.reading.specs.BookReading.{Line, no_line, line, line_at, over_number, over_mark, over_limit, judge_line, lines_step, read_lines, read_book}
-use Rattle.reading.specs.BookReading.{ReadSoFar, Heading, heading, first_rule, most_bytes, most_nodes, most_brackets}
+use Rattle.reading.specs.BookReading.{ReadSoFar, most_bytes, most_nodes, most_brackets, usual_bound}
 
 give_one : {A : Type 0} {x y : A} → give x ≡ give y → x ≡ y
 give_one e = cc
@@ -40,14 +40,14 @@ with_rule before rule = before ++ (rule ∷ [])
 
 module _ (P : Book → Type 0) (marks : ℕ) (along : (before : Book) (rule : Rule) → JudgedWell marks before rule → P before → P (with_rule before rule))
     (text : List ℕ) where
-  along_line : (k : ℕ) (before : Book) (l : Line) (here : ReadSoFar) → P before → judge_line marks k before l ≡ give here → P here.rules
+  along_line : (before : Book) (l : Line) (here : ReadSoFar) → P before → judge_line marks before l ≡ give here → P here.rules
   unfolding judge_line
-  along_line k before no_line here p e = gives_not_refuses e refl
-  along_line k before (line form f brackets q) here p e =
-      let (a, e1) = if_gives (Number k) (over_number f) _ e in
-      let (b, e2) = if_gives (Mark k) (over_mark marks f) _ e1 in
-      let (c, e3) = if_gives (Limit k) (over_limit before f brackets) _ e2 in
-      let (d, e4) = if_gives (Timed k) (not (timed_right f)) _ e3 in
+  along_line before no_line here p e = gives_not_refuses e refl
+  along_line before (line form f brackets q) here p e =
+      let (a, e1) = if_gives (Number (length before)) (over_number f) _ e in
+      let (b, e2) = if_gives (Mark (length before)) (over_mark marks f) _ e1 in
+      let (c, e3) = if_gives (Limit (length before)) (over_limit before f brackets) _ e2 in
+      let (d, e4) = if_gives (Timed (length before)) (not (timed_right f)) _ e3 in
       subst P (ap (λ z. z.rules) (give_one e4))
       (along before (record { form = form; formula = f })
       (record { brackets = brackets; numbers = a; propositions = b; limits = c; timed = not-false (timed_right f) d }) p)
@@ -56,35 +56,30 @@ module _ (P : Book → Type 0) (marks : ℕ) (along : (before : Book) (rule : Ru
   left : ReadSoFar → ℕ
   left here = length text - here.place
 
-  stuck : ℕ → ReadSoFar → Answer Book
-  stuck first here = refuse (Grammar (first + length here.rules))
+  stuck : ReadSoFar → Answer Book
+  stuck here = refuse (Grammar (length here.rules))
 
-  along_rest : (usual first n : ℕ) (here : ReadSoFar) (book : Book) → P here.rules
-      → to_depth left (stuck first) (lines_step usual first marks text) n here ≡ give book → P book
+  along_rest : (n : ℕ) (here : ReadSoFar) (book : Book) → P here.rules → to_depth left stuck (lines_step usual_bound marks text) n here ≡ give book → P book
   unfolding to_depth stuck lines_step
-  along_rest usual first zero here book p e = gives_not_refuses e refl
-  along_rest usual first (suc n) here book p e = go (leb (length text) here.place) (λ on. along_rest usual first n on book) e
+  along_rest zero here book p e = gives_not_refuses e refl
+  along_rest (suc n) here book p e = go (leb (length text) here.place) (λ on. along_rest n on book) e
     where
       more : ReadSoFar → Answer Book
-      more on = to_depth left (stuck first) (lines_step usual first marks text) n on
-
-      one : Answer ReadSoFar
-      one = judge_line marks (first + length here.rules) here.rules (line_at usual text here.place)
+      more on = to_depth left stuck (lines_step usual_bound marks text) n on
 
       go : (b : Bool) → ((on : ReadSoFar) → P on.rules → more on ≡ give book → P book)
-          → pick b (λ _. give here.rules) (λ _. judge_line marks (first + length here.rules) here.rules (line_at usual text here.place) then more) ≡ give book → P book
+          → pick b (λ _. give here.rules) (λ _. judge_line marks here.rules (line_at usual_bound text here.place) then more) ≡ give book → P book
       go true rest f = subst P (give_one f) p
       go false rest f =
-          let (on, g, h) = then_gives one more f in
-          rest on (along_line (first + length here.rules) here.rules (line_at usual text here.place) on p g) h
+          let (on, g, h) = then_gives (judge_line marks here.rules (line_at usual_bound text here.place)) more f in
+          rest on (along_line here.rules (line_at usual_bound text here.place) on p g) h
 
   -- What passes along every line holds of the book that was read.
   pub along_lines : P [] → (book : Book) → read_book marks text ≡ give book → P book
   unfolding read_book read_lines run left stuck
   along_lines p book e =
       let (a, f) = if_gives (Limit 0) (ltb most_bytes (length text)) _ e in
-      let (h, g, k) = then_gives (heading text) (λ (h : Heading). read_lines h.usual (first_rule text) marks text h.place) f in
-      along_rest h.usual (first_rule text) (suc (length text - h.place)) (record { rules = []; place = h.place }) book p k
+      along_rest (suc (length text - 0)) (record { rules = []; place = 0 }) book p f
 
 -- What a judgement says of each rule alone holds of every rule of the book that was read.
 pub each_rule : (Q : Rule → Type 0) (marks : ℕ) → ((before : Book) (rule : Rule) → JudgedWell marks before rule → Q rule)

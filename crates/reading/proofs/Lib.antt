@@ -6,15 +6,13 @@ pub mod FitInput
 pub mod BookLines
 pub mod TextPlaces
 pub mod FormulaBack
-pub mod SpelledTokens
-pub mod Headings
 pub mod BookBack
+pub mod SpelledTokens
 pub mod SpelledFormulas
 pub mod SpelledLines
 pub mod Spelled
 pub mod ReadBack
 pub mod BookRight
-pub mod ShippedBooks
 pub mod ReadBackInstances
 pub mod LogReading
 pub mod LogRight

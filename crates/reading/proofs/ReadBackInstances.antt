@@ -17,7 +17,7 @@ use Rattle.logic.specs.Book.{timed, timed_right, parts, size, nodes, Book}
 use Rattle.reading.specs.Tokens.{stands, skip, is_digit, digits, value, numeral, number_token, mark_named, mark_at, mark_token, with_equals, comparison_token}
 use Rattle.reading.specs.Grammar.{connectives, connective, Parsed, got, onward, behind, bounded, compared_with, number_or_usual, bound_at, formula_one, formula_two}
 use Rattle.reading.specs.Grammar.{joining, bracketed, two_parts, with_bound, led, marked_unit, unit_at, read_level, read_step, rank, calls_left, formula_at}
-use Rattle.reading.specs.BookReading.{most_bytes, most_nodes, most_brackets, most_ticks, usual_bound, has_ticks, first_rule, ticks_line, heading, Line, no_line, line, ended, worded, line_at, over_number, over_mark, over_limit, judge_line, lines_step, read_lines, read_book}
+use Rattle.reading.specs.BookReading.{most_bytes, most_nodes, most_brackets, most_ticks, usual_bound, Line, no_line, line, ended, worded, line_at, over_number, over_mark, over_limit, judge_line, lines_step, read_lines, read_book}
 
 -- A text, the formula that it spells, and how many brackets stand open in it at most.
 record Instance : Type 0 where
@@ -85,11 +85,11 @@ bounds =
     ∷ spelling "A 0 p0" (always_for (ticks 0) (p 0)) 0
     ∷ spelling "A 254 p0" (always_for (ticks 254) (p 0)) 0
     ∷ spelling "A 007 p0" (always_for (ticks 7) (p 0)) 0
-    ∷ spelling "A p0" (always_for (ticks 40) (p 0)) 0
+    ∷ spelling "A p0" (always_for (ticks 20) (p 0)) 0
     ∷ spelling "E 3 p0" (until (ticks 3) (constant true) (p 0)) 0
-    ∷ spelling "E p0" (until (ticks 40) (constant true) (p 0)) 0
+    ∷ spelling "E p0" (until (ticks 20) (constant true) (p 0)) 0
     ∷ spelling "U 3 (p0, p1)" (until (ticks 3) (p 0) (p 1)) 1
-    ∷ spelling "U (p0, p1)" (until (ticks 40) (p 0) (p 1)) 1
+    ∷ spelling "U (p0, p1)" (until (ticks 20) (p 0) (p 1)) 1
     ∷ []
 
 bounds_read : map read_there bounds ≡ map wanted_there bounds
@@ -102,7 +102,7 @@ nested =
     spelling "A 3 p0 & p1" (and (always_for (ticks 3) (p 0)) (p 1)) 0
     ∷ spelling "A 3 (p0 & p1)" (always_for (ticks 3) (and (p 0) (p 1))) 1
     ∷ spelling "A 1 E 2 N > 3 !p0" (always_for (ticks 1) (until (ticks 2) (constant true) (next more (ticks 3) (proposition false 0)))) 0
-    ∷ spelling "A A E p0" (always_for (ticks 40) (always_for (ticks 40) (until (ticks 40) (constant true) (p 0)))) 0
+    ∷ spelling "A A E p0" (always_for (ticks 20) (always_for (ticks 20) (until (ticks 20) (constant true) (p 0)))) 0
     ∷ spelling "((p0))" (p 0) 2
     ∷ spelling "(T) & ((F) | (p0))" (and (constant true) (or (constant false) (p 0))) 2
     ∷ spelling "U 1 (U 2 (T, p0) | p1, (p2) & p3)" (until (ticks 1) (or (until (ticks 2) (constant true) (p 0)) (p 1)) (and (p 2) (p 3))) 2
@@ -165,7 +165,7 @@ lines_read = refl
 -- ---- books
 
 unfoldable answer_there : ℕ → String → Answer Book
-unfolding line_there has_ticks first_rule ticks_line heading over_number over_mark over_limit judge_line lines_step read_lines read_book most_bytes most_nodes most_brackets most_ticks ◌if◌else◌ ◌then◌ nodes size parts joined timed timed_right
+unfolding line_there over_number over_mark over_limit judge_line lines_step read_lines read_book most_bytes most_nodes most_brackets most_ticks ◌if◌else◌ ◌then◌ nodes size parts joined timed timed_right
 answer_there marks text = read_book marks (ascii text)
 
 -- the paper's examples under 3 marks; the first line that is turned down gives the number and the place
@@ -199,15 +199,3 @@ answers_read :
     ∷ []
 unfolding answer_there
 answers_read = refl
-
--- 02, item 6: a number left out is 40, or that of the `ticks` line, on every line
-left_out_read :
-    map (answer_there 3) ("start U (p0, p1)\n" ∷ "ticks  254\nalways A p0\nstart E p1 & A 3 p2\n" ∷ [])
-    ≡ give (record { form = at_start; formula = until (ticks 40) (p 0) (p 1) } ∷ [])
-    ∷ give
-    (record { form = everywhere; formula = always_for (ticks 254) (p 0) }
-    ∷ record { form = at_start; formula = and (until (ticks 254) (constant true) (p 1)) (always_for (ticks 3) (p 2)) }
-    ∷ [])
-    ∷ []
-unfolding answer_there
-left_out_read = refl

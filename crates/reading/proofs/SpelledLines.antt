@@ -15,7 +15,7 @@ use Rattle.reading.specs.BookReading as Reading
 use Rattle.reading.specs.BookReading.{ended, worded, line_at}
 use Rattle.reading.specs.Spelling.{spaces, word, SpellsLine, spells_line}
 use Rattle.reading.proofs.TextPlaces.{Span, span_left, span_right}
-use Rattle.reading.proofs.SpelledTokens.{pick_by, Passage, passage_inside, passages_end, passage_before, passages_joined, stands_passage, gap, some_gap, spaces_passage}
+use Rattle.reading.proofs.SpelledTokens.{pick_by, Passage, passage_inside, passages_end, passage_before, passages_joined, stands_passage, gap, spaces_passage}
 use Rattle.reading.proofs.SpelledFormulas.{formula_spelled}
 use Rattle.reading.proofs.BookBack.{line_some}
 
@@ -29,6 +29,11 @@ pub record LineSpelledAt (usual : ℕ) (s : List ℕ) (p : ℕ) (rule : Rule) (b
 unfoldable LineSound : ℕ → List ℕ → ℕ → Reading.Line → Type 0
 LineSound usual s p Reading.no_line = Unit {0}
 LineSound usual s p (Reading.line form f b e) = LineSpelledAt usual s p (record { form = form; formula = f }) b e
+
+-- spaces at q, the first of them given
+some_gap : (s : List ℕ) (q : ℕ) (rest : List ℕ) → drop q s ≡ 32 ∷ rest → (i : ℕ) × (gap s q ≡ suc i)
+unfolding gap leading
+some_gap s q rest e = (leading (eqb 32) rest, ap (leading (eqb 32)) e)
 
 module _ (usual : ℕ) (s : List ℕ) (p : ℕ) where
   -- the formula and the end of a line, behind its word and i + 1 spaces

@@ -102,11 +102,6 @@ spaces_front (b ∷ x) = go (eqb 32 b) refl (spaces_front x)
 unfoldable pub gap : List ℕ → ℕ → ℕ
 gap s p = leading (eqb 32) (drop p s)
 
--- spaces at q, the first of them given
-pub some_gap : (s : List ℕ) (q : ℕ) (rest : List ℕ) → drop q s ≡ 32 ∷ rest → (i : ℕ) × (gap s q ≡ suc i)
-unfolding gap leading
-some_gap s q rest e = (leading (eqb 32) rest, ap (leading (eqb 32)) e)
-
 pub spaces_passage : (s : List ℕ) (p : ℕ) → Passage s p (spaces (gap s p)) (skip s p)
 unfolding skip gap
 spaces_passage s p =

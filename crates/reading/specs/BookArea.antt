@@ -1,4 +1,4 @@
--- A book that was read, as bytes in a lent area: its nodes, a line for each rule, and how many there are of each. The crates above read them there and
+-- A book that was read, as bytes in a lent area: its nodes, its lines, and how many there are of each. The crates above read them there and
 -- need no text.
 use Rattle.std.specs.Prelude.{ℕ, suc, ◌+◌, ◌*◌, ◌≡◌, List, [], ◌∷◌, ◌++◌, length, take, drop}
 use Rattle.base.specs.Choice.{pick}
@@ -85,11 +85,11 @@ form_code everywhere = 1
 unfoldable pub traits_code : Formula → ℕ
 traits_code f = pick (timed f) (λ _. 1) (λ _. 0)
 
--- the four bytes of rule i, whose nodes begin with number n: its form, the node of its formula, its own number and its traits
+-- the four bytes of line i, whose nodes begin with number n: its form, the node of its formula, its own number and its traits
 unfoldable pub line_bytes : ℕ → ℕ → Rule → List ℕ
 line_bytes i n rule = form_code rule.form ∷ root n rule.formula ∷ i ∷ traits_code rule.formula ∷ []
 
--- the bytes of the rules from number i on, whose nodes begin with number n
+-- the bytes of the lines from number i on, whose nodes begin with number n
 unfoldable pub lines_bytes : ℕ → ℕ → Book → List ℕ
 lines_bytes i n [] = []
 lines_bytes i n (rule ∷ rules) = line_bytes i n rule ++ lines_bytes (suc i) (n + size rule.formula) rules

@@ -1,6 +1,5 @@
--- 01, 'Rule book' and 'Why a call is turned down', and 02, item 6: the `ticks` line, lines, limits, and the book of a text or why there is none.
+-- 01, 'Rule book' and 'Why a call is turned down': lines, limits, and the book of a text or why there is none.
 use Rattle.std.specs.Prelude.{ℕ, ◌+◌, ◌-◌, Bool, false, ◌||◌, not, List, [], ◌∷◌, ◌++◌, length, drop, leb, ltb}
-use Rattle.std.proofs.Math.Option.{Option, none, some}
 use Rattle.base.specs.Choice.{pick}
 use Rattle.base.specs.Lists.{begins}
 use Rattle.base.specs.Text.{byte, ascii}
@@ -8,7 +7,7 @@ use Rattle.base.specs.Recursion.{run}
 use Rattle.base.specs.Answers.{Answer, refuse, give, ◌if◌else◌, ◌then◌}
 use Rattle.base.specs.declared.Refusal.TheVariants.{Grammar, Number, Mark, Limit, Timed}
 use Rattle.logic.specs.Book.{Formula, constant, proposition, and, or, next, always_for, until, timed_right, size, nodes, Form, at_start, everywhere, Book}
-use Rattle.reading.specs.Tokens.{stands, skip, Token, number_token}
+use Rattle.reading.specs.Tokens.{stands, skip}
 use Rattle.reading.specs.Grammar.{Parsed, bad, got, formula_at}
 
 -- the most bytes, nodes and open brackets of a book, and the largest number
@@ -24,41 +23,9 @@ most_brackets = 16
 unfoldable pub most_ticks : ℕ
 most_ticks = 254
 
--- ---- 02, item 6: the number that is meant where none is written after A, E or U
-
--- without a `ticks` line
+-- a number left out after A, E or U
 unfoldable pub usual_bound : ℕ
-usual_bound = 40
-
--- What a book begins with: that number, and the position of the first rule.
-pub record Heading : Type 0 where
-  pub usual : ℕ
-  pub place : ℕ
-
--- the text begins with the word of a `ticks` line and a space
-unfoldable pub has_ticks : List ℕ → Bool
-has_ticks s = begins (ascii "ticks ") s
-
--- the number of the first rule's line: a `ticks` line counts as line 0
-unfoldable pub first_rule : List ℕ → ℕ
-first_rule s = pick (has_ticks s) (λ _. 1) (λ _. 0)
-
--- a `ticks` line with the number that was read behind its word: 6, then 7
-unfoldable pub ticks_line : List ℕ → Option (Token ℕ) → Answer Heading
-ticks_line s none = refuse (Grammar 0)
-ticks_line s (some n) =
-    Grammar 0 if not (stands s n.next (byte "\n")) else
-    Number 0 if ltb most_ticks n.said else
-    give (record { usual = n.said; place = n.next + 1 })
-
--- what the text begins with
-unfoldable pub heading : List ℕ → Answer Heading
-heading s =
-    pick (has_ticks s)
-    (λ _. ticks_line s (number_token s (skip s 5)))
-    (λ _. give (record { usual = usual_bound; place = 0 }))
-
--- ---- lines
+usual_bound = 20
 
 -- A line that was read: its form, formula and open brackets, and the position after its byte 10.
 pub data Line : Type 0 where
@@ -110,31 +77,27 @@ pub record ReadSoFar : Type 0 where
   pub rules : Book
   pub place : ℕ
 
--- line n in number order: 6, 7, 8, 9, 10, n as place; or how far the reading has come with it
-unfoldable pub judge_line : ℕ → ℕ → Book → Line → Answer ReadSoFar
-judge_line marks n before no_line = refuse (Grammar n)
-judge_line marks n before (line form f brackets p) =
-    Number n if over_number f else
-    Mark n if over_mark marks f else
-    Limit n if over_limit before f brackets else
-    Timed n if not (timed_right f) else
+-- a line in number order: 6, 7, 8, 9, 10, its number as place; or how far the reading has come with it
+unfoldable pub judge_line : ℕ → Book → Line → Answer ReadSoFar
+judge_line marks before no_line = refuse (Grammar (length before))
+judge_line marks before (line form f brackets p) =
+    Number (length before) if over_number f else
+    Mark (length before) if over_mark marks f else
+    Limit (length before) if over_limit before f brackets else
+    Timed (length before) if not (timed_right f) else
     give (record { rules = before ++ (record { form = form; formula = f } ∷ []); place = p })
 
--- the lines from here on, one after the other, to the end of the text; the first rule stands in line `first`
-unfoldable pub lines_step : ℕ → ℕ → ℕ → List ℕ → ReadSoFar → (ReadSoFar → Answer Book) → Answer Book
-lines_step usual first marks s here more =
+-- the lines from here on, one after the other, to the end of the text
+unfoldable pub lines_step : ℕ → ℕ → List ℕ → ReadSoFar → (ReadSoFar → Answer Book) → Answer Book
+lines_step usual marks s here more =
     pick (leb (length s) here.place)
     (λ _. give here.rules)
-    (λ _. judge_line marks (first + length here.rules) here.rules (line_at usual s here.place) then more)
+    (λ _. judge_line marks here.rules (line_at usual s here.place) then more)
 
--- the rules of a text from position p on
-unfoldable pub read_lines : ℕ → ℕ → ℕ → List ℕ → ℕ → Answer Book
-read_lines usual first marks s p =
-    run (λ here. length s - here.place) (λ here. refuse (Grammar (first + length here.rules))) (lines_step usual first marks s)
-    (record { rules = []; place = p })
+unfoldable pub read_lines : ℕ → ℕ → List ℕ → Answer Book
+read_lines usual marks s =
+    run (λ here. length s - here.place) (λ here. refuse (Grammar (length here.rules))) (lines_step usual marks s) (record { rules = []; place = 0 })
 
 -- the book of a text under P marks: 9 for its length first, then by line
 unfoldable pub read_book : ℕ → List ℕ → Answer Book
-read_book marks s =
-    Limit 0 if ltb most_bytes (length s) else
-    (heading s then λ h. read_lines h.usual (first_rule s) marks s h.place)
+read_book marks s = Limit 0 if ltb most_bytes (length s) else read_lines usual_bound marks s

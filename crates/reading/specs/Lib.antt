@@ -2,7 +2,6 @@ pub mod TowerReading
 pub mod Tokens
 pub mod Grammar
 pub mod BookReading
-pub mod BookBefore
 pub mod BookArea
 pub mod TableReading
 pub mod LogReading

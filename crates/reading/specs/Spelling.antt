@@ -8,7 +8,7 @@ use Rattle.base.specs.Text.{byte, ascii}
 use Rattle.logic.specs.Time.{ticks}
 use Rattle.logic.specs.Book.{Comparison, no_more, less, no_less, more, Formula, constant, proposition, and, or, next, always_for, until, within}
 use Rattle.logic.specs.Book.{nodes, Form, at_start, everywhere, Rule, Book, FitBook}
-use Rattle.reading.specs.BookReading.{most_bytes, most_nodes, most_brackets, most_ticks, usual_bound, over_number, over_mark}
+use Rattle.reading.specs.BookReading.{most_bytes, most_nodes, most_brackets, usual_bound, over_number, over_mark}
 
 -- ---- tokens
 
@@ -110,26 +110,10 @@ pub record WithinLimits (marks : ℕ) (book : Book) (brackets : ℕ) : Type 0 wh
   pub few_brackets : brackets ≤ most_brackets
   pub timed : FitBook book
 
--- The bytes are a `ticks` line of the number: its word, at least one space, the number, and byte 10 right behind it (02, item 6).
-pub data SpellsTicks : ℕ → List ℕ → Type 0 where
-  spells_ticks : (i : ℕ) {count n : ℕ} {number : List ℕ} → Digits count n number
-      → SpellsTicks n (joined (ascii "ticks" ∷ spaces (suc i) ∷ number ∷ ascii "\n" ∷ []))
-
--- The bytes stand before the rules: none, or a `ticks` line; with the number meant where one is left out, and the number of lines.
-pub data SpellsHeading : (usual lines : ℕ) → List ℕ → Type 0 where
-  no_ticks : SpellsHeading usual_bound 0 []
-  some_ticks : {n : ℕ} {line : List ℕ} → SpellsTicks n line → n ≤ most_ticks → SpellsHeading n 1 line
-
 -- The text is one of the book, by the rules and within the limits.
 pub record BookOf (marks : ℕ) (text : List ℕ) (book : Book) : Type 0 where
-  pub usual : ℕ
-  pub first : ℕ
-  pub head : List ℕ
-  pub rules : List ℕ
   pub brackets : ℕ
-  pub heading : SpellsHeading usual first head
-  pub spells : SpellsBook usual book brackets rules
-  pub all : text ≡ head ++ rules
+  pub spells : SpellsBook usual_bound book brackets text
   pub limits : WithinLimits marks book brackets
   pub few_bytes : length text ≤ most_bytes
 

@@ -39,7 +39,7 @@ use Rattle.checker_runs.proofs.Breaks.{move_breaks}
 use Rattle.why_path.specs.Ways.{from_in, action_in, step_in, NotedStep, StepsNoted, MetFromLower}
 use Rattle.why.specs.Showing.{ToldBroken}
 
-module _ (tower text table nodes graph : List ℕ) (first n i a : ℕ) (down : ToldBroken tower text table nodes graph first n i a) where
+module _ (tower text table nodes graph : List ℕ) (n i a : ℕ) (down : ToldBroken tower text table nodes graph n i a) where
   -- the tower, the book and the table of the files, and the table as a tower
   abbrev T : Tower
   T = tower_of tower

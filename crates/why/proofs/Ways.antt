@@ -1,14 +1,12 @@
 -- A law for each way through this crate's code: from what is known there, the answer and the list are what the definitions say.
-use Prim.Native.Nat.{ℕ, ◌+◌, ◌≤◌, ◌<◌}
+use Prim.Native.Nat.{ℕ, ◌≤◌, ◌<◌}
 use native.Mathlib.Omega.{arith}
 use mathlib.Core.Path.{◌≡◌, refl, sym, ◌∙◌, ap, ap₂, subst}
-use mathlib.Core.Bool.{Bool, true, false, not}
+use mathlib.Core.Bool.{Bool, true, false}
 use mathlib.Core.List.{List, [], ◌∷◌, ◌++◌}
-use lib.ListN.{length, get_or, take, drop, length-append}
+use lib.ListN.{length, take, drop, length-append}
 use lib.Seq.{take-append_seam}
 use lib.Dec.{ltb}
-use mir.Syntax.{w8, w64}
-use mir.Val.{Fits}
 use Rattle.base.specs.Choice.{pick}
 use Rattle.base.specs.Bytes.{long_enough, cleared}
 use Rattle.base.specs.Answers.{why_said, Answer, refuse, give}
@@ -20,22 +18,17 @@ use Rattle.base.specs.declared.Verdict.{Verdict}
 use Rattle.base.specs.declared.Verdict.TheVariants as Check
 use Rattle.base.specs.declared.WhyAnswer.{WhyAnswer}
 use Rattle.base.specs.declared.WhyAnswer.TheVariants as Shows
-use Rattle.base.proofs.Lists.{place_of_le}
 use Rattle.base.proofs.Answers.{if_on, if_refuses}
 use Rattle.first_runs.proofs.Sooner.{length_snoc}
-use Rattle.logic.specs.Tower.{Tower, tower_of}
-use Rattle.logic.specs.Book.{Book}
+use Rattle.logic.specs.Tower.{tower_of}
 use Rattle.logic.specs.Runs.{trace, IsRun}
 use Rattle.logic.specs.Tables.{row_at, rows_tower, Allows, AllowsFrom}
 use Rattle.logic.specs.Why.{Soonest, AllowedBroken, rule_at}
 use Rattle.logic.specs.declared.Position.{Position}
 use Rattle.logic.proofs.Canonical.{arrives}
-use Rattle.judging.specs.Judging.{judged_rule, lowest_line, broken_place}
+use Rattle.judging.specs.Judging.{lowest_line, broken_place}
 use Rattle.judging.proofs.Judged.{lowest_line_is}
-use Rattle.reading.specs.BookReading.{has_ticks, first_rule}
-use Rattle.reading.specs.BookArea.{line_count_at}
 use Rattle.reading.specs.TableReading.{table_of}
-use Rattle.reading.proofs.SpelledTokens.{pick_by}
 use Rattle.alternatives.specs.Pairs.{most_pairs}
 use Rattle.outcome.specs.Areas.{check_areas}
 use Rattle.outcome.specs.Check.{checked_file, verdict}
@@ -57,7 +50,7 @@ use Rattle.why.proofs.Runs.{fit, laid, finding, known, from_lower_pairs, way_to,
 
 -- ---- show_run
 
-module _ (tower nodes graph : List ℕ) (first n i a actions : ℕ) (some-table : ToldBrokenSome tower nodes graph first n i a)
+module _ (tower nodes graph : List ℕ) (n i a actions : ℕ) (some-table : ToldBrokenSome tower nodes graph n i a)
     (at-actions : actions ≡ (tower_of tower).actions) where
   -- The graph is there, every pair but the first is met from a lower one, and the broken step is one of its steps.
   pub write_held : HoldsGraph n actions graph
@@ -67,7 +60,7 @@ module _ (tower nodes graph : List ℕ) (first n i a actions : ℕ) (some-table 
   pub write_lower : MetFromLower n actions graph
   write_lower =
       subst (λ m. MetFromLower n m graph) (sym at-actions)
-      (from_lower_pairs tower some-table.text some-table.table nodes graph first n i a some-table.is)
+      (from_lower_pairs tower some-table.text some-table.table nodes graph n i a some-table.is)
 
   pub write_pair : i < n
   write_pair = some-table.is.found.first.pair
@@ -76,7 +69,7 @@ module _ (tower nodes graph : List ℕ) (first n i a actions : ℕ) (some-table 
   write_action = subst (λ m. a < m) (sym at-actions) some-table.is.found.first.action
 
   module _ (r : Written) (ways list list-after : List ℕ) (wrote : RunWritten r n actions graph i a ways list list-after) where
-    module _ (text table : List ℕ) (down : ToldBroken tower text table nodes graph first n i a) where
+    module _ (text table : List ℕ) (down : ToldBroken tower text table nodes graph n i a) where
       abbrev run : List ℕ
       run = shown_run (tower_of tower) down.found.held.book (table_of table)
 
@@ -89,8 +82,8 @@ module _ (tower nodes graph : List ℕ) (first n i a actions : ℕ) (some-table 
       -- What was written is the run that is shown, if there was room for it.
       written_run : (r ≡ room_for list run) × (list-after ≡ list_with list run)
       written_run =
-          let (w, way, short) = way_to tower text table nodes graph first n i a down ways noted most in
-          let same = way_shown tower text table nodes graph first n i a down ways noted most w way in
+          let (w, way, short) = way_to tower text table nodes graph n i a down ways noted most in
+          let same = way_shown tower text table nodes graph n i a down ways noted most w way in
           (wrote.says w way ∙ ap (room_for list) (sym same), wrote.written w way ∙ ap (list_with list) (sym same))
 
       too_short : (b : Bool) (k : ℕ) → Writes.TooShort ≡ pick b (λ _. Writes.TooShort) (λ _. Writes.Run k) → b ≡ true
@@ -104,10 +97,10 @@ module _ (tower nodes graph : List ℕ) (first n i a actions : ℕ) (some-table 
       abbrev file : ℕ → Answer WhyFinding
       file room = why_file tower text table room
 
-      shown_file : (room : ℕ) → file room ≡ shown_in room (shown_of (first_rule text) (tower_of tower) down.found.held.book run)
+      shown_file : (room : ℕ) → file room ≡ shown_in room (shown_of (tower_of tower) down.found.held.book run)
       shown_file room =
           files_why tower text table (tower_of tower) down.found.held.book (table_of table)
-          (fit tower text table nodes graph first n i a down) (laid tower text table nodes graph first n i a down) (finding tower text table nodes graph first n i a down) room
+          (fit tower text table nodes graph n i a down) (laid tower text table nodes graph n i a down) (finding tower text table nodes graph n i a down) room
 
       -- where it is too short,
       module _ (e : r ≡ Writes.TooShort) where
@@ -117,7 +110,7 @@ module _ (tower nodes graph : List ℕ) (first n i a actions : ℕ) (some-table 
 
         short_file : file (length list) ≡ refuse Output
         unfolding shown_in shown_of
-        short_file = shown_file (length list) ∙ if_refuses Output (give (shows (shown_of (first_rule text) (tower_of tower) down.found.held.book run))) less
+        short_file = shown_file (length list) ∙ if_refuses Output (give (shows (shown_of (tower_of tower) down.found.held.book run))) less
 
         short_list : list-after ≡ list
         unfolding list_with
@@ -129,9 +122,9 @@ module _ (tower nodes graph : List ℕ) (first n i a actions : ℕ) (some-table 
         unfolding room_for
         there = room_there (ltb (length list) (length run)) (length run) size (sym e ∙ written_run.0)
 
-        long_file : file (length list) ≡ give (shows (shown_of (first_rule text) (tower_of tower) down.found.held.book run))
+        long_file : file (length list) ≡ give (shows (shown_of (tower_of tower) down.found.held.book run))
         unfolding shown_in shown_of
-        long_file = shown_file (length list) ∙ if_on Output (give (shows (shown_of (first_rule text) (tower_of tower) down.found.held.book run))) there.0
+        long_file = shown_file (length list) ∙ if_on Output (give (shows (shown_of (tower_of tower) down.found.held.book run))) there.0
 
         long_list : list-after ≡ run ++ drop (length run) list
         unfolding list_with
@@ -142,25 +135,25 @@ module _ (tower nodes graph : List ℕ) (first n i a actions : ℕ) (some-table 
 
         soonest : Soonest (AllowedBroken (tower_of tower) down.found.held.book (table_of table)) run
         soonest =
-            let able = known tower text table nodes graph first n i a down in
+            let able = known tower text table nodes graph n i a down in
             soonest_shown (tower_of tower) down.found.held.book (table_of table) able
-            (turned_down (tower_of tower) down.found.held.book (table_of table) able (finding tower text table nodes graph first n i a down))
+            (turned_down (tower_of tower) down.found.held.book (table_of table) able (finding tower text table nodes graph n i a down))
 
         is_run : IsRun (tower_of tower) run
         unfolding IsRun Allows AllowsFrom
         is_run =
-            let able = known tower text table nodes graph first n i a down in
+            let able = known tower text table nodes graph n i a down in
             let follow =
             follows (tower_of tower) down.found.held.book (table_of table) able
-            (turned_down (tower_of tower) down.found.held.book (table_of table) able (finding tower text table nodes graph first n i a down)) in
+            (turned_down (tower_of tower) down.found.held.book (table_of table) able (finding tower text table nodes graph n i a down)) in
             let (s, led) = soonest.is.allowed in
             ((row_at (table_of table) s).state, (arrives (tower_of tower) (table_of table) follow run s led).state)
 
         can_judge : RunGiven tower nodes list-after size
         unfolding most_pairs
         can_judge =
-            let (w, way, short) = way_to tower text table nodes graph first n i a down ways noted most in
-            let same = way_shown tower text table nodes graph first n i a down ways noted most w way in
+            let (w, way, short) = way_to tower text table nodes graph n i a down ways noted most in
+            let same = way_shown tower text table nodes graph n i a down ways noted most w way in
             let low = down.found.first.pair in
             record {
               fit = down.found.fit;
@@ -172,7 +165,7 @@ module _ (tower nodes graph : List ℕ) (first n i a actions : ℕ) (some-table 
             }
 
     -- 16.
-    pub run_short : r ≡ Writes.TooShort → ShowsRun (Shows.Refused Output) tower nodes graph first n i a list list-after
+    pub run_short : r ≡ Writes.TooShort → ShowsRun (Shows.Refused Output) tower nodes graph n i a list list-after
     unfolding why_answer why_list
     run_short e =
         record {
@@ -184,67 +177,49 @@ module _ (tower nodes graph : List ℕ) (first n i a actions : ℕ) (some-table 
     pub run_judgeable : (size : ℕ) → r ≡ Writes.Run size → RunGiven tower nodes list-after size
     run_judgeable size e = can_judge some-table.text some-table.table some-table.is size e
 
-    -- and is shown with its line, which stands below the first rule's, and its position.
-    pub run_shown : (size line : ℕ) (place : Place) → r ≡ Writes.Run size → RunJudged place tower nodes list-after size → line ≡ first + place.line
-        → ShowsRun (Shows.Shown size line place.position.0) tower nodes graph first n i a list list-after
+    -- and is shown with its line and its position.
+    pub run_shown : (size : ℕ) (place : Place) → r ≡ Writes.Run size → RunJudged place tower nodes list-after size
+        → ShowsRun (Shows.Shown size place.line place.position.0) tower nodes graph n i a list list-after
     unfolding why_answer why_list shown_of place_in
-    run_shown size line place e judged is_line =
+    run_shown size place e judged =
         record {
           answer = λ text table down. by text table down;
           written = λ text table down. long_list text table down size e ∙ sym (ap (λ o. why_list o list) (long_file text table down size e));
         }
       where
-        by : (text table : List ℕ) (down : ToldBroken tower text table nodes graph first n i a)
-            → Shows.Shown size line place.position.0 ≡ why_answer (why_file tower text table (length list))
+        by : (text table : List ℕ) (down : ToldBroken tower text table nodes graph n i a)
+            → Shows.Shown size place.line place.position.0 ≡ why_answer (why_file tower text table (length list))
         by text table down =
             let h = down.found.held in
             let at-line = judged.line h ∙ ap (lowest_line (tower_of tower) h.book) (front text table down size e) in
             let low =
             (lowest_line_is (tower_of tower) h.book (run text table down) (soonest text table down size e).is.broken).inside in
             let at_place = judged.place h (subst (λ k. k < length h.book) (sym at-line) low) in
-            shown_same size (length (run text table down)) line (first_rule text + lowest_line (tower_of tower) h.book (run text table down))
+            shown_same size (length (run text table down)) place.line (lowest_line (tower_of tower) h.book (run text table down))
             place.position (place_in (tower_of tower) h.book (run text table down) (lowest_line (tower_of tower) h.book (run text table down)))
-            (there text table down size e).1 (is_line ∙ ap₂ (λ m k. m + k) down.line at-line)
+            (there text table down size e).1 at-line
             (at_place ∙ ap₂ (λ w k. broken_place (tower_of tower) (trace (tower_of tower) w) (rule_at h.book k).form (rule_at h.book k).formula) (front text table down size e) at-line)
             ∙ sym (ap why_answer (long_file text table down size e))
           where
             shown_same : (m k : ℕ) (l j : ℕ) (p q : Position) → m ≡ k → l ≡ j → p ≡ q → Shows.Shown m l p.0 ≡ Shows.Shown k j q.0
             shown_same m k l j p q e f g = let h = ap (λ x. x.0) g in cc
 
--- The line is a small number: at most one line stands before the first rule, and the area counts the rules in a byte.
-first_low : (text : List ℕ) → first_rule text ≤ 1
-unfolding first_rule
-first_low text = pick_by (λ m. m ≤ 1) (has_ticks text) _ _ (λ _. omega arith) (λ _. omega arith)
-
-lowest_low : (tower : Tower) (book : Book) (run : List ℕ) → lowest_line tower book run ≤ length book
-unfolding lowest_line
-lowest_low tower book run = place_of_le (λ rule. not (judged_rule tower (trace tower run) rule.form rule.formula)) book
-
-pub line_fits : (tower nodes graph run : List ℕ) (first n i a size : ℕ) (place : Place) → ToldBrokenSome tower nodes graph first n i a
-    → RunJudged place tower nodes run size → ((j : ℕ) → Fits w8 (get_or nodes j 0)) → Fits w64 (first + place.line)
-line_fits tower nodes graph run first n i a size place some-table judged bytes =
-    let h = some-table.is.found.held in
-    let low = lowest_low (tower_of tower) h.book (take size run) in
-    let one = first_low some-table.text in
-    omega (arith, some-table.is.line, judged.line h, h.held.holds.line_count, bytes line_count_at)
-
 -- ---- show_files
 
-module _ (tower text table : List ℕ) (r : Examined) (nodes graph : List ℕ) (first n i a : ℕ) (found : Examines r tower text table nodes graph)
-    (e : r ≡ Found.Broken n i a) (is_first : first ≡ first_rule text) where
-  told : ToldBroken tower text table nodes graph first n i a
+module _ (tower text table : List ℕ) (r : Examined) (nodes graph : List ℕ) (n i a : ℕ) (found : Examines r tower text table nodes graph)
+    (e : r ≡ Found.Broken n i a) where
+  told : ToldBroken tower text table nodes graph n i a
   told =
       record {
         found = found.found n i a e;
         told = broken_finding (checked_file tower text table) (sym found.says ∙ ap verdict_of e);
-        line = is_first;
       }
 
   -- Where it is 14 e, the run decides.
-  pub files_told : ToldBrokenSome tower nodes graph first n i a
+  pub files_told : ToldBrokenSome tower nodes graph n i a
   files_told = record { text = text; table = table; is = told }
 
-  pub files_shown : (x : WhyAnswer) (list after : List ℕ) → ShowsRun x tower nodes graph first n i a list after → ShowsFiles x tower text table list after
+  pub files_shown : (x : WhyAnswer) (list after : List ℕ) → ShowsRun x tower nodes graph n i a list after → ShowsFiles x tower text table list after
   files_shown x list after shown = record { answer = shown.answer text table told; written = shown.written text table told }
 
 module _ (tower text table list : List ℕ) (r : Examined) (nodes graph : List ℕ) (found : Examines r tower text table nodes graph) where

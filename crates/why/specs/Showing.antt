@@ -3,27 +3,25 @@ use Rattle.std.specs.Prelude.{ℕ, ◌≡◌, List, [], ◌∷◌, length}
 use Rattle.base.specs.Answers.{why_said, give}
 use Rattle.base.specs.declared.Reason.TheVariants.{Broken}
 use Rattle.base.specs.declared.WhyAnswer.{WhyAnswer}
-use Rattle.reading.specs.BookReading.{first_rule}
 use Rattle.outcome.specs.Check.{not_good, checked_file}
 use Rattle.why_outcome.specs.Why.{why_file, why_answer, why_list, why_outcome}
 use Rattle.checker_runs.specs.Examining.{BrokenFound}
 
--- The checker says 14 e of these files, the graph's first broken step is this one, and the first rule stands in line `first`.
-pub record ToldBroken (tower text table nodes graph : List ℕ) (first n i a : ℕ) : Type 0 where
+-- The checker says 14 e of these files, and the graph's first broken step is this one.
+pub record ToldBroken (tower text table nodes graph : List ℕ) (n i a : ℕ) : Type 0 where
   pub found : BrokenFound tower text table nodes graph n i a
   pub told : checked_file tower text table ≡ give (not_good Broken)
-  pub line : first ≡ first_rule text
 
 -- It does so of some book and some table.
-pub record ToldBrokenSome (tower nodes graph : List ℕ) (first n i a : ℕ) : Type 0 where
+pub record ToldBrokenSome (tower nodes graph : List ℕ) (n i a : ℕ) : Type 0 where
   pub text : List ℕ
   pub table : List ℕ
-  pub is : ToldBroken tower text table nodes graph first n i a
+  pub is : ToldBroken tower text table nodes graph n i a
 
 -- The answer and the list, for whatever book and table it is.
-pub record ShowsRun (r : WhyAnswer) (tower nodes graph : List ℕ) (first n i a : ℕ) (list list-after : List ℕ) : Type 0 where
-  pub answer : (text table : List ℕ) → ToldBroken tower text table nodes graph first n i a → r ≡ why_answer (why_file tower text table (length list))
-  pub written : (text table : List ℕ) → ToldBroken tower text table nodes graph first n i a
+pub record ShowsRun (r : WhyAnswer) (tower nodes graph : List ℕ) (n i a : ℕ) (list list-after : List ℕ) : Type 0 where
+  pub answer : (text table : List ℕ) → ToldBroken tower text table nodes graph n i a → r ≡ why_answer (why_file tower text table (length list))
+  pub written : (text table : List ℕ) → ToldBroken tower text table nodes graph n i a
       → list-after ≡ why_list (why_file tower text table (length list)) list
 
 -- The answer for the three files, and the list.

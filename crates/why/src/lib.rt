@@ -12,8 +12,8 @@ use base::{Refusal, WhyAnswer};
 use checker_runs::Examined;
 use why_path::Written;
 
-// The run over pair i of n and broken by action a, its line, where the first rule stands in line `first`,
-// and its position; 16 if the list is too short for it.
+// The run over pair i of n and broken by action a, its line and its position; 16 if the list is too
+// short for it.
 fn show_run(
     tower: &[u8],
     list: &mut [u8],
@@ -22,16 +22,15 @@ fn show_run(
     index: &mut [u8],
     graph: &[u8],
     room: &mut [u8],
-    first: usize,
     n: usize,
     i: usize,
     a: usize,
 ) -> WhyAnswer
-    requires told_broken_some { ToldBrokenSome tower.now nodes.now graph.now first n i a }
+    requires told_broken_some { ToldBrokenSome tower.now nodes.now graph.now n i a }
     requires pairs_area_in_bounds { pairs_area ≤ length pairs.old }
     requires index_area_in_bounds { index_area ≤ length index.old }
     requires room_area_in_bounds { room_area ≤ length room.old }
-    ensures { ShowsRun result tower.now nodes.now graph.now first n i a list.old list.new }
+    ensures { ShowsRun result tower.now nodes.now graph.now n i a list.old list.new }
 {
     match why_path::write_run(graph, n, file_tower::actions(tower), i, a, index, list) {
         Written::TooShort => WhyAnswer::Refused(Refusal::Output),
@@ -39,7 +38,7 @@ fn show_run(
             let place = why_lines::judge(tower, nodes, list, size, room, index, pairs);
             WhyAnswer::Shown {
                 length: size,
-                line: first + place.line,
+                line: place.line,
                 position: place.position.0,
             }
         }
@@ -71,17 +70,7 @@ fn show_files(
             pair,
             action,
         } => show_run(
-            tower,
-            list,
-            nodes,
-            pairs,
-            index,
-            graph,
-            room,
-            book_heading::first_rule(text),
-            n,
-            pair,
-            action,
+            tower, list, nodes, pairs, index, graph, room, n, pair, action,
         ),
     }
 }

@@ -1,5 +1,5 @@
 -- The entry's answer and what the list holds then are the right ones, and no others are; which numbers it refuses with, and what becomes of the areas.
-use Prim.Native.Nat.{ℕ, ◌+◌, ◌≤◌, ◌<◌}
+use Prim.Native.Nat.{ℕ, ◌≤◌, ◌<◌}
 use mathlib.Core.Path.{◌≡◌, refl, sym, ◌∙◌, ap, subst}
 use mathlib.Core.Bool.{Bool, true, false, ◌||◌}
 use mathlib.Core.List.{List, [], ◌∷◌, ◌++◌}
@@ -30,7 +30,6 @@ use Rattle.logic.proofs.Canonical.{FollowsRuns}
 use Rattle.alternatives.specs.Pairs.{most_pairs, over_alternatives}
 use Rattle.alternatives.proofs.Theorems.{tried_unbroken}
 use Rattle.judging.specs.Judging.{lowest_line}
-use Rattle.reading.specs.BookReading.{first_rule}
 use Rattle.outcome.specs.Areas.{check_areas}
 use Rattle.outcome.specs.Calls.{FitFiles, FitTable}
 use Rattle.outcome.specs.Check.{Finding, good_table, not_good, over_items, some_broken, judge, checked_file, verdict}
@@ -162,7 +161,7 @@ module _ (tower-file text file : List ℕ) (tower : Tower) (book : Book) (table 
 
   -- Where the list has room for the run it is shown, and else it is 16.
   abbrev shown : Shown
-  shown = shown_of (first_rule text) tower book run
+  shown = shown_of tower book run
 
   pub files_why : (room : ℕ) → why_file tower-file text file room ≡ shown_in room shown
   unfolding why_file FitTable why_behind
@@ -176,7 +175,7 @@ module _ (tower-file text file : List ℕ) (tower : Tower) (book : Book) (table 
   unfolding shown_in shown_of
   with_room room long = if_on Output _ (le-ltb room (length run) long)
 
-  -- No other run, rule and position are right.
+  -- No other run, line and position are right.
   pub shown_only : (w : List ℕ) (k : ℕ) (i : Position) → ShowsWhy tower book table w k i
       → (w ≡ run) × (k ≡ lowest_line tower book run) × (i ≡ place_in tower book run (lowest_line tower book run))
   shown_only w k i why =
@@ -253,8 +252,8 @@ module _ (tower-file text file list : List ℕ) (areas : List (List ℕ)) where
     where
       by : (tower : Tower) (book : Book) (table : Table) → FitFiles tower-file text tower book → FitTable tower file table
           → judge tower book table ≡ give (not_good Broken)
-          → Right (why_answer (shown_in (length list) (shown_of (first_rule text) tower book (shown_run tower book table))))
-          (why_list (shown_in (length list) (shown_of (first_rule text) tower book (shown_run tower book table))) list)
+          → Right (why_answer (shown_in (length list) (shown_of tower book (shown_run tower book table))))
+          (why_list (shown_in (length list) (shown_of tower book (shown_run tower book table))) list)
       by tower book table fit laid e =
           let ex = explained tower-file text file tower book table fit laid e areas enough in
           whether (ltb (length list) (length (shown_run tower book table)))
@@ -336,7 +335,7 @@ module _ (tower-file text file list : List ℕ) (areas : List (List ℕ)) where
       let file-is =
       files_why tower-file text file ex.tower ex.book ex.table ex.fit ex.laid e (length list)
       ∙ with_room tower-file text file ex.tower ex.book ex.table ex.fit ex.laid e (length list) (subst (λ v. length v ≤ length list) same le) in (
-        a ∙ ap why_answer file-is ∙ shown_same (length (shown_run ex.tower ex.book ex.table)) (length w) _ (first_rule text + k) _ i.0 (ap length (sym same)) (ap (λ n. first_rule text + n) (sym at-line)) (ap (λ p. p.0) (sym at_place)),
+        a ∙ ap why_answer file-is ∙ shown_same (length (shown_run ex.tower ex.book ex.table)) (length w) _ k _ i.0 (ap length (sym same)) (sym at-line) (ap (λ p. p.0) (sym at_place)),
         b ∙ ap (λ o. why_list o list) file-is ∙ ap (λ v. v ++ drop (length v) list) (sym same),
       )
     where

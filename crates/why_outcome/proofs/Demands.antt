@@ -1,7 +1,7 @@
 -- 02, item 4, each sentence above its theorems, and demand 1 of the letter for this entry. They are about the outcome on bytes with which the entry's
 -- contract is an equation: `why_outcome`. Where the words stand: `Soonest`, `AllowedBroken`, `LowestLine`, `BrokenAt`, `ShowsWhy`: logic/specs/Why ·
 -- `RightWhy`, `Explained`, `own_answer`: specs/WhyRight · `ShownWell`: specs/WhyShown. The proofs are in Answering.antt and Explained.antt.
-use Prim.Native.Nat.{ℕ, ◌+◌}
+use Prim.Native.Nat.{ℕ}
 use mathlib.Core.Path.{◌≡◌, refl, sym, ◌∙◌, ap, subst}
 use mathlib.Core.Logic.{◌↔◌, ◌⊎◌, inl, inr}
 use mathlib.Core.Bool.{true}
@@ -19,7 +19,6 @@ use Rattle.base.specs.declared.WhyAnswer.TheVariants as Shows
 use Rattle.logic.specs.Time.{position}
 use Rattle.logic.specs.Why.{Sooner, Soonest, AllowedBroken}
 use Rattle.logic.specs.declared.Position.{Position}
-use Rattle.reading.specs.BookReading.{first_rule}
 use Rattle.alternatives.specs.Pairs.{most_pairs}
 use Rattle.outcome.specs.Areas.{check_areas}
 use Rattle.outcome.specs.Check.{check_outcome}
@@ -75,7 +74,7 @@ module _ (tower-file text file list : List ℕ) (areas : List (List ℕ)) where
   -- where it isn't kept; for a `start` line, 0. Each of these is proved.'
 
   well : (w : List ℕ) (k : ℕ) (i : Position) → Explained tower-file text file areas w k i
-      → ShownWell tower-file text file list (w ++ drop (length w) list) (length w) (first_rule text + k) i.0
+      → ShownWell tower-file text file list (w ++ drop (length w) list) (length w) k i.0
   unfolding Sooner most_pairs
   well w k i ex =
       record {
@@ -94,9 +93,7 @@ module _ (tower-file text file list : List ℕ) (areas : List (List ℕ)) where
         beginnings = soonest_beginnings ex.tower ex.book ex.table w ex.why.run;
         some_action = soonest_some ex.tower ex.book ex.table w ex.why.run;
         few_actions = Answering.explained_few tower-file text file list areas w k i ex;
-        rule = k;
-        some_rule = ex.why.line.inside;
-        line = refl;
+        line = ex.why.line.inside;
         line_broken = ex.why.line.broken;
         lower_kept = ex.why.line.lower;
         place = ex.why.place;
@@ -132,7 +129,7 @@ module _ (tower-file text file list : List ℕ) (areas : List (List ℕ)) where
           ⊎ ((why_outcome tower-file text file list areas).answer ≡ Shows.Refused Output)
       by _ _ (why_own v right other) f = absurd (other (sym (check_only tower-file text file areas v right) ∙ e))
       by _ _ (why_room w k i ex lt) f = inr f
-      by _ _ (why_shown w k i ex le) f = inl (length w, first_rule text + k, i.0, f)
+      by _ _ (why_shown w k i ex le) f = inl (length w, k, i.0, f)
 
 -- 'and no entry relies on its caller to have tested anything.' The answer depends on how long list and areas are alone.
 pub same_why : (tower-file text file list other : List ℕ) (areas lent : List (List ℕ)) → long_enough check_areas areas ≡ true

@@ -10,7 +10,7 @@ use Rattle.logic.specs.Tower.{Tower}
 use Rattle.logic.specs.Book.{Book}
 use Rattle.logic.specs.Tables.{Table}
 use Rattle.reading.specs.TowerReading.{read_tower}
-use Rattle.reading.specs.BookReading.{first_rule, read_book}
+use Rattle.reading.specs.BookReading.{read_book}
 use Rattle.reading.specs.TableReading.{read_table}
 use Rattle.outcome.specs.Calls.{FitFiles, FitTable}
 use Rattle.outcome.specs.Check.{Finding, good_table, not_good, judge, checked_file}
@@ -30,9 +30,9 @@ module _ (tower-file text file : List ℕ) (room : ℕ) (P : Answer Finding → 
     (wrong : (q : Reason) → Earlier q → P (give (not_good q)) (give (own (not_good q))))
     (broken : (tower : Tower) (book : Book) (table : Table) → FitFiles tower-file text tower book → FitTable tower file table
     → judge tower book table ≡ give (not_good Broken)
-    → P (give (not_good Broken)) (shown_in room (shown_of (first_rule text) tower book (shown_run tower book table)))) where
+    → P (give (not_good Broken)) (shown_in room (shown_of tower book (shown_run tower book table)))) where
   behind : (tower : Tower) (book : Book) (table : Table) → FitFiles tower-file text tower book → FitTable tower file table → (o : Answer Finding)
-      → judge tower book table ≡ o → P o (o then λ finding. why_behind (first_rule text) tower book table room finding)
+      → judge tower book table ≡ o → P o (o then λ finding. why_behind tower book table room finding)
   unfolding ◌then◌ why_behind Earlier
   behind tower book table fit laid (refuse r) e = refused r
   behind tower book table fit laid (give good_table) e = good
@@ -44,21 +44,21 @@ module _ (tower-file text file : List ℕ) (room : ℕ) (P : Answer Finding → 
 
   by_table : (tower : Tower) (book : Book) → FitFiles tower-file text tower book → (o : Answer Table) → read_table tower file ≡ o
       → P (o then λ rows. judge tower book rows)
-      (o then λ rows. judge tower book rows then λ finding. why_behind (first_rule text) tower book rows room finding)
+      (o then λ rows. judge tower book rows then λ finding. why_behind tower book rows room finding)
   unfolding ◌then◌ FitTable
   by_table tower book fit (refuse r) e = refused r
   by_table tower book fit (give table) e = behind tower book table fit e (judge tower book table) refl
 
   by_book : (tower : Tower) → read_tower tower-file ≡ give tower → (o : Answer Book) → read_book tower.marks text ≡ o
       → P (o then λ book. read_table tower file then λ rows. judge tower book rows)
-      (o then λ book. read_table tower file then λ rows. judge tower book rows then λ finding. why_behind (first_rule text) tower book rows room finding)
+      (o then λ book. read_table tower file then λ rows. judge tower book rows then λ finding. why_behind tower book rows room finding)
   unfolding ◌then◌
   by_book tower e (refuse r) f = refused r
   by_book tower e (give book) f = by_table tower book (record { tower_read = e; book_read = f }) (read_table tower file) refl
 
   by_tower : (o : Answer Tower) → read_tower tower-file ≡ o
       → P (o then λ t. read_book t.marks text then λ book. read_table t file then λ rows. judge t book rows)
-      (o then λ t. read_book t.marks text then λ book. read_table t file then λ rows. judge t book rows then λ finding. why_behind (first_rule text) t book rows room finding)
+      (o then λ t. read_book t.marks text then λ book. read_table t file then λ rows. judge t book rows then λ finding. why_behind t book rows room finding)
   unfolding ◌then◌
   by_tower (refuse r) e = refused r
   by_tower (give tower) e = by_book tower e (read_book tower.marks text) refl

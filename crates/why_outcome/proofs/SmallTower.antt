@@ -3,7 +3,7 @@
 use Prim.Native.Nat.{ℕ, ◌≤◌, ◌<◌}
 use mathlib.Core.Path.{◌≡◌, refl, ◌∙◌, ap}
 use mathlib.Core.Bool.{true}
-use mathlib.Core.List.{List, [], ◌∷◌, ◌++◌}
+use mathlib.Core.List.{List, [], ◌∷◌}
 use lib.ListN.{length, drop}
 use borrow.Author.Tests.{lt-ltb, le-ltb}
 use Rattle.base.specs.Text.{ascii}
@@ -35,11 +35,6 @@ judged_open = refuse NoTable
 small_file : (room : ℕ) → why_file small_tower (ascii book_1) table_5 room ≡ shown_in room turned
 unfolding judged_open table_5
 small_file room = refl
-
--- with a `ticks` line before it the same rule stands one line lower
-pub small_lower : (room : ℕ) → why_file small_tower (ascii "ticks 20\n" ++ ascii book_1) table_5 room ≡ shown_in room (record { run = turned.run; line = 2; place = turned.place })
-unfolding judged_open table_5
-small_lower room = refl
 
 module _ (list : List ℕ) (areas : List (List ℕ)) (enough : long_enough check_areas areas ≡ true) where
   -- A list of 4 bytes or more receives the run; its later bytes stay.

@@ -1,6 +1,6 @@
 -- 02, item 4: the outcome of the entry that shows why. The checker's own answer; and where that is 14 e, a shortest allowed run that is broken, the
 -- lowest line that it breaks, and where. 16 comes last, if the list is shorter than the run.
-use Rattle.std.specs.Prelude.{ℕ, suc, ◌+◌, List, [], ◌++◌, length, drop, ltb}
+use Rattle.std.specs.Prelude.{ℕ, suc, List, [], ◌++◌, length, drop, ltb}
 use Rattle.std.proofs.Math.Option.{get_or}
 use Rattle.base.specs.Choice.{pick}
 use Rattle.base.specs.Bytes.{long_enough, cleared}
@@ -18,7 +18,7 @@ use Rattle.logic.specs.declared.Position.{Position}
 use Rattle.judging.specs.Judging.{judged_broken, lowest_line, broken_place}
 use Rattle.first_runs.specs.FirstRun.{first_run}
 use Rattle.reading.specs.TowerReading.{read_tower}
-use Rattle.reading.specs.BookReading.{first_rule, read_book}
+use Rattle.reading.specs.BookReading.{read_book}
 use Rattle.reading.specs.TableReading.{read_table}
 use Rattle.alternatives.specs.Pairs.{most_pairs}
 use Rattle.outcome.specs.Areas.{check_areas}
@@ -37,13 +37,13 @@ pub record Shown : Type 0 where
 unfoldable pub shown_run : Tower → Book → Table → List ℕ
 shown_run tower book table = get_or (first_run (move table) tower.actions 0 (judged_broken tower book) (suc most_pairs) 0) []
 
--- where the run breaks rule k
+-- where the run breaks line k
 unfoldable pub place_in : Tower → Book → List ℕ → ℕ → Position
 place_in tower book w k = broken_place tower (trace tower w) (rule_at book k).form (rule_at book k).formula
 
--- the run with the lowest line that it breaks, where the first rule stands in line `first`
-unfoldable pub shown_of : ℕ → Tower → Book → List ℕ → Shown
-shown_of first tower book w = record { run = w; line = first + lowest_line tower book w; place = place_in tower book w (lowest_line tower book w) }
+-- the run with the lowest line that it breaks
+unfoldable pub shown_of : Tower → Book → List ℕ → Shown
+shown_of tower book w = record { run = w; line = lowest_line tower book w; place = place_in tower book w (lowest_line tower book w) }
 
 -- ---- the outcome
 
@@ -57,13 +57,13 @@ unfoldable pub shown_in : ℕ → Shown → Answer WhyFinding
 shown_in room s = Output if ltb room (length s.run) else give (shows s)
 
 -- behind the checker's finding
-unfoldable pub why_behind : ℕ → Tower → Book → Table → ℕ → Finding → Answer WhyFinding
-why_behind first tower book table room good_table = give (own good_table)
-why_behind first tower book table room (not_good Start) = give (own (not_good Start))
-why_behind first tower book table room (not_good (Withheld r)) = give (own (not_good (Withheld r)))
-why_behind first tower book table room (not_good (WrongStep r)) = give (own (not_good (WrongStep r)))
-why_behind first tower book table room (not_good (Stopped r)) = give (own (not_good (Stopped r)))
-why_behind first tower book table room (not_good Broken) = shown_in room (shown_of first tower book (shown_run tower book table))
+unfoldable pub why_behind : Tower → Book → Table → ℕ → Finding → Answer WhyFinding
+why_behind tower book table room good_table = give (own good_table)
+why_behind tower book table room (not_good Start) = give (own (not_good Start))
+why_behind tower book table room (not_good (Withheld r)) = give (own (not_good (Withheld r)))
+why_behind tower book table room (not_good (WrongStep r)) = give (own (not_good (WrongStep r)))
+why_behind tower book table room (not_good (Stopped r)) = give (own (not_good (Stopped r)))
+why_behind tower book table room (not_good Broken) = shown_in room (shown_of tower book (shown_run tower book table))
 
 -- files of a tower, a book and a table, with a list of so many bytes
 unfoldable pub why_file : List ℕ → List ℕ → List ℕ → ℕ → Answer WhyFinding
@@ -72,7 +72,7 @@ why_file tower text table room =
     read_book t.marks text then λ book.
     read_table t table then λ rows.
     judge t book rows then λ finding.
-    why_behind (first_rule text) t book rows room finding
+    why_behind t book rows room finding
 
 -- the answer: the length of the run, the line and the position; or the checker's own
 unfoldable pub why_answer : Answer WhyFinding → WhyAnswer

@@ -1,5 +1,5 @@
 -- 02, item 4, in the words of the logic: what the entry that shows why is to answer, and what the list is to hold; without computing either.
-use Rattle.std.specs.Prelude.{ℕ, ◌+◌, ◌≤◌, ◌<◌, ◌≡◌, List, [], ◌∷◌, ◌++◌, length, drop}
+use Rattle.std.specs.Prelude.{ℕ, ◌≤◌, ◌<◌, ◌≡◌, List, [], ◌∷◌, ◌++◌, length, drop}
 use Rattle.base.specs.declared.Reason.TheVariants.{Broken}
 use Rattle.base.specs.declared.Refusal.TheVariants.{Output}
 use Rattle.base.specs.declared.Verdict.{Verdict}
@@ -11,7 +11,6 @@ use Rattle.logic.specs.Book.{Book}
 use Rattle.logic.specs.Tables.{Table}
 use Rattle.logic.specs.Why.{ShowsWhy}
 use Rattle.logic.specs.declared.Position.{Position}
-use Rattle.reading.specs.BookReading.{first_rule}
 use Rattle.outcome.specs.Calls.{FitFiles, FitTable}
 use Rattle.outcome.specs.EveryCall.{check_numbers}
 use Rattle.outcome.specs.RightAnswer.{RightCheck}
@@ -22,7 +21,7 @@ own_answer Check.Good = Shows.Good
 own_answer (Check.NotGood reason) = Shows.NotGood reason
 own_answer (Check.Refused r) = Shows.Refused r
 
--- The checker says 14 e of the table in the files, and this run, this rule and this position show why.
+-- The checker says 14 e of the table in the files, and this run, this line and this position show why.
 pub record Explained (tower-file text file : List ℕ) (areas : List (List ℕ)) (w : List ℕ) (k : ℕ) (i : Position) : Type 0 where
   pub tower : Tower
   pub book : Book
@@ -33,14 +32,14 @@ pub record Explained (tower-file text file : List ℕ) (areas : List (List ℕ))
   pub why : ShowsWhy tower book table w k i
 
 -- The right answer, with what the list holds then: 'On any other outcome the tool gives the checker's own answer'; 16 'if the list is shorter than
--- the run'; and else the run in 'a lent list, whose later bytes stay', with its length, the rule's line, which a `ticks` line shifts, and the position.
+-- the run'; and else the run in 'a lent list, whose later bytes stay', with its length, the line and the position.
 pub data RightWhy (tower-file text file list : List ℕ) (areas : List (List ℕ)) : WhyAnswer → List ℕ → Type 0 where
   why_own : (v : Verdict) → RightCheck tower-file text file areas v → (v ≡ Check.NotGood Broken → ⊥)
       → RightWhy tower-file text file list areas (own_answer v) list
   why_room : (w : List ℕ) (k : ℕ) (i : Position) → Explained tower-file text file areas w k i → length list < length w
       → RightWhy tower-file text file list areas (Shows.Refused Output) list
   why_shown : (w : List ℕ) (k : ℕ) (i : Position) → Explained tower-file text file areas w k i → length w ≤ length list
-      → RightWhy tower-file text file list areas (Shows.Shown (length w) (first_rule text + k) i.0) (w ++ drop (length w) list)
+      → RightWhy tower-file text file list areas (Shows.Shown (length w) k i.0) (w ++ drop (length w) list)
 
 -- the numbers that the entry may refuse with, in the papers' order: the checker's, and 16 last
 unfoldable pub why_numbers : List ℕ

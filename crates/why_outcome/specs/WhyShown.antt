@@ -1,13 +1,12 @@
 -- What an answer with a run shows, each sentence of 02, item 4, for itself: the tower, the book and the table come out of the files, since an answer
 -- says that the files were fit.
-use Rattle.std.specs.Prelude.{ℕ, ◌+◌, ◌≤◌, ◌<◌, ◌≡◌, List, ◌++◌, length, drop}
+use Rattle.std.specs.Prelude.{ℕ, ◌≤◌, ◌<◌, ◌≡◌, List, ◌++◌, length, drop}
 use Rattle.logic.specs.Time.{position}
 use Rattle.logic.specs.Tower.{Tower}
 use Rattle.logic.specs.Book.{Book}
 use Rattle.logic.specs.Runs.{trace, Unbroken, Broken}
 use Rattle.logic.specs.Tables.{Table, Allows}
 use Rattle.logic.specs.Why.{Lower, rule_at, KeptLine, BrokenAt}
-use Rattle.reading.specs.BookReading.{first_rule}
 use Rattle.outcome.specs.Calls.{FitFiles, FitTable}
 
 -- A run of n actions in the front of the list, line k and position p.
@@ -33,12 +32,9 @@ pub record ShownWell (tower-file text file list list-after : List ℕ) (n k p : 
   -- It has 1 to 1,000 actions.
   pub some_action : 0 < n
   pub few_actions : n ≤ 1000
-  -- The line is that of a rule, and a `ticks` line stands before the first;
-  pub rule : ℕ
-  pub some_rule : rule < length book
-  pub line : k ≡ first_rule text + rule
-  -- the rule is broken by this run, and no lower one is;
-  pub line_broken : KeptLine tower book run rule → ⊥
-  pub lower_kept : (j : ℕ) → j < rule → KeptLine tower book run j
+  -- The line is broken by this run, and no lower one is;
+  pub line : k < length book
+  pub line_broken : KeptLine tower book run k → ⊥
+  pub lower_kept : (j : ℕ) → j < k → KeptLine tower book run j
   -- where it is an `always` line the formula is not kept at the position, and at every lower one it is; for a `start` line the position is 0.
-  pub place : BrokenAt tower (trace tower run) (rule_at book rule).form (rule_at book rule).formula (position p)
+  pub place : BrokenAt tower (trace tower run) (rule_at book k).form (rule_at book k).formula (position p)

@@ -2,45 +2,31 @@
 use place_book::grammar;
 use program_saying::say;
 
-// What was found at the start or at the end of a line, or of its bytes.
+// What was found at the start of a line.
 pub fn say_found(what: u8) {
     match what {
         grammar::BYTE_ORDER_MARK => say(
             b"the file begins with a byte order mark, or the line with a letter that is not ASCII; save the book as plain ASCII text\n",
         ),
-        grammar::EMPTY_LINE => say(b"the line is empty; a book has no empty lines\n"),
+        grammar::EMPTY_LINE => say(b"the line is empty; a book has a rule on every line\n"),
         grammar::SPACE_BEFORE => say(
-            b"a space stands before the first word; none may stand there\n",
+            b"a space stands before the first word; the line begins with 'always' or 'start'\n",
         ),
-        grammar::CAPITAL_WORD => say(
-            b"'always', 'start' and 'ticks' are written in small letters\n",
-        ),
-        grammar::COMMENT => say(b"a book has no comments; every line counts\n"),
-        grammar::NO_WORD => say(
-            b"the line must begin with 'always' or 'start'; the first may begin with 'ticks'\n",
-        ),
+        grammar::CAPITAL_WORD => say(b"'always' and 'start' are written in small letters\n"),
+        grammar::COMMENT => say(b"a book has no comments; every line is a rule\n"),
+        grammar::NO_WORD => say(b"the line must begin with 'always' or 'start'\n"),
         grammar::NO_SPACE => say(b"a space is expected behind the first word\n"),
         grammar::CARRIAGE_RETURN => say(
             b"the line ends with a carriage return, as Windows editors save files; save the book with line ends of Unix (LF)\n",
         ),
-        grammar::TAB => say(b"a tab; only spaces may stand between the parts of a line\n"),
+        grammar::TAB => say(b"a tab; only spaces may stand between the parts of a rule\n"),
         grammar::NOT_ASCII => say(
             b"a character that is not plain ASCII, such as a curved quote, a long dash or a hard space\n",
         ),
         grammar::SPACE_BEHIND => say(
-            b"a space stands at the end of the line; none may stand there\n",
+            b"a space stands at the end of the line; the line end must follow right behind the rule\n",
         ),
         grammar::NO_LINE_END => say(b"the last line has no line end; press Enter behind it\n"),
-        _ => say_ticks(what),
-    }
-}
-
-// What was found about a `ticks` line.
-fn say_ticks(what: u8) {
-    match what {
-        grammar::NOT_FIRST => say(b"a 'ticks' line may stand only as the first line of a book\n"),
-        grammar::NO_TICKS => say(b"a number is expected behind 'ticks', as in ticks 20\n"),
-        grammar::BEHIND_TICKS => say(b"nothing may stand behind the number of a 'ticks' line\n"),
         _ => say_bracket(what),
     }
 }

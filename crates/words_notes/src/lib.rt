@@ -44,14 +44,13 @@ fn say_lines(text: &[u8], lines: usize) {
     }
 }
 
-// Says which of a book's lines leave a number out, and the number that is taken there.
-pub fn left_out(book: &[u8], text: &[u8], lines: usize, usual: usize) {
+// Says which of a book's lines leave a number out.
+pub fn left_out(book: &[u8], text: &[u8], lines: usize) {
     if !some_leaves_out(text, lines) {
         return;
     }
     of_file(book);
-    say_number(usual);
-    say(b" is taken where a number is left out behind A, E or U, in line");
+    say(b"20 is taken where a number is left out behind A, E or U, in line");
     say_lines(text, lines);
     say(b"\n");
 }

@@ -1,11 +1,11 @@
--- `book_tokens::begins_with` meets its contract; each need follows by the laws of its way.
+-- `book_reader::begins_with` meets its contract; each need follows by the laws of its way.
 use Prim.Native.Nat.{◌-◌}
 use lib.ListN.{length}
-use Rattle.book_tokens.specs.Words.{ComparingWord}
-use Rattle.book_tokens.proofs.Words.{comparing_start, comparing_short, comparing_other, comparing_more, comparing_all}
+use Rattle.book_reader.specs.Lines.{ComparingWord}
+use Rattle.book_reader.proofs.Ways.{comparing_start, comparing_short, comparing_other, comparing_more, comparing_all}
 use borrow.Author.Rules.{rules}
-use Rattle.book_tokens.proofs.begins_with.Statement.{statement}
-use Rattle.book_tokens.proofs.begins_with.Tie as tie
+use Rattle.book_reader.proofs.begins_with.Statement.{statement}
+use Rattle.book_reader.proofs.begins_with.Tie as tie
 
 ruleset all = (rules, comparing_start, comparing_short, comparing_other, comparing_more, comparing_all)
 
