@@ -27,9 +27,10 @@ def respelled(name):
 
 def texts(top):
     for folder, dirs, files in os.walk(top):
-        dirs[:] = sorted(d for d in dirs if d not in ("out", ".git", "target", "build"))
+        inside = "/crates/" in folder + "/"
+        dirs[:] = sorted(d for d in dirs if d != ".git" and (inside or d not in ("out", "target", "build")))
         for f in sorted(files):
-            if f.endswith((".rt", ".antt", ".edit", ".md")):
+            if "/out/" not in folder + "/" and f.endswith((".rt", ".antt", ".edit", ".md")):
                 yield os.path.join(folder, f)
 
 

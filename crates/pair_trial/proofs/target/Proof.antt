@@ -1,10 +1,10 @@
 -- `pair_trial::target` meets its contract.
 use borrow.Author.Rules.{rules}
-use Rattle.pair_trial.proofs.Walking.{rows-laid, row_below, state-below, action-below, target-row-read, target-state-read}
+use Rattle.pair_trial.proofs.Walking.{rows_laid, row_below, state_below, action_below, target_row_read, target_state_read}
 use Rattle.pair_trial.proofs.target.Statement.{statement}
 use Rattle.pair_trial.proofs.target.Tie as tie
 
-ruleset all = (rules, rows-laid, row_below, state-below, action-below, target-row-read, target-state-read)
+ruleset all = (rules, rows_laid, row_below, state_below, action_below, target_row_read, target_state_read)
 
 pub target-spec : {M : Type 1} → statement M
 target-spec =
