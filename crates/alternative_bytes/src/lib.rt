@@ -1,5 +1,7 @@
 // An alternative as bytes (02, item 3), a byte for each node: which of two asks more, which comes first,
 // and both as one.
+#![tactic(auto)]
+
 ghost use Rattle.std.specs.Prelude.{◌+◌, ◌≤◌, ◌≡◌, length};
 ghost use Rattle.alternatives.specs.Alternatives.{earlier};
 ghost use Rattle.book_progression.specs.NodeBytes.{IsNode};

@@ -16,7 +16,7 @@ use Rattle.logic.specs.Sides.{OneSided}
 use Rattle.pending.specs.Pending.{Pending, same_pending, progressed}
 use Rattle.pending.specs.Pairs as Old
 use Rattle.alternatives.specs.Progression.{first_set}
-use Rattle.alternatives.specs.Pairs.{Pair, same_pair, pair_weight, most_pairs, first_pair, alternatives_by, pair_at, tried_step, is_over, over_full, pair_step, pair_followers, pairs, over_pairs, over_alternatives}
+use Rattle.alternatives.specs.Pairs.{same_pair, pair_weight, most_pairs, first_pair, alternatives_by, pair_at, tried_step, is_over, over_full, pair_step, pair_followers, pairs, over_pairs, over_alternatives}
 use Rattle.alternatives.specs.OneAlternative.{single, one}
 use Rattle.alternatives.proofs.OneAlternative.{progressed_one}
 

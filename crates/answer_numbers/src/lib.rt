@@ -1,5 +1,7 @@
 // Answers as numbers, as a caller in another language takes them: an enum cannot cross. Number, place and values are those of the papers, one
 // function for each entry's answer.
+#![tactic(auto)]
+
 ghost use Rattle.std.specs.Prelude.{◌≡◌, [], ◌∷◌};
 ghost use Rattle.base.specs.Answers.{answered, refusal_said, reason_said, book_said, make_said, verdict_said, follow_said, log_said, why_said};
 ghost use Rattle.answer_numbers.specs.Shown.{shown};
@@ -13,7 +15,7 @@ const FAILS: usize = 1;
 
 // Number 0 and the values of an answer, or a refusal's number, place and letter (0 for none).
 #[repr(C)]
-#[derive(Drop)]
+#[derive(Clone, Copy)]
 pub struct Answer {
     pub number: u32,
     pub letter: u8,

@@ -1,4 +1,6 @@
 // Numbers in files and lent areas, the low byte first, and areas that are cleared.
+#![tactic(auto)]
+
 ghost use Rattle.std.specs.Prelude.{◌+◌, ◌≤◌, ◌<◌, ◌≡◌, length, replicate};
 ghost use Rattle.std.proofs.lemmas.List.Edits.{sets};
 ghost use Rattle.base.specs.Bytes.{number_at, number_bytes};

@@ -1,5 +1,7 @@
 // Buckets of numbers in a lent area (specs/Chains.antt): a head for each bucket and a link for each
 // number, two bytes each; the caller says where heads and links begin, and what stands in which bucket.
+#![tactic(auto)]
+
 ghost use Rattle.std.specs.Prelude.{◌+◌, ◌*◌, ◌<◌, ◌≡◌, length};
 ghost use Rattle.area_chains.specs.Chains.{head_in, link_in, added};
 

@@ -194,14 +194,15 @@ met_ends r m (ps ∷ rows) (l, (n, h, g)) =
     omega arith
 
 -- Each place that stands in a row is read as a row.
-pub met_below : (r m : ℕ) {rows : List (List ℕ)} {ps : List ℕ} {p : ℕ} → MetInOrder r m rows → Memᴰ ps rows → Memᴰ p ps
+pub met_below : {ps : List ℕ} {p : ℕ} (r m : ℕ) {rows : List (List ℕ)} → MetInOrder r m rows → Memᴰ ps rows → Memᴰ p ps
     → p < r + length rows
 unfolding MetInOrder
-met_below r m {p = p} (l, (n, h, g)) (Memᴰ.head {x = qs} {xs = rows} e) k =
+met_below r m {rows = []} _ x k = elim x [ ]
+met_below {p = p} r m {rows = qs ∷ rows} (l, (n, h, g)) (Memᴰ.head e) k =
     let b = met_ends (suc r) n rows g in
     let c = meets_below m qs n h (mem_along e k) in
     omega arith
-met_below r m (l, (n, h, g)) (Memᴰ.tail {x = qs} {xs = rows} i) k = let b = met_below (suc r) n g i k in omega arith
+met_below r m {rows = qs ∷ rows} (l, (n, h, g)) (Memᴰ.tail i) k = let b = met_below (suc r) n g i k in omega arith
 
 -- ---- The search
 

@@ -1,6 +1,6 @@
 -- Breadth-first search and rounds until nothing changes: the two ways of computing that the outcomes share. X is any type with a test for
 -- what counts as one and the same.
-use Rattle.std.specs.Prelude.{ℕ, zero, suc, ◌+◌, ◌≡◌, Bool, false, List, [], ◌∷◌, ◌++◌, map, ltb}
+use Rattle.std.specs.Prelude.{ℕ, zero, suc, ◌≡◌, Bool, false, List, [], ◌∷◌, ◌++◌, map, ltb}
 use Rattle.std.specs.Bool.{beq}
 use Rattle.base.specs.Choice.{pick}
 use Rattle.base.specs.Lists.{every, some_of, total}

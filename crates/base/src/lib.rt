@@ -1,8 +1,9 @@
 // The answers of the six entries, and the one type of refusal that they share.
 // 01, 'Why a call is turned down', and 02; specs/Answers.antt gives number, place and values of every case.
+#![tactic(auto)]
 
 // Why the checker does not call a table good: the letter of 01, with the row for b to d.
-#[derive(Drop)]
+#[derive(Clone, Copy)]
 pub enum Reason {
     // a: row 0 has not the tower's start state.
     Start,
@@ -18,7 +19,7 @@ pub enum Reason {
 
 // Why a call is turned down, a case for each number of 01 and 02 in its order, but 14: a table that is not good is a
 // case of the answer. A rule book's refusal carries its line, and so does a log's.
-#[derive(Drop)]
+#[derive(Clone, Copy)]
 pub enum Refusal {
     // 1: the tower's length, or an offset in its header.
     TowerSize,
@@ -61,21 +62,21 @@ pub enum Refusal {
 }
 
 // What the book reader answers.
-#[derive(Drop)]
+#[derive(Clone, Copy)]
 pub enum BookAnswer {
     Read { lines: usize, nodes: usize },
     Refused(Refusal),
 }
 
 // What the maker answers: the length of the table in bytes.
-#[derive(Drop)]
+#[derive(Clone, Copy)]
 pub enum MakeAnswer {
     Made(usize),
     Refused(Refusal),
 }
 
 // What the checker answers.
-#[derive(Drop)]
+#[derive(Clone, Copy)]
 pub enum Verdict {
     Good,
     // 14: the table is not good.
@@ -84,14 +85,14 @@ pub enum Verdict {
 }
 
 // What the follower answers: the row that the action leads to.
-#[derive(Drop)]
+#[derive(Clone, Copy)]
 pub enum FollowAnswer {
     Row(usize),
     Refused(Refusal),
 }
 
 // What the log reader answers.
-#[derive(Drop)]
+#[derive(Clone, Copy)]
 pub enum LogAnswer {
     // Every line fits: the final row.
     Row(usize),
@@ -103,7 +104,7 @@ pub enum LogAnswer {
 }
 
 // What the entry answers that shows why a table is not good.
-#[derive(Drop)]
+#[derive(Clone, Copy)]
 pub enum WhyAnswer {
     // 14 e: the length of a shortest allowed run that is broken, which is in the lent list; the lowest line that it
     // breaks; and the position.

@@ -1,5 +1,7 @@
 // One step of progression of a set of alternatives (02, item 3) over a book that lies as bytes in a lent
 // area: every node gives a set of its own, which is combined with what stands so far.
+#![tactic(auto)]
+
 ghost use Rattle.std.specs.Prelude.{◌+◌, ◌*◌, ◌<◌, ◌≤◌, ◌≡◌, length};
 ghost use Rattle.reading.specs.BookArea.{nodes_in};
 ghost use Rattle.book_progression.specs.NodeBytes.{IsNode, IsHeld};
@@ -35,7 +37,7 @@ const FIRST: u8 = 4;
 const BOTH: u8 = 5;
 
 // A set of alternatives: where it lies, and how many there are, 17 for over 16.
-#[derive(Drop)]
+#[derive(Clone, Copy)]
 pub struct SetAt {
     pub at: usize,
     pub count: usize,

@@ -1,6 +1,8 @@
 // The formulas of a rule book (01, 'Rule book'): or_level, and_level and unit readers call each other in a cycle; the bytes left fall,
 // with a level number. Each answers the position after what it reads, or 0 where that is not of the grammar, which ends no formula.
 // The nodes go to the lent area, with the rest of the reader's state (book_nodes).
+#![tactic(auto)]
+
 ghost use Rattle.std.specs.Prelude.{◌≡◌, ◌≤◌, ◌<◌, length};
 ghost use Rattle.base.specs.Bytes.{byte_at};
 ghost use Rattle.reading.specs.Tokens as Tokens;
@@ -37,7 +39,7 @@ pub fn formula(s: &[u8], at: usize, area: &mut [u8]) -> usize
 }
 
 // Formulas joined by `&`, joined by `|` from the left.
-#[cycle(and_level_bracketed_led_one_part_or_level_second_part_two_parts_unit_within)]
+#[cycle(formula_readers)]
 fn or_level(s: &[u8], at: usize, room: usize, area: &mut [u8]) -> usize
     requires { 512 ≤ length area.old }
     ensures { Parse.Reads result (Parse.parse (State.usual_in area.old) s.now Grammar.Level.or_level at) room area.old area.new }
@@ -62,7 +64,7 @@ fn or_level(s: &[u8], at: usize, room: usize, area: &mut [u8]) -> usize
 }
 
 // Units joined by `&` from the left.
-#[cycle(and_level_bracketed_led_one_part_or_level_second_part_two_parts_unit_within)]
+#[cycle(formula_readers)]
 fn and_level(s: &[u8], at: usize, room: usize, area: &mut [u8]) -> usize
     requires { 512 ≤ length area.old }
     ensures { Parse.Reads result (Parse.parse (State.usual_in area.old) s.now Grammar.Level.and_level at) room area.old area.new }
@@ -87,7 +89,7 @@ fn and_level(s: &[u8], at: usize, room: usize, area: &mut [u8]) -> usize
 }
 
 // A unit: a formula in brackets, a mark, a constant, or what a connective leads.
-#[cycle(and_level_bracketed_led_one_part_or_level_second_part_two_parts_unit_within)]
+#[cycle(formula_readers)]
 fn unit(s: &[u8], at: usize, room: usize, area: &mut [u8]) -> usize
     requires { 512 ≤ length area.old }
     ensures { Parse.Reads result (Parse.parse (State.usual_in area.old) s.now Grammar.Level.unit_level at) room area.old area.new }
@@ -137,7 +139,7 @@ fn mark(s: &[u8], at: usize, wanted: bool, area: &mut [u8]) -> usize
 }
 
 // A formula in brackets, the opening one at this position.
-#[cycle(and_level_bracketed_led_one_part_or_level_second_part_two_parts_unit_within)]
+#[cycle(formula_readers)]
 fn bracketed(s: &[u8], at: usize, room: usize, area: &mut [u8]) -> usize
     requires { (512 ≤ length area.old) × (at < length s.now) }
     ensures { Parse.Reads result (Grammar.bracketed s.now at (Parse.parse (State.usual_in area.old) s.now)) room area.old area.new }
@@ -154,7 +156,7 @@ fn bracketed(s: &[u8], at: usize, room: usize, area: &mut [u8]) -> usize
 }
 
 // What a connective with a bound leads: its letter b stands at this position.
-#[cycle(and_level_bracketed_led_one_part_or_level_second_part_two_parts_unit_within)]
+#[cycle(formula_readers)]
 fn led(s: &[u8], at: usize, b: u8, room: usize, area: &mut [u8]) -> usize
     requires { (512 ≤ length area.old) × (b ≡ byte_at s.now at) }
     ensures { Parse.LetterLeads result b s.now at room area.old area.new }
@@ -185,7 +187,7 @@ fn one_code(b: u8, code: u8) -> u8
 }
 
 // The part of `N` or `A`, whose bound ends at this position, and its node.
-#[cycle(and_level_bracketed_led_one_part_or_level_second_part_two_parts_unit_within)]
+#[cycle(formula_readers)]
 fn one_part(s: &[u8], at: usize, code: u8, amount: usize, room: usize, area: &mut [u8]) -> usize
     requires { 512 ≤ length area.old }
     ensures { Parse.ReadsOne result (Parse.parse (State.usual_in area.old) s.now Grammar.Level.unit_level (Tokens.skip s.now at)) code amount room area.old area.new }
@@ -199,7 +201,7 @@ fn one_part(s: &[u8], at: usize, code: u8, amount: usize, room: usize, area: &mu
 }
 
 // `E t g` means `U t (T, g)`: the node of T, the part, and the node of the until.
-#[cycle(and_level_bracketed_led_one_part_or_level_second_part_two_parts_unit_within)]
+#[cycle(formula_readers)]
 fn within(s: &[u8], at: usize, amount: usize, room: usize, area: &mut [u8]) -> usize
     requires { 512 ≤ length area.old }
     ensures { Parse.Reads result (Parse.within_at (State.usual_in area.old) s.now at amount) room area.old area.new }
@@ -215,7 +217,7 @@ fn within(s: &[u8], at: usize, amount: usize, room: usize, area: &mut [u8]) -> u
 }
 
 // The two parts of `U`, `(f, g)`, behind its bound, and its node.
-#[cycle(and_level_bracketed_led_one_part_or_level_second_part_two_parts_unit_within)]
+#[cycle(formula_readers)]
 fn two_parts(s: &[u8], at: usize, amount: usize, room: usize, area: &mut [u8]) -> usize
     requires { 512 ≤ length area.old }
     ensures { Parse.Reads result (Parse.until_at (State.usual_in area.old) s.now at amount) room area.old area.new }
@@ -232,7 +234,7 @@ fn two_parts(s: &[u8], at: usize, amount: usize, room: usize, area: &mut [u8]) -
 }
 
 // The second part of `U` from the comma on, its first part read last, and its node.
-#[cycle(and_level_bracketed_led_one_part_or_level_second_part_two_parts_unit_within)]
+#[cycle(formula_readers)]
 fn second_part(s: &[u8], at: usize, amount: usize, room: usize, area: &mut [u8]) -> usize
     requires { 512 ≤ length area.old }
     ensures { Parse.Seconds result s.now at amount room area.old area.new }

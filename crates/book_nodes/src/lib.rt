@@ -1,4 +1,6 @@
 // What the book reader keeps in its lent area while it reads: the nodes, and behind nodes and lines some bytes of its own.
+#![tactic(auto)]
+
 ghost use Rattle.std.specs.Prelude.{◌≡◌, [], ◌∷◌, ◌≤◌, length, eqb, leb, ltb, not};
 ghost use Rattle.book_nodes.specs.State as State;
 

@@ -1,4 +1,6 @@
 // One step of progression (01, 'What is pending') over a book that lies as bytes in a lent area.
+#![tactic(auto)]
+
 pub mod line;
 pub mod node;
 
@@ -159,7 +161,7 @@ fn stay(book: &[u8], k: usize, left: Tick, d: Tick, cells: &mut [u8])
 }
 
 // A node and the ticks that it has left.
-#[derive(Drop)]
+#[derive(Clone, Copy)]
 struct Nested {
     node: usize,
     left: Tick,

@@ -1,4 +1,6 @@
 // The book reader (01, 'Rule book' and 'Why a call is turned down'): lines, limits, and the book of a text or why there is none.
+#![tactic(auto)]
+
 ghost use Rattle.std.specs.Prelude.{◌≡◌, ◌+◌, ◌≤◌, ◌<◌, length, drop, []};
 ghost use Rattle.base.specs.Lists.{begins};
 ghost use Rattle.reading.specs.BookReading as Reading;
@@ -25,14 +27,14 @@ const NO_FAULT: u8 = 255;
 const USUAL_BOUND: u8 = 20;
 
 // A line that was read: 1 for `always` and 0 for `start`, and the position after its byte 10.
-#[derive(Drop)]
+#[derive(Clone, Copy)]
 pub enum Line {
     Bad,
     Read { form: u8, next: usize },
 }
 
 // How reading the next line ends.
-#[derive(Drop)]
+#[derive(Clone, Copy)]
 pub enum Turn {
     Next(usize),
     Refused(Refusal),

@@ -1,4 +1,6 @@
 // The tokens of a rule book (01, 'Rule book'), each read at a position of the text.
+#![tactic(auto)]
+
 ghost use Rattle.std.specs.Prelude.{◌≡◌, ◌+◌, ◌≤◌, ◌<◌, length};
 ghost use Rattle.reading.specs.Tokens as Tokens;
 ghost use Rattle.reading.specs.Grammar as Grammar;
@@ -7,21 +9,21 @@ ghost use Rattle.book_tokens.specs.Told as Told;
 use text_numerals::{Number, byte_at, numeral};
 
 // A position, if there is one.
-#[derive(Drop)]
+#[derive(Clone, Copy)]
 pub enum Place {
     At(usize),
     Nowhere,
 }
 
 // A comparison that was read, as the code of its node, and the position after it.
-#[derive(Drop)]
+#[derive(Clone, Copy)]
 pub enum Compared {
     Missing,
     Read { code: u8, next: usize },
 }
 
 // A bound that was read: the code of its comparison, its number, and the position after it.
-#[derive(Drop)]
+#[derive(Clone, Copy)]
 pub enum Bounded {
     Missing,
     Read {
@@ -32,7 +34,7 @@ pub enum Bounded {
 }
 
 // A row of the table of connectives: its letter, its number of parts, and what bound follows.
-#[derive(Drop)]
+#[derive(Clone, Copy)]
 pub struct Row {
     pub letter: u8,
     pub parts: u8,
@@ -40,7 +42,7 @@ pub struct Row {
 }
 
 // The connective that a letter stands for.
-#[derive(Drop)]
+#[derive(Clone, Copy)]
 pub enum Led {
     Nothing,
     By(Row),

@@ -1,5 +1,7 @@
 // check_table [TOWER BOOK TABLE]: prints `good`, or `refused` with number and place, and the reason's
 // letter inside a 14 (docs/PROGRAMS.md). Without names they are tower.bin, book.txt and table.bin.
+#![tactic(auto)]
+
 ghost use Rattle.std.specs.Prelude.{◌≡◌};
 ghost use Rattle.outcome.specs.Check.{verdict, checked_file};
 

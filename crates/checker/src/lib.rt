@@ -1,6 +1,8 @@
 // The checker (01, 'Good tables' and 'Why a call is turned down'): whether a table is good for a
 // tower and a book, or the first reason why not, in the order 15, tower, book, 13, 14 a, 14 b to d by
 // row, 11, 20, 14 e. It stands on the definitions, and on nothing of the maker's.
+#![tactic(auto)]
+
 ghost use Rattle.std.specs.Prelude.{◌≡◌};
 ghost use Rattle.checker_runs.specs.Examining.{verdict_of};
 ghost use Rattle.checker.specs.Checking.{Checks};

@@ -1,5 +1,7 @@
 // Tower and table tested without a book, in the checker's order: the tower, 13, 14 a to d. The checker
 // tests a table so behind the book, and the log reader begins so (02, item 2).
+#![tactic(auto)]
+
 ghost use Rattle.std.specs.Prelude.{◌≡◌};
 ghost use Rattle.logic.specs.Tower.{FitTower, tower_of};
 ghost use Rattle.file_table.specs.Layout.{laid_out_for};
@@ -10,7 +12,7 @@ use checker_rows::RowVerdict;
 use file_tower::TowerRead;
 
 // What the tests come to.
-#[derive(Drop)]
+#[derive(Clone, Copy)]
 pub enum Tested {
     Sound,
     // 14: the table is not good, for a reason from a to d.

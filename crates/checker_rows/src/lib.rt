@@ -1,5 +1,7 @@
 // The first part of the checker (01, 'Good tables', a to d): whether the rows of a table are those of
 // the tower, row by row. The book has no part in it.
+#![tactic(auto)]
+
 ghost use Rattle.std.specs.Prelude.{◌+◌, ◌<◌, ◌≡◌};
 ghost use Rattle.logic.specs.Tower.{tower_of};
 ghost use Rattle.reading.specs.TableReading.{rows_of, row_first, row_count, step_of, table_of};
@@ -12,7 +14,7 @@ use file_table::Target;
 use file_tower::Reached;
 
 // Whether the rows are right, or the first reason why not.
-#[derive(Drop)]
+#[derive(Clone, Copy)]
 pub enum RowVerdict {
     Right,
     Wrong(Reason),

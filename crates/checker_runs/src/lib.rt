@@ -2,6 +2,8 @@
 // for a tower and a book, or the first reason why not, in the order tower, book, 13, 14 a, 14 b to d by
 // row, 11, 20, 14 e. With e comes the first broken step, and the graph of the pairs is left in its area.
 // It stands on the definitions, and on nothing of the maker's.
+#![tactic(auto)]
+
 ghost use Rattle.std.specs.Prelude.{◌≤◌, ◌<◌, ◌≡◌, length};
 ghost use Rattle.logic.specs.Tower.{FitTower, tower_of};
 ghost use Rattle.outcome.specs.Areas.{pairs_area, index_area, graph_area, sets_area, room_area};
@@ -18,7 +20,7 @@ use file_tower::TowerRead;
 use pair_search::Found;
 
 // What is found of the three files.
-#[derive(Drop)]
+#[derive(Clone, Copy)]
 pub enum Examined {
     Good,
     // 14: the table is not good, for a reason from a to d.

@@ -1,5 +1,7 @@
 // What the kinds of actions mean (01, 'Tower file' and 'Good tables'; 02, item 1): the one code that
 // tells them apart. Kind 0 is the player's.
+#![tactic(auto)]
+
 ghost use Rattle.std.specs.Prelude.{◌≡◌, ltb};
 ghost use Rattle.logic.specs.Tower.{controllable, goes_on, last_kind};
 

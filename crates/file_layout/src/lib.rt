@@ -1,5 +1,7 @@
 // The layouts of files (01, 'Tower file' and 'Good tables', from 'Table file' on): the one code that
 // knows the sizes of headers, rows and steps, and which target says 'not enabled'.
+#![tactic(auto)]
+
 ghost use Rattle.std.specs.Prelude.{◌<◌, ◌≤◌, ◌≡◌};
 ghost use Rattle.logic.specs.Tower.{in_range, narrow, layout_of};
 ghost use Rattle.logic.specs.TableFile.{row_size, steps_at};

@@ -1,5 +1,7 @@
 // Table files (01, 'Good tables', from 'Table file' on): their fields, the test of their layout, and
 // the moves of the table that they hold.
+#![tactic(auto)]
+
 ghost use Rattle.std.specs.Prelude.{◌≡◌, true, ◌+◌, ◌<◌, ◌≤◌, min, length};
 ghost use Rattle.logic.specs.Tables.{move};
 ghost use Rattle.logic.specs.TableFile.{rows_at};
@@ -298,7 +300,7 @@ pub fn laid_out_for(bytes: &[u8], s: usize, a: usize) -> bool
 // ---- moves
 
 // Where an action leads: to a row, or it is not allowed and leads nowhere.
-#[derive(Drop)]
+#[derive(Clone, Copy)]
 pub enum Target {
     Row(usize),
     Nothing,

@@ -1,5 +1,7 @@
 // The tower reader (01, 'Tower file'): whether a file is fit to be a tower, and the fields of one
 // that is. Its answers are those of `read_tower` and `tower_of`, the definitions.
+#![tactic(auto)]
+
 mod fields;
 mod fit;
 
@@ -12,14 +14,14 @@ use base::Refusal;
 use logic::Tick;
 
 // Whether a file is fit to be a tower.
-#[derive(Drop)]
+#[derive(Clone, Copy)]
 pub enum TowerRead {
     Fit,
     Refused(Refusal),
 }
 
 // What an action leads to.
-#[derive(Drop)]
+#[derive(Clone, Copy)]
 pub enum Reached {
     State(usize),
     NotEnabled,

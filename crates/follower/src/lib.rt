@@ -1,4 +1,6 @@
 // The follower: what a table does at one action. This is the entry that runs on every clavier.
+#![tactic(auto)]
+
 ghost use Rattle.follower.specs.Following.{Follows};
 
 use base::{FollowAnswer, Refusal};

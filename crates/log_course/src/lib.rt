@@ -1,4 +1,6 @@
 // A log held against a table (02, item 2): each line in turn, along the rows of the table.
+#![tactic(auto)]
+
 ghost use Rattle.std.specs.Prelude.{◌+◌, ◌≤◌, ◌<◌, ◌≡◌, true, length};
 ghost use Rattle.reading.specs.LogReading.{most_tick};
 ghost use Rattle.outcome.specs.Log.{on_time, first_course};
@@ -16,7 +18,7 @@ use reading::Stroke;
 
 // How far a log has been followed: the position of its next line, that line's number, and what the
 // lines before it come to.
-#[derive(Drop)]
+#[derive(Clone, Copy)]
 pub struct Followed {
     pub next: usize,
     pub line: Position,

@@ -1,5 +1,7 @@
 // The lines of a log (02, item 2): one line, read at a position, and the reader that holds the log it
 // was lent and how far it has come.
+#![tactic(auto)]
+
 ghost use Rattle.std.specs.Prelude.{◌≡◌};
 ghost use Rattle.reading.specs.LogReading.{field_at, stroke_at};
 ghost use Rattle.text_numerals.specs.Numerals.{numeral_told};
@@ -15,7 +17,7 @@ const TICK_DIGITS: usize = 10;
 const MOST_TICK: usize = 4294967295;
 
 // A line that was read, and the position behind it.
-#[derive(Drop)]
+#[derive(Clone, Copy)]
 pub enum LogLine {
     Malformed,
     Read { stroke: Stroke, next: usize },

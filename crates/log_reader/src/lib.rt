@@ -1,5 +1,7 @@
 // The log reader (02, item 2): a log held against a table, in the order tower, 13, 14 a to d, 19; then
 // the first line that does not fit, or the final row. It borrows no area and writes nothing.
+#![tactic(auto)]
+
 ghost use Rattle.std.specs.Prelude.{◌≡◌};
 ghost use Rattle.logic.specs.Tower.{tower_of};
 ghost use Rattle.reading.specs.TableReading.{table_of};

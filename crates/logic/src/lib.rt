@@ -1,17 +1,18 @@
 // Ticks count time and positions count actions (01, 'Runs and broken rules'). Each is a type of its
 // own, so that the two are never added or compared.
+#![tactic(auto)]
 
 // A number of ticks: the length of a step, a bound, or what is left of a bound.
-#[derive(Drop)]
+#[derive(Clone, Copy)]
 pub struct Tick(pub u64);
 
 // A position of a run. Position i follows i actions.
-#[derive(Drop)]
+#[derive(Clone, Copy)]
 pub struct Position(pub usize);
 
 // How a tower's file and its tables are laid out (01, 'Tower file'): what follows from the bytes that
 // a state's number takes.
-#[derive(Drop)]
+#[derive(Clone, Copy)]
 pub struct FileLayout {
     // The bytes of a tower's header: the actions begin there.
     pub header: usize,

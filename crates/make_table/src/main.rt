@@ -1,6 +1,8 @@
 // make_table [TOWER BOOK TABLE]: makes the table of a tower and a rule book, and prints its listing;
 // or prints `refused` with number and place, and writes no table (docs/PROGRAMS.md). Without names
 // they are tower.bin, book.txt and table.bin. With `-` for TABLE only the listing is printed.
+#![tactic(auto)]
+
 ghost use Rattle.std.specs.Prelude.{◌<◌, ◌≡◌, true};
 ghost use Rattle.reading.specs.TableReading.{rows_of, laid_out};
 ghost use Rattle.make_table.specs.Files.{MadeFile};

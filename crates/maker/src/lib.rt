@@ -1,6 +1,8 @@
 // The maker (01, 'Good tables' and 'Why a call is turned down'): the made table for a tower and a
 // book, written to the output, or the first reason why there is none, in the order 15, tower, book, 11,
 // 20, 12, 16.
+#![tactic(auto)]
+
 ghost use Rattle.outcome.specs.Make.{made_file};
 ghost use Rattle.pair_trial.specs.Walked.{TowerWithBook};
 ghost use Rattle.maker_areas.specs.Lent.{Room};

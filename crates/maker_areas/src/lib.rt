@@ -1,5 +1,7 @@
 // The eight areas that the maker is lent (docs/WORK-AREAS.md): whether they are long enough, and clearing
 // them. Six of them are a search's.
+#![tactic(auto)]
+
 ghost use Rattle.std.specs.Prelude.{◌≡◌, [], ◌∷◌};
 ghost use Rattle.base.specs.Bytes.{long_enough};
 ghost use Rattle.outcome.specs.Areas.{make_areas};

@@ -1,4 +1,6 @@
 // Which safe pairs make one row: the classes of pairs that no action ever tells apart, by partition refinement (02, item 5).
+#![tactic(auto)]
+
 ghost use Rattle.std.specs.Prelude.{◌≤◌, length};
 ghost use Rattle.maker_classes.specs.Passes.{ReadyForPass, Begun, FurtherPass, PassReady, PassMade, Classified};
 

@@ -1,5 +1,7 @@
 // The made table as a file (01, 'Good tables', from 'Table file' on): rows in the order in which they
 // are met, each with its state and its allowed steps. specs/Writing.antt says which table that is.
+#![tactic(auto)]
+
 ghost use Rattle.std.specs.Prelude.{◌+◌, ◌*◌, ◌<◌, ◌≤◌, ◌≡◌, [], ◌∷◌, ◌++◌, length};
 ghost use Rattle.std.proofs.lemmas.List.Edits.{sets};
 ghost use Rattle.base.specs.Lists.{present};
@@ -17,7 +19,7 @@ use pair_graph::Led;
 const ORDER_AT: usize = 2000;
 
 // The length of the table, or that there is no room for it.
-#[derive(Drop)]
+#[derive(Clone, Copy)]
 pub enum Written {
     Made(usize),
     NoRoom,

@@ -1,6 +1,8 @@
 // Which pairs are looked at again in the next pass: those with a step to a pair that the last pass gave
 // another class, and those whose class has such a first pair. All others look as they looked, and so does
 // the first of their class.
+#![tactic(auto)]
+
 ghost use Rattle.std.specs.Prelude.{◌+◌, ◌*◌, ◌<◌, ◌≤◌, ◌≡◌, length};
 ghost use Rattle.std.proofs.lemmas.List.Edits.{sets};
 ghost use Rattle.base.specs.Bytes.{number_bytes};

@@ -1,6 +1,8 @@
 // The rows of the made table in the order in which they are met (01, 'Good tables': row 0 is the
 // start; others are numbered as first met, rows in order, actions ascending). specs/Orders.antt says
 // how the area is laid out: classes, then the pairs of the rows, then the rows of the classes.
+#![tactic(auto)]
+
 ghost use Rattle.std.specs.Prelude.{◌+◌, ◌*◌, ◌<◌, ◌≤◌, ◌≡◌, [], ◌∷◌, length};
 ghost use Rattle.base.specs.Lists.{present};
 ghost use Rattle.pair_graph.specs.Steps.{led_to, FlaggedGraph};

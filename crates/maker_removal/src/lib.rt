@@ -1,6 +1,8 @@
 // Removal, a phase of the maker (01, 'Good tables'): of the pairs that were met, those from which
 // neither a broken rule nor a stop can be forced stay safe, the others go. A pair that goes is put on a
 // worklist; when it is taken from there, the pairs with a move to it are looked at again.
+#![tactic(auto)]
+
 mod fine;
 
 ghost use Rattle.std.specs.Prelude.{◌+◌, ◌-◌, ◌≤◌, ◌<◌, length};

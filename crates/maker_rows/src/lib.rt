@@ -1,5 +1,7 @@
 // From the pairs that were met to the table: those from which no break and no stop can be forced, which of
 // them make one row, and the file.
+#![tactic(auto)]
+
 ghost use Rattle.std.specs.Prelude.{◌<◌, ◌≡◌, length};
 ghost use Rattle.pair_graph.specs.Steps.{safe_in};
 ghost use Rattle.maker_rows.specs.Rows.{PairsMet, PairsSafe, SafeWritten, RowsMade};

@@ -1,4 +1,6 @@
 // What is seen of a pair in a pass: its tower state, its class, and the class that each action leads to.
+#![tactic(auto)]
+
 ghost use Rattle.std.specs.Prelude.{◌<◌, ◌≤◌, ◌≡◌, length};
 ghost use Rattle.pair_graph.specs.Steps.{FlaggedGraph};
 ghost use Rattle.maker_view.specs.View.{shows_in, same_shows, view_of};

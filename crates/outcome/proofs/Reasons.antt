@@ -29,6 +29,7 @@ step_in (s ∷ steps) a p e =
 -- an action of one of the row's steps is allowed
 pub step_allowed : (s : Step) (steps : List Step) → Memᴰ s steps → (p : ℕ) × (step_to steps s.action ≡ some p)
 step_allowed s (t ∷ steps) (Memᴰ.head e) = (t.target, step_here t steps s.action (ap (λ z. z.action) (sym e)))
+step_allowed s [] x' = elim x' [ ]
 step_allowed s (t ∷ steps) (Memᴰ.tail m) =
     whether (eqb t.action s.action)
     (λ here. (t.target, step_here t steps s.action (eqb-true t.action s.action here)))

@@ -1,6 +1,8 @@
 // How many pairs a tower and a book have, each counted once for each of its alternatives, told beside a
 // table that was made: the maker's own search, run again. It is proved to be safe; the number itself is
 // that of the search.
+#![tactic(auto)]
+
 ghost use Rattle.std.specs.Prelude.{◌≤◌, length};
 ghost use Rattle.logic.specs.Tower.{FitTower};
 ghost use Rattle.book_alternatives.specs.Offers.{sets_size};

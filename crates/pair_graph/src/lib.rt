@@ -1,5 +1,7 @@
 // The graph of pairs in its lent area (specs/Steps.antt): the one code that reads and writes it. Every
 // phase of the maker asks here where an action leads, and nothing but this knows what lies where.
+#![tactic(auto)]
+
 pub mod predecessors;
 
 ghost use Rattle.std.specs.Prelude.{◌+◌, ◌*◌, ◌<◌, ◌≤◌, ◌≡◌, length};
@@ -8,7 +10,7 @@ ghost use Rattle.base.specs.Bytes.{number_at, number_bytes};
 ghost use Rattle.pair_graph.specs.Steps.{cell, states_at, graph_size, pair_room, action_room, move_at, state_in, safe_in, class_in, is_enabled, led_to, led_of, FlaggedGraph};
 
 // Where an allowed action leads: to a safe pair, or nowhere if it is not allowed.
-#[derive(Drop)]
+#[derive(Clone, Copy)]
 pub enum Led {
     To(usize),
     Nowhere,

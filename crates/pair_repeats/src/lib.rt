@@ -1,5 +1,7 @@
 // A pair to which two actions lead from a pair that was tried (specs/Repeats.antt): where the same set
 // waits of both and they lead to the same state, the move of the earlier one is that of the later one.
+#![tactic(auto)]
+
 ghost use Rattle.std.specs.Prelude.{◌<◌};
 ghost use Rattle.pair_repeats.specs.Repeats.{MovesWritten, MoveAlike, LedBefore};
 

@@ -3,6 +3,8 @@
 // tower, or those of a table for it: rows with what is pending (crates/pair_trial). Where an or of the
 // book has two timed sides a pair is first tried by every action, since an over_full pair is stepped from
 // by none.
+#![tactic(auto)]
+
 ghost use Rattle.std.specs.Prelude.{◌+◌, ◌*◌, ◌<◌, ◌≤◌, ◌≡◌, true, length};
 ghost use Rattle.set_index.specs.Entries.{entries_size, index_size};
 ghost use Rattle.book_alternatives.specs.Offers.{sets_size};
@@ -13,7 +15,7 @@ ghost use Rattle.pair_step.specs.Stepped.{WideRight, Turning, Searching};
 ghost use Rattle.pair_search.specs.Explored.{Grown, Turned, SearchBegun, Explored};
 
 // How the search ends: over 1,000 alternatives in all pairs, a pair that gives over 16, or so many pairs.
-#[derive(Drop)]
+#[derive(Clone, Copy)]
 pub enum Found {
     TooMany,
     TooWide,
@@ -22,7 +24,7 @@ pub enum Found {
 
 // What one turn of the search leaves: how many pairs are met, and whether the pair, or some pair before
 // it, was over_full.
-#[derive(Drop)]
+#[derive(Clone, Copy)]
 struct Round {
     met: usize,
     over: bool,

@@ -1,4 +1,6 @@
 // Entries that hold a pair: the number of its state, and its alternatives (specs/PairSets.antt).
+#![tactic(auto)]
+
 ghost use Rattle.std.specs.Prelude.{◌+◌, ◌*◌, ◌<◌, ◌≤◌, ◌≡◌, true, length};
 ghost use Rattle.reading.specs.BookArea.{nodes_in};
 ghost use Rattle.alternatives.specs.Alternatives.{these};
@@ -13,7 +15,7 @@ use logic::Tick;
 const SIZE: usize = 60;
 
 // Which of the entries one is equal to, and how many there are with it.
-#[derive(Drop)]
+#[derive(Clone, Copy)]
 pub struct Place {
     pub at: usize,
     pub met: usize,

@@ -2,6 +2,8 @@
 // it leads to, looked up among those that are met. A pair is an entry of the lent area: its state and its
 // alternatives (specs/Stepped.antt). And the moves of a pair that is over_full: it is stepped from by no
 // action.
+#![tactic(auto)]
+
 ghost use Rattle.std.specs.Prelude.{◌+◌, ◌*◌, ◌<◌, ◌≤◌, ◌≡◌, true, length};
 ghost use Rattle.std.proofs.Math.Option.{some};
 ghost use Rattle.logic.specs.Tower.{FitTower, tower_of};
@@ -16,7 +18,7 @@ ghost use Rattle.pair_step.specs.Stepped.{Searching, blocked_number, Blocked, Ea
 use file_tower::Reached;
 
 // Where an action leads, as the number of its move, and how many pairs are met then.
-#[derive(Drop)]
+#[derive(Clone, Copy)]
 struct Way {
     code: usize,
     met: usize,

@@ -1,6 +1,8 @@
 // The tower whose pairs are searched, and a pair that is tried. The tower is that of a file, or the rows
 // of a table for it (specs/Walked.antt). A pair is tried by every action: what comes of it waits in the
 // room, since a pair that gives over 16 alternatives is stepped from by none (specs/Trial.antt).
+#![tactic(auto)]
+
 ghost use Rattle.std.specs.Prelude.{◌+◌, ◌*◌, ◌<◌, ◌≤◌, ◌≡◌, true, length};
 ghost use Rattle.base.specs.Lists.{is_there};
 ghost use Rattle.logic.specs.Tables.{move};

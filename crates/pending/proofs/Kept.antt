@@ -3,7 +3,7 @@
 use Prim.Native.Nat.{ℕ, zero, suc, ◌≤◌}
 use native.Mathlib.Omega.{arith}
 use native.Mathlib.Decide.{dec_le}
-use mathlib.Core.Path.{◌≡◌, refl, ap}
+use mathlib.Core.Path.{◌≡◌, refl, sym, ap, subst}
 use mathlib.Core.Logic.Iff
 use mathlib.Core.Logic.{◌⊎◌, inl, inr, ⊎_elim, ◌↔◌, ⊎_map}
 use mathlib.Core.Bool.{true}
@@ -218,7 +218,7 @@ module _ (tower : Tower) (m : Moment) (run : Trace) where
       rest (fits, (first, then)) = go run refl
         where
           go : (r : Trace) → run ≡ r → Now (until t f g)
-          go [] e = rw e (until_last tower m t f g fits (rw e at first))
+          go [] e = subst (λ (r : Trace). KeptAt tower (m ∷ r) (until t f g) (position 0)) (sym e) (until_last tower m t f g fits (rw e at first))
           go (n ∷ r) e = on fits first (then (omega (arith, ap length e)))
 
   -- An `always` rule is kept if its formula is kept now and the rule is kept along the rest of the run.

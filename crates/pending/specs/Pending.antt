@@ -2,7 +2,7 @@
 -- what is pending is a set of them, and the progression of sets (crate `alternatives`) is the one that the outcomes are defined with. The
 -- progression here is that of one alternative: of a book without two timed sides the sets have one alternative each, and it progresses so
 -- (`alternatives/proofs/OneAlternative.antt`). For such books the code goes this way, which is faster (crate `book_progression`).
-use Rattle.std.specs.Prelude.{ℕ, suc, ◌+◌, ◌-◌, Bool, false, ◌&&◌, ◌||◌, List, [], ◌∷◌, length, get_or, set, replicate}
+use Rattle.std.specs.Prelude.{ℕ, suc, ◌+◌, Bool, false, ◌&&◌, ◌||◌, List, [], ◌∷◌, length, get_or, set, replicate}
 use Rattle.std.specs.Bool.{beq}
 use Rattle.std.proofs.Math.Option.{Option, none, some, bind}
 use Rattle.base.specs.Choice.{pick}

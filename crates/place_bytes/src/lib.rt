@@ -1,5 +1,7 @@
 // Bytes and sums that ask nothing of the caller, for the words of the programs: a byte past the end is
 // 0, and a sum that is too large is the largest number.
+#![tactic(auto)]
+
 ghost use Rattle.std.specs.Prelude.{◌<◌};
 
 // A byte as a number.

@@ -1,6 +1,8 @@
 // Where in a table file something is wrong, and which actions it allows nowhere. The table reader and
 // the checker decide and are proved to be right; these functions only look for the place, and are proved
 // to be safe.
+#![tactic(auto)]
+
 mod fields;
 pub mod layout;
 mod steps;

@@ -1,6 +1,8 @@
 // Where in a line of a rule book N, A, E or U may not stand: behind E, or in the second part of U. The line
 // is of the grammar and within the limits. The book reader says that it is so, and is proved to be right;
 // this only looks for the place, and is proved to be safe.
+#![tactic(auto)]
+
 use place_bytes::{byte_at, down, up};
 
 // What is known of an open bracket in which no such letter may stand; of another it is 0.
@@ -8,7 +10,7 @@ const NOWHERE: u8 = 1;
 
 // How far a line was read: how many brackets are open, whether the unit behind E comes, and whether the
 // place was found.
-#[derive(Drop)]
+#[derive(Clone, Copy)]
 pub struct Timed {
     pub at: usize,
     pub found: bool,

@@ -1,6 +1,8 @@
 // Where in a tower file something is wrong, where its fields lie, and the file as it would be if the
 // player were sure to come. The tower reader decides and is proved to be right; these functions only look
 // for the place, and are proved to be safe.
+#![tactic(auto)]
+
 mod faults;
 mod fields;
 mod sure;

@@ -4,14 +4,14 @@ ghost use Rattle.std.specs.Prelude.{◌≤◌, length};
 ghost use Rattle.program_files.specs.Counts.{HoldsContents, Goes};
 
 // How many bytes were read, or that the file could not be read.
-#[derive(Drop)]
+#[derive(Clone, Copy)]
 pub enum Contents {
     Bytes(usize),
     Failed,
 }
 
 // How reading goes on after a call: with so many bytes in all, at the end, or not at all.
-#[derive(Drop)]
+#[derive(Clone, Copy)]
 pub enum Progress {
     On(usize),
     End,

@@ -5,7 +5,7 @@ ghost use Rattle.program_files.specs.Counts.{WritesBytes};
 use crate::naming;
 
 // How writing goes on after a call: with so many bytes in all, or not at all.
-#[derive(Drop)]
+#[derive(Clone, Copy)]
 pub enum Written {
     On(usize),
     Failed,

@@ -1,5 +1,7 @@
 // How much of a file a program reads: one byte more than the longest fit file has. The answer is then
 // that for the whole file (proofs/Cut.antt), so that a file that is too long is refused, and not cut.
+#![tactic(auto)]
+
 ghost use Rattle.std.specs.Prelude.{suc, ◌≡◌};
 ghost use Rattle.logic.specs.Tower.{narrow};
 ghost use Rattle.reading.specs.BookReading.{most_bytes};

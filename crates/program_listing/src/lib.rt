@@ -1,6 +1,8 @@
 // What the programs print, as bytes: the listing of a table, the sizes of a book, what a log comes to,
 // and a refusal (01, 'Small-tower table'). A line is put into an array that the caller lends, from its start on,
 // and every line fits. specs/Lines.antt says which bytes it has.
+#![tactic(auto)]
+
 ghost use Rattle.std.specs.Prelude.{◌≤◌, ◌<◌, ◌≡◌, true, length};
 ghost use Rattle.base.specs.Answers.{refusal_said, reason_said};
 ghost use Rattle.logic.specs.Tables.{row_at};

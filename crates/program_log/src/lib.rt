@@ -1,6 +1,8 @@
 // A log that is read from its file part by part (02, item 2), so that a program needs memory for one
 // part, however long the log is. What a call of the system reads is in no contract; that parts come to
 // the same as the whole is proved in crates/log_course/proofs/Parts.antt.
+#![tactic(auto)]
+
 ghost use Rattle.std.specs.Prelude.{◌≤◌, ◌≡◌, length};
 ghost use Rattle.checker_rows.specs.RowVerdict.{RowsJudgeable};
 ghost use Rattle.log_course.specs.Following.{Noted, OnRow};
@@ -22,7 +24,7 @@ const MOST_LINES: usize = 4611686018427387904;
 
 // How reading goes on behind a part: with what is left of it at its start, not at all since the answer
 // is known, or not at all since it cannot.
-#[derive(Drop)]
+#[derive(Clone, Copy)]
 pub enum Part {
     On {
         held: usize,

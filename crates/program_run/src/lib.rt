@@ -1,6 +1,8 @@
 // What `why_not` prints of the run that shows why (02, item 4): a first line, and a line for each action
 // with the position, the time and the state that it leaves. The time and the state are found on a walk
 // along the run, from one position to the next. specs/RunLines.antt says which bytes a line has.
+#![tactic(auto)]
+
 ghost use Rattle.std.specs.Prelude.{◌<◌, [], ◌∷◌, take};
 ghost use Rattle.base.specs.Lists.{joined};
 ghost use Rattle.logic.specs.Time.{position, after};
@@ -15,7 +17,7 @@ use logic::{Position, Tick};
 use program_texts::{put_byte, put_bytes, put_decimal};
 
 // A point of a run: a position, the time there and the state there.
-#[derive(Drop)]
+#[derive(Clone, Copy)]
 pub struct Point {
     pub position: Position,
     pub time: Tick,

@@ -1,4 +1,5 @@
 // Words on standard error, for whoever has to mend a file.
+#![tactic(auto)]
 
 // Writes a text.
 pub fn say(text: &[u8]) {

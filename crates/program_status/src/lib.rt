@@ -1,10 +1,12 @@
 // What the system says of the file at a path: its kind, and the device and the number by which two
 // names of one file are told.
+#![tactic(auto)]
+
 ghost use Rattle.libc.specs.Io.{Ended};
 
 // The kind of file is in the mode; 0, which is no file's, where the system answers nothing, and errno
 // then says why.
-#[derive(Drop)]
+#[derive(Clone, Copy)]
 pub struct Status {
     pub mode: u32,
     pub device: u64,

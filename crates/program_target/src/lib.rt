@@ -1,5 +1,7 @@
 // Whether a table may be written under a name: the name is new, or that of a regular file that is
 // neither the tower nor the book. Names are compared by the files that they lead to.
+#![tactic(auto)]
+
 use program_saying::in_file;
 use program_status::Status;
 

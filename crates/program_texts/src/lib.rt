@@ -1,5 +1,7 @@
 // Texts put into an area that the caller lends, from a position on: each answers the position after
 // it. At the end of the area the rest of a text is left out.
+#![tactic(auto)]
+
 ghost use Rattle.std.specs.Prelude.{[], ◌∷◌, ◌<◌, ◌≡◌};
 ghost use Rattle.program_texts.specs.Decimal.{decimal};
 ghost use Rattle.program_texts.specs.Decimal.{digit as Decimal·digit};

@@ -2,6 +2,8 @@
 // `line` and the number of the first line that does not fit, or `refused` with number and place, and
 // the reason's letter inside a 14 (docs/PROGRAMS.md). Without names they are tower.bin, table.bin and
 // log.txt.
+#![tactic(auto)]
+
 ghost use Rattle.checker_rows.specs.RowVerdict.{RowsJudgeable};
 
 use base::LogAnswer;

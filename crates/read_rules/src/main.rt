@@ -1,6 +1,8 @@
 // read_rules [TOWER BOOK]: reads a rule book under the number of marks of a tower, and prints `lines L
 // nodes N`, or `refused` with number and place (docs/PROGRAMS.md). Without names they are tower.bin
 // and book.txt.
+#![tactic(auto)]
+
 ghost use Rattle.std.specs.Prelude.{◌≡◌};
 ghost use Rattle.read_rules.specs.Rules.{rules_answer};
 

@@ -1,1 +1,2 @@
 // Partition refinement: definitions and theorems. There is no code here.
+#![tactic(auto)]

@@ -1,5 +1,7 @@
 // A refusal as numbers, for those who cannot take an enum (01, 'Why a call is turned down'): the
 // paper's number and the place that goes with it; and for 14 the reason's row and letter.
+#![tactic(auto)]
+
 ghost use Rattle.std.specs.Prelude.{◌≡◌};
 ghost use Rattle.base.specs.Answers.{row_of, letter_of, refusal_number, refusal_place};
 

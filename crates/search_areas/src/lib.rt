@@ -1,5 +1,7 @@
 // The six areas that a search for pairs is lent (docs/WORK-AREAS.md): whether they are long enough, and
 // clearing them. Checker and maker begin and end so.
+#![tactic(auto)]
+
 ghost use Rattle.std.specs.Prelude.{◌≡◌, [], ◌∷◌};
 ghost use Rattle.base.specs.Bytes.{long_enough};
 ghost use Rattle.outcome.specs.Areas.{check_areas};

@@ -2,6 +2,8 @@
 // their order, and how two sets are combined and joined. A combination writes its candidates to the
 // room, and the numbers of those that stay, in their order, to a short list of its own: so nothing is
 // moved but numbers.
+#![tactic(auto)]
+
 ghost use Rattle.std.specs.Prelude.{◌+◌, ◌*◌, ◌<◌, ◌≤◌, length};
 ghost use Rattle.book_progression.specs.Promises.{HasNodes};
 ghost use Rattle.set_bytes.specs.SetBytes.{alternative_size, set_size, most_candidates, candidates_size, copy_of, copies_of, pair_of, row_of, pairs_of};

@@ -1,6 +1,8 @@
 // Entries in a lent area, each a number and one alternative or more, and an index in another by which
 // one is found again without a comparison with all of them: specs/Entries.antt. Entry n is the one that
 // is looked up, behind n others.
+#![tactic(auto)]
+
 ghost use Rattle.std.specs.Prelude.{◌+◌, ◌*◌, ◌<◌, ◌≤◌, ◌≡◌, length, eqb};
 ghost use Rattle.std.proofs.lemmas.List.Edits.{sets};
 ghost use Rattle.base.specs.Bytes.{number_bytes};

@@ -1,7 +1,9 @@
-// The interface for C and Rust: the entries, with answers as numbers. None of them requires
-// anything of its caller but slices that are memory: `&[u8]` is a pointer and a length. What each
-// answers and leaves in its areas is an equation with the definitions of `outcome`. The names of the
-// entries end in the version, so that a caller that was compiled for another one does not link.
+// The interface for C and Rust: the entries, with answers as numbers; succoryvise_c exports them. None
+// of them requires anything of its caller but slices that are memory: `&[u8]` is a pointer and a length.
+// What each answers and leaves in its areas is an equation with the definitions of `outcome`. The names
+// of the entries end in the version, so that a caller that was compiled for another one does not link.
+#![tactic(auto)]
+
 ghost use Rattle.std.specs.Prelude.{◌≡◌};
 ghost use Rattle.base.specs.Answers.{follow_said, log_said};
 ghost use Rattle.outcome.specs.Follow.{follow_outcome};
@@ -16,8 +18,7 @@ use answer_numbers::Answer;
 const VERSION: u32 = 2;
 
 // The version of this interface, for those who look functions up by name and do not link them.
-#[unsafe(no_mangle)]
-pub extern "C" fn succoryvise_version() -> u32
+pub fn succoryvise_version() -> u32
     ensures { result ≡ interface_version }
 {
     VERSION
@@ -25,8 +26,7 @@ pub extern "C" fn succoryvise_version() -> u32
 
 // Reads a rule book under P marks: the numbers of its lines and nodes, or why it is turned down.
 // Refused with 15 it changes nothing; else the lent area is all zero afterwards.
-#[unsafe(no_mangle)]
-pub extern "C" fn succoryvise_read_book_v2(marks: usize, text: &[u8], nodes: &mut [u8]) -> Answer
+pub fn succoryvise_read_book_v2(marks: usize, text: &[u8], nodes: &mut [u8]) -> Answer
     ensures { BookShown result marks text.now nodes.old nodes.new }
 {
     answer_numbers::of_book(book_reader::read_book(marks, text, nodes))
@@ -35,8 +35,7 @@ pub extern "C" fn succoryvise_read_book_v2(marks: usize, text: &[u8], nodes: &mu
 // Makes the table for the tower and the book, and writes it to the front of `out`: its length in
 // bytes, or why there is none. A refusal changes no byte of `out`, and bytes behind the table stay.
 // Refused with 15 it changes nothing; else the lent areas are all zero afterwards.
-#[unsafe(no_mangle)]
-pub extern "C" fn succoryvise_make_v2(
+pub fn succoryvise_make_v2(
     tower: &[u8],
     text: &[u8],
     out: &mut [u8],
@@ -59,8 +58,7 @@ pub extern "C" fn succoryvise_make_v2(
 
 // Whether the table is good for the tower and the book, or the first reason why not. Refused with
 // 15 it changes nothing; else the lent areas are all zero afterwards.
-#[unsafe(no_mangle)]
-pub extern "C" fn succoryvise_check_v2(
+pub fn succoryvise_check_v2(
     tower: &[u8],
     text: &[u8],
     table: &[u8],
@@ -78,8 +76,7 @@ pub extern "C" fn succoryvise_check_v2(
 }
 
 // The row that an action leads to from a row of the table, or why there is none.
-#[unsafe(no_mangle)]
-pub extern "C" fn succoryvise_follow_v2(table: &[u8], row: usize, action: usize) -> Answer
+pub fn succoryvise_follow_v2(table: &[u8], row: usize, action: usize) -> Answer
     ensures { result ≡ shown (follow_said (follow_outcome table.now row action)) }
 {
     answer_numbers::of_follow(follower::follow(table, row, action))
@@ -87,8 +84,7 @@ pub extern "C" fn succoryvise_follow_v2(table: &[u8], row: usize, action: usize)
 
 // What a log comes to along the table: 0 and the final row, or 1 and the number of the first line that
 // does not fit; or why it was not read.
-#[unsafe(no_mangle)]
-pub extern "C" fn succoryvise_read_log_v2(tower: &[u8], table: &[u8], log: &[u8]) -> Answer
+pub fn succoryvise_read_log_v2(tower: &[u8], table: &[u8], log: &[u8]) -> Answer
     ensures { result ≡ shown (log_said (log_outcome tower.now table.now log.now)) }
 {
     answer_numbers::of_log(log_reader::read_log(tower, table, log))
@@ -99,8 +95,7 @@ pub extern "C" fn succoryvise_read_log_v2(tower: &[u8], table: &[u8], log: &[u8]
 // bytes stay, the lowest line that it breaks, and the position; or 16 if the list is shorter. In every
 // other case the checker's own answer, and the list as it was. Refused with 15 it changes nothing; else
 // the lent areas are all zero afterwards.
-#[unsafe(no_mangle)]
-pub extern "C" fn succoryvise_why_v2(
+pub fn succoryvise_why_v2(
     tower: &[u8],
     text: &[u8],
     table: &[u8],

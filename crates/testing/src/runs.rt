@@ -9,8 +9,7 @@ ghost use Rattle.book_progression.specs.Promises.{Parts, PendingBegun, Progresse
 use logic::Tick;
 
 // What is pending at first, written to the part of the area that starts at `to`.
-#[unsafe(no_mangle)]
-pub extern "C" fn test_begin(book: &[u8], area: &mut [u8], to: usize)
+pub fn test_begin(book: &[u8], area: &mut [u8], to: usize)
     requires held { IsHeld book.now }
     requires book_in_bounds { to + nodes_in book.now ≤ length area.old }
     ensures { PendingBegun book.now area.old to area.new }
@@ -20,8 +19,7 @@ pub extern "C" fn test_begin(book: &[u8], area: &mut [u8], to: usize)
 
 // A step of d ticks out of a state with these marks, from one part of the area into another. False
 // if the step is broken.
-#[unsafe(no_mangle)]
-pub extern "C" fn test_progressed(
+pub fn test_progressed(
     book: &[u8],
     mask: usize,
     d: u64,

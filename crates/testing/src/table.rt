@@ -24,16 +24,14 @@ const STEP_ACTION: u32 = 7;
 const STEP_TARGET: u32 = 8;
 
 // Whether the bytes are laid out as a table file.
-#[unsafe(no_mangle)]
-pub extern "C" fn test_laid_out(table: &[u8]) -> bool
+pub fn test_laid_out(table: &[u8]) -> bool
     ensures { result ≡ laid_out table.now }
 {
     file_table::laid_out(table)
 }
 
 // A field of a table, of row i or of step i.
-#[unsafe(no_mangle)]
-pub extern "C" fn test_table_field(table: &[u8], which: u32, i: usize) -> usize {
+pub fn test_table_field(table: &[u8], which: u32, i: usize) -> usize {
     if !file_table::laid_out(table) {
         return NOTHING;
     }

@@ -33,8 +33,7 @@ const MARKED: u32 = 8;
 const MASK_BITS: usize = 16;
 
 // The tower reader's answer.
-#[unsafe(no_mangle)]
-pub extern "C" fn test_read_tower(tower: &[u8]) -> Answer
+pub fn test_read_tower(tower: &[u8]) -> Answer
     ensures { result ≡ shown (tower_said (tower_read (read_tower tower.now))) }
 {
     match file_tower::read_tower(tower) {
@@ -44,8 +43,7 @@ pub extern "C" fn test_read_tower(tower: &[u8]) -> Answer
 }
 
 // A field of a fit tower, of state x, or of number i: an action, and for MARKED a mark.
-#[unsafe(no_mangle)]
-pub extern "C" fn test_tower_field(tower: &[u8], which: u32, x: usize, i: usize) -> usize {
+pub fn test_tower_field(tower: &[u8], which: u32, x: usize, i: usize) -> usize {
     let TowerRead::Fit = file_tower::read_tower(tower) else {
         return NOTHING;
     };

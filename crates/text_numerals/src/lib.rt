@@ -1,12 +1,14 @@
 // Numbers in decimal digits, read at a position of a text: of rule books (01, 'Rule book') and of
 // logs (02, item 2).
+#![tactic(auto)]
+
 ghost use Rattle.std.specs.Prelude.{◌≡◌, [], ◌∷◌, suc, ◌≤◌};
 ghost use Rattle.base.specs.Bytes.{byte_at};
 ghost use Rattle.reading.specs.Tokens as Tokens;
 ghost use Rattle.text_numerals.specs.Numerals.{numeral_told, spelled, Stops};
 
 // A number that was read, and the position after it.
-#[derive(Drop)]
+#[derive(Clone, Copy)]
 pub enum Number {
     Missing,
     Read { said: usize, next: usize },

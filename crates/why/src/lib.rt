@@ -3,6 +3,8 @@
 // the position. It stands on what the checker stands on (crate `checker_runs`), and lends its areas on:
 // once the graph of pairs is there, the index keeps how each was first met, the room the states along
 // the run, the index then the marks there, and the pairs what is kept of it.
+#![tactic(auto)]
+
 ghost use Rattle.std.specs.Prelude.{◌≤◌, length};
 ghost use Rattle.outcome.specs.Areas.{pairs_area, index_area, room_area};
 ghost use Rattle.search_areas.specs.Lent.{Room};

@@ -2,6 +2,8 @@
 // formula is kept there, by the meaning and not by progression; from the last position back, and
 // parts before what they are parts of. What a position shows is noted first, the bytes of a node are
 // read once, and each kind of node has a loop of its own.
+#![tactic(auto)]
+
 ghost use Rattle.std.specs.Prelude.{◌+◌, ◌*◌, ◌≤◌, ◌<◌, ◌≡◌, length, set, eqb};
 ghost use Rattle.base.specs.Choice.{pick};
 ghost use Rattle.logic.specs.Time.{ticks, plus, at_most};

@@ -1,5 +1,7 @@
 // The lowest line that a run breaks, and where (02, item 4): the states along the run, the nodes judged
 // at every position (crate `why_judging`), and then the lines in order.
+#![tactic(auto)]
+
 ghost use Rattle.std.specs.Prelude.{◌≤◌, ◌<◌, ◌≡◌, not, length, take, eqb};
 ghost use Rattle.std.proofs.Math.Option.{get_or};
 ghost use Rattle.base.specs.Lists.{below, place_of};
@@ -14,7 +16,7 @@ use file_tower::Reached;
 use logic::Position;
 
 // The line that a run breaks, and the position.
-#[derive(Drop)]
+#[derive(Clone, Copy)]
 pub struct Place {
     pub line: usize,
     pub position: Position,

@@ -2,6 +2,8 @@
 // book that a run breaks, the position and the run's length, and then for each of its actions the
 // position, the time, the state and the action; any other answer as check_table does
 // (docs/PROGRAMS.md). Without names they are tower.bin, book.txt and table.bin.
+#![tactic(auto)]
+
 ghost use Rattle.std.specs.Prelude.{◌<◌};
 ghost use Rattle.program_run.specs.Walking.{RunInList, OnRun};
 ghost use Rattle.why_not.specs.Files.{ShownFiles};

@@ -9,7 +9,7 @@ use lib.Dec.{ltb, eqb}
 use borrow.Author.Tests.{ltb-true, ltb-false, lt-ltb, le-ltb}
 use Rattle.base.specs.Lists.{some_of}
 use Rattle.base.specs.Bytes.{long_enough, cleared}
-use Rattle.base.specs.Answers.{refusal_said, verdict_said, why_said, Answer, refuse, give, ◌if◌else◌}
+use Rattle.base.specs.Answers.{refusal_said, verdict_said, why_said, Answer, refuse, give}
 use Rattle.base.specs.declared.Reason.{Reason}
 use Rattle.base.specs.declared.Reason.TheVariants.{Broken}
 use Rattle.base.specs.declared.Reason.TheVariants as Why
@@ -44,7 +44,7 @@ use Rattle.outcome.proofs.Counted.{over_full_items_iff}
 use Rattle.outcome.proofs.FitCalls.{judgeable}
 use Rattle.outcome.proofs.Items.{all_walked}
 use Rattle.outcome.proofs.Refusals.{check_enough, check_short, check_refuses, check_areas_right}
-use Rattle.why_outcome.specs.Why.{Shown, own, shows, shown_run, place_in, shown_of, shown_in, why_behind, why_file, why_answer, why_list, why_outcome}
+use Rattle.why_outcome.specs.Why.{Shown, shows, shown_run, place_in, shown_of, shown_in, why_behind, why_file, why_answer, why_list, why_outcome}
 use Rattle.why_outcome.specs.WhyRight.{own_answer, Explained, RightWhy, why_own, why_room, why_shown, why_numbers}
 use Rattle.why_outcome.proofs.Files.{Earlier, why_by}
 use Rattle.why_outcome.proofs.Breaking.{SizedRight, some_broken_run}

@@ -16,8 +16,7 @@ use Rattle.base.specs.declared.Verdict.{Verdict}
 use Rattle.base.specs.declared.Verdict.TheVariants as Check
 use Rattle.base.specs.declared.WhyAnswer.{WhyAnswer}
 use Rattle.base.specs.declared.WhyAnswer.TheVariants as Shows
-use Rattle.logic.specs.Time.{position}
-use Rattle.logic.specs.Why.{Sooner, Soonest, AllowedBroken}
+use Rattle.logic.specs.Why.{Sooner}
 use Rattle.logic.specs.declared.Position.{Position}
 use Rattle.alternatives.specs.Pairs.{most_pairs}
 use Rattle.outcome.specs.Areas.{check_areas}

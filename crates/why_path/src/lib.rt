@@ -1,11 +1,13 @@
 // The run that leads to a pair as it was first met (02, item 4): from the graph of pairs into a lent
 // list. Pairs are numbered as they are met, so the first step that leads to a pair is how it was met.
+#![tactic(auto)]
+
 ghost use Rattle.std.specs.Prelude.{◌+◌, ◌*◌, ◌≤◌, ◌<◌, ◌≡◌, length};
 ghost use Rattle.pair_graph.specs.Steps.{action_room, pair_room, HoldsGraph};
 ghost use Rattle.why_path.specs.Ways.{ways_size, from_in, action_in, StepsNoted, MetFromLower, FromLower, WayLength, WayWritten, RunWritten};
 
 // Whether a run was written: its length, or that the list is too short for it.
-#[derive(Drop)]
+#[derive(Clone, Copy)]
 pub enum Written {
     Run(usize),
     TooShort,

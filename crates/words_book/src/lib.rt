@@ -1,4 +1,6 @@
 // What is wrong with a rule book: 6 to 10.
+#![tactic(auto)]
+
 use place_book::grammar;
 use place_bytes::{byte_at, up};
 use program_saying::{in_file, say, say_number};

@@ -1,4 +1,6 @@
 // What was found in a line that is not of the grammar, in words.
+#![tactic(auto)]
+
 use place_book::grammar;
 use program_saying::say;
 

@@ -1,5 +1,7 @@
 // What is wrong with a log, in plain words: a line that is not of the form, 19, and a line that does not
 // fit. Lines are counted from 1 here, as editors count them.
+#![tactic(auto)]
+
 use outcome::{Due, LogPlace};
 use place_bytes::{byte_at, down, is_digit, plus, up, wide};
 use program_saying::{say, say_number};

@@ -1,5 +1,7 @@
 // What is worth knowing beside a good answer, on standard error: the lines of a book that leave a number
 // out, and the actions that no row of a table allows.
+#![tactic(auto)]
+
 use place_bytes::up;
 use place_lines::{line_end, line_start};
 use program_saying::{of_file, say, say_number};

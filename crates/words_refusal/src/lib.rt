@@ -1,6 +1,8 @@
 // A refusal in plain words, on standard error, for whoever has to mend a file. Lines and columns of a
 // book are counted from 1, as editors count them; states, actions and rows from 0, as the listing does.
 // The entries decide, and are proved; these words are tested.
+#![tactic(auto)]
+
 use base::{Reason, Refusal};
 use program_saying::{in_file, of_file, say, say_number};
 

@@ -2,6 +2,8 @@
 // to print and hand on. Which run, line and position it is, is the entry's answer and proved; these words
 // are tested. The line of the book is counted from 1, as editors count it; positions, ticks, states and
 // actions from 0.
+#![tactic(auto)]
+
 ghost use Rattle.std.specs.Prelude.{◌<◌};
 ghost use Rattle.logic.specs.Tower.{FitTower, tower_of};
 ghost use Rattle.program_run.specs.Walking.{RunInList};

@@ -1,4 +1,6 @@
 // What is wrong with a table file: 13 and 14.
+#![tactic(auto)]
+
 use base::Reason;
 use place_table::layout;
 use program_saying::{in_file, of_file, say, say_number};

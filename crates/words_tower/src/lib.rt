@@ -1,4 +1,6 @@
 // What is wrong with a tower file: 1 to 5, and 12 where the tower alone is to blame.
+#![tactic(auto)]
+
 use place_bytes::{down, two_at};
 use program_saying::{of_file, say, say_number};
 

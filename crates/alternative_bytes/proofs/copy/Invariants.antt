@@ -1,0 +1,11 @@
+-- `alternative_bytes::copy` meets its contract, by the laws of Ways.
+use Prim.Native.Nat.{◌-◌}
+use borrow.Author.Rules.{rules}
+use Rattle.alternative_bytes.proofs.Ways.{SameByte, Filling, filling_start, filling_on, copy_end}
+use Rattle.alternative_bytes.proofs.copy.Given as goal
+
+abbrev pub invariant-loop-k : goal.invariant-loop-k
+invariant-loop-k l = Filling (SameByte l.area l.p) l.initial.room l.to l.n l.room l.k
+
+abbrev pub decreases-loop-k : goal.decreases-loop-k
+decreases-loop-k l = l.n - l.k

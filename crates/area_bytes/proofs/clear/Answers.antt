@@ -1,0 +1,26 @@
+use borrow.Author.Rules.{rules}
+use Rattle.area_bytes.proofs.Clearing.{clear_first, clear_next, clear_end}
+use Rattle.area_bytes.proofs.clear.Goals as goal
+
+ruleset all = (rules, clear_first, clear_next, clear_end)
+
+pub loop-i-init : goal.loop-i-init
+loop-i-init c = search all
+
+pub bounds-area-i : goal.bounds-area-i
+bounds-area-i c = search all
+
+pub overflow_add-i : goal.overflow_add-i
+overflow_add-i c = search all
+
+pub loop-i-smaller : goal.loop-i-smaller
+loop-i-smaller c = search all
+
+pub loop-i-preserved : goal.loop-i-preserved
+loop-i-preserved c = search all
+
+pub shape_of-area : goal.shape_of-area
+shape_of-area c = search all
+
+pub returns : goal.returns
+returns c = search all

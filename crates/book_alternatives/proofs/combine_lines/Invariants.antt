@@ -1,0 +1,12 @@
+-- `book_alternatives::combine_lines` meets its contract, by the laws of Combining.
+use Prim.Native.Nat.{◌-◌}
+use borrow.Author.Rules.{rules}
+use Rattle.book_progression.proofs.BookHeld.{is_line}
+use Rattle.book_alternatives.proofs.Combining.{LinesGoing, lines_first, lines_end, lines_next, lines_ready}
+use Rattle.book_alternatives.proofs.combine_lines.Given as goal
+
+abbrev pub invariant-loop-i : goal.invariant-loop-i
+invariant-loop-i l = LinesGoing l.book l.n l.mask l.d l.count l.initial.sets l.initial.room l.lines l.left l.i l.sets l.room
+
+abbrev pub decreases-loop-i : goal.decreases-loop-i
+decreases-loop-i l = l.lines - l.i

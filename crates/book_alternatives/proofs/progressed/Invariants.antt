@@ -1,0 +1,11 @@
+-- `book_alternatives::progressed` meets its contract, by the laws of Joining.
+use Prim.Native.Nat.{◌-◌}
+use borrow.Author.Rules.{rules}
+use Rattle.book_alternatives.proofs.Joining.{Joining, joining_first, joining_ready, joining_next, joining_end}
+use Rattle.book_alternatives.proofs.progressed.Given as goal
+
+abbrev pub invariant-loop-i : goal.invariant-loop-i
+invariant-loop-i l = Joining l.book l.n l.mask l.d l.old l.from l.count l.initial.sets l.initial.room l.left l.i l.sets l.room
+
+abbrev pub decreases-loop-i : goal.decreases-loop-i
+decreases-loop-i l = l.count - l.i

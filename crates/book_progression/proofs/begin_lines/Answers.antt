@@ -1,0 +1,17 @@
+use Prim.Native.Nat.{◌-◌}
+use Rattle.book_progression.proofs.Lines.{LinesBeginning, begin_first, begin_end, begin_next}
+use Rattle.book_progression.proofs.BookHeld.{is_line}
+use borrow.Author.Rules.{rules}
+use Rattle.book_progression.proofs.begin_lines.Goals as goal
+
+pub loop-at-init : goal.loop-at-init
+loop-at-init c = search (rules, begin_first)
+
+pub begin_line-requires : goal.begin_line-requires
+begin_line-requires c = record { line = search (rules, is_line); cells_len = search rules }
+
+pub loop-at-preserved : goal.loop-at-preserved
+loop-at-preserved c = search (rules, begin_next)
+
+pub returns : goal.returns
+returns c = search (rules, begin_end)

@@ -1,0 +1,13 @@
+-- `book_reader::begins_with` meets its contract; each need follows by the laws of its way.
+use Prim.Native.Nat.{◌-◌}
+use lib.ListN.{length}
+use Rattle.book_reader.specs.Lines.{ComparingWord}
+use Rattle.book_reader.proofs.Ways.{comparing_start, comparing_short, comparing_other, comparing_more, comparing_all}
+use borrow.Author.Rules.{rules}
+use Rattle.book_reader.proofs.begins_with.Given as goal
+
+abbrev pub invariant-loop-i : goal.invariant-loop-i
+invariant-loop-i l = ComparingWord l.s l.at l.word l.i l.p
+
+abbrev pub decreases-loop-i : goal.decreases-loop-i
+decreases-loop-i l = length l.word - l.i

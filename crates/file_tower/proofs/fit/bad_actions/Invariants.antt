@@ -1,0 +1,14 @@
+-- `file_tower::fit::bad_actions` meets its contract.
+-- The invariant: the numbers from the counter on decide. The measure: how many there are.
+use Prim.Native.Nat.{◌-◌}
+use Rattle.file_tower.specs.Stages.{bad_action}
+use Rattle.area_bytes.proofs.Scans.{Left}
+use Rattle.base.specs.Lists.{some_of}
+use Rattle.logic.specs.Tower.{actions_of}
+use Rattle.file_tower.proofs.fit.bad_actions.Given as goal
+
+abbrev pub invariant-loop-a : goal.invariant-loop-a
+invariant-loop-a l = Left (some_of (bad_action l.bytes)) 0 (actions_of l.bytes) l.actions l.a
+
+abbrev pub decreases-loop-a : goal.decreases-loop-a
+decreases-loop-a l = l.actions - l.a

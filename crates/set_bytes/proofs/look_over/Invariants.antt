@@ -1,0 +1,13 @@
+-- The loop keeps what `LookingOver` says of the first i. Those that are left become fewer.
+use borrow.Author.Rules.{rules}
+use Prim.Native.Nat.{◌-◌}
+use Rattle.set_bytes.proofs.Dropping.{LookingOver, look_start, look_covered, look_needless, look_apart, look_end}
+use Rattle.book_progression.proofs.Nodes.{cast_byte}
+use Rattle.set_bytes.proofs.Chosen.{number_fits, number_inside}
+use Rattle.set_bytes.proofs.look_over.Given as goal
+
+abbrev pub invariant-loop-i : goal.invariant-loop-i
+invariant-loop-i l = LookingOver l.book l.n l.room l.order l.m l.c l.i l.found
+
+abbrev pub decreases-loop-i : goal.decreases-loop-i
+decreases-loop-i l = l.m - l.i

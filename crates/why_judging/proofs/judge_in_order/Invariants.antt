@@ -1,0 +1,11 @@
+-- `judge_in_order`: nodes in order.
+use Prim.Native.Nat.{◌-◌}
+use Rattle.why_judging.proofs.Loops.{NodesJudging, nodes_first, nodes_ready, nodes_next, nodes_end}
+use borrow.Author.Rules.{rules}
+use Rattle.why_judging.proofs.judge_in_order.Given as goal
+
+abbrev pub invariant-loop-k : goal.invariant-loop-k
+invariant-loop-k l = NodesJudging l.tower l.nodes l.run l.states l.n l.initial.kept l.k l.kept
+
+abbrev pub decreases-loop-k : goal.decreases-loop-k
+decreases-loop-k l = l.count - l.k

@@ -1,0 +1,11 @@
+-- `judge_next`: positions from the last back.
+use Rattle.why_judging.proofs.Loops.{NodeJudging, node_first, node_put, node_end}
+use borrow.Author.Rules.{rules}
+use Rattle.why_judging.proofs.judge_next.Given as goal
+
+abbrev pub invariant-loop-i : goal.invariant-loop-i
+invariant-loop-i l =
+    NodeJudging l.tower l.nodes l.run l.states l.marks l.n l.k l.initial.kept l.i l.kept
+
+abbrev pub decreases-loop-i : goal.decreases-loop-i
+decreases-loop-i l = l.i
