@@ -38,6 +38,8 @@ module _ (tower : Tower) (book : Book) (graph : Graph) (of : GraphOf tower book 
   -- a move that leads to a safe pair is a step to it
   led_step : (staying : ℕ → Bool) (test : Pair → Bool) (i a : ℕ) (m : Move) → ((j : ℕ) → j < length (pairs tower book) → staying j ≡ true → test (numbered tower book j) ≡ true)
       → SaysStep tower book i a m → LeadsTo staying m → there_with test (pair_step tower book (numbered tower book i) a) ≡ true
+  led_step staying test i a not_enabled all _ x4 = elim x4 [ ]
+  led_step staying test i a broken all _ x5 = elim x5 [ ]
   led_step staying test i a (to j) all (says_to _ lt e) (led _ k) = there_with_in test e (all j lt k)
 
   module _ (staying : ℕ → Bool) (test : Pair → Bool)

@@ -1,0 +1,12 @@
+-- `maker_classes::pass::adopt` meets its contract.
+-- The invariant: the entries before `p` are adopted. The measure: how many are left.
+use Prim.Native.Nat.{◌-◌}
+use Rattle.maker_classes.proofs.Ways.{Adopting, adopt_start, adopt_entry, adopt_fits, adopt_place, adopt_new, adopt_class, adopt_more, adopt_end}
+use borrow.Author.Rules.{rules}
+use Rattle.maker_classes.proofs.pass.adopt.Given as goal
+
+abbrev pub invariant-loop-p : goal.invariant-loop-p
+invariant-loop-p l = Adopting l.n l.p l.initial.area l.marks l.separated l.area
+
+abbrev pub decreases-loop-p : goal.decreases-loop-p
+decreases-loop-p l = l.separated - l.p

@@ -1,0 +1,15 @@
+-- `maker_marks::mark_before_all` meets its contract.
+-- The invariant: the entries below the counter are done. The measure: how many are left.
+use Prim.Native.Nat.{◌-◌}
+use mathlib.Core.Path.{◌≡◌, refl}
+use lib.ListN.{length}
+use Rattle.maker_marks.specs.Marks.{MarkedBeforeAll}
+use Rattle.maker_marks.proofs.Ways.{all_start, entry_there, all_more, all_end}
+use borrow.Author.Rules.{rules}
+use Rattle.maker_marks.proofs.mark_before_all.Given as goal
+
+abbrev pub invariant-loop-p : goal.invariant-loop-p
+invariant-loop-p l = (MarkedBeforeAll l.n l.actions l.graph l.flags l.classes l.initial.marks l.p l.marks) × (length l.marks ≡ length l.initial.marks)
+
+abbrev pub decreases-loop-p : goal.decreases-loop-p
+decreases-loop-p l = l.entries - l.p

@@ -1,0 +1,17 @@
+-- `maker_removal::fine::some_goes` meets its contract.
+-- The invariant: the actions from the counter on decide. The measure: how many there are.
+use Prim.Native.Nat.{◌-◌}
+use Rattle.base.specs.Lists.{some_of}
+use Rattle.logic.specs.Tower.{tower_of}
+use Rattle.pair_graph.specs.Steps.{safe_in}
+use Rattle.maker_removal.specs.Removal.{goes_at}
+use Rattle.area_bytes.proofs.Scans.{Left, left_below, some_found, some_more, some_end}
+use Rattle.maker_removal.proofs.Moves.{scan_goes}
+use borrow.Author.Rules.{rules}
+use Rattle.maker_removal.proofs.fine.some_goes.Given as goal
+
+abbrev pub invariant-loop-a : goal.invariant-loop-a
+invariant-loop-a l = Left (some_of (goes_at (tower_of l.tower) l.graph (safe_in l.flags) l.i)) 0 (tower_of l.tower).actions l.actions l.a
+
+abbrev pub decreases-loop-a : goal.decreases-loop-a
+decreases-loop-a l = l.actions - l.a

@@ -1,0 +1,28 @@
+use Prim.Native.Nat.{◌-◌}
+use Rattle.logic.specs.Tower.{tower_of}
+use Rattle.maker_removal.proofs.Turns.{ScanningCells, scan_start, scan_more, scan_end}
+use borrow.Author.Rules.{rules}
+use Rattle.maker_removal.proofs.visit_all.Goals as goal
+
+ruleset all = (rules, scan_start, scan_more, scan_end)
+
+pub loop-next-init : goal.loop-next-init
+loop-next-init c = search all
+
+pub visit-height-requires : goal.visit-height-requires
+visit-height-requires c = search all
+
+pub overflow_add-next : goal.overflow_add-next
+overflow_add-next c = search all
+
+pub loop-next-smaller : goal.loop-next-smaller
+loop-next-smaller c = search all
+
+pub loop-next-preserved : goal.loop-next-preserved
+loop-next-preserved c = search all
+
+pub shape_of-area : goal.shape_of-area
+shape_of-area c = search all
+
+pub returns : goal.returns
+returns c = search all

@@ -1,0 +1,13 @@
+-- `maker_view::bucket` meets its contract.
+-- The invariant: the sum is that of the actions before `next`. The measure: how many are left.
+use Prim.Native.Nat.{◌-◌, ◌≤◌}
+use Rattle.maker_view.specs.View.{view_of}
+use Rattle.maker_view.proofs.Looks.{first_fits, both_fit, Summing, sum_start, sum_more, sum_end}
+use borrow.Author.Rules.{rules}
+use Rattle.maker_view.proofs.bucket.Given as goal
+
+abbrev pub invariant-loop-next : goal.invariant-loop-next
+invariant-loop-next l = (Summing (view_of l.graph l.flags l.actions l.classes) l.i l.next l.sum) × (l.next ≤ l.actions)
+
+abbrev pub decreases-loop-next : goal.decreases-loop-next
+decreases-loop-next l = l.actions - l.next

@@ -1,0 +1,11 @@
+-- The loop copies the alternatives one by one. They become fewer.
+use borrow.Author.Rules.{rules}
+use Prim.Native.Nat.{◌-◌}
+use Rattle.pair_trial.proofs.Waiting.{Copying, copying_start, copying_to, copying_from, copying_next, copying_end}
+use Rattle.pair_trial.proofs.set_aside.Given as goal
+
+abbrev pub invariant-loop-j : goal.invariant-loop-j
+invariant-loop-j l = Copying l.cells l.sets l.left l.initial.room l.to l.j l.room
+
+abbrev pub decreases-loop-j : goal.decreases-loop-j
+decreases-loop-j l = l.left - l.j

@@ -1,0 +1,15 @@
+-- The loop keeps what `Trying` says: what comes of every action so far waits. The actions become fewer.
+use borrow.Author.Rules.{rules}
+use Prim.Native.Nat.{◌-◌}
+use mathlib.Core.Path.{◌≡◌}
+use lib.ListN.{length}
+use Rattle.pair_trial.specs.Walked.{walked}
+use Rattle.pair_trial.specs.Trial.{Trying}
+use Rattle.pair_trial.proofs.Trials.{all_listed, all_behind, trying_start, trying_next, tried_over, tried_all}
+use Rattle.pair_trial.proofs.try_all.Given as goal
+
+abbrev pub invariant-loop-a : goal.invariant-loop-a
+invariant-loop-a l = Trying (walked l.tower l.table l.rows) l.nodes l.pairs l.i l.room l.a × (length l.sets ≡ length l.initial.sets) × (length l.room ≡ length l.initial.room)
+
+abbrev pub decreases-loop-a : goal.decreases-loop-a
+decreases-loop-a l = l.actions - l.a
