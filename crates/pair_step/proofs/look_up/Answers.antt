@@ -11,20 +11,7 @@ pub returns-then-not-enter : goal.returns-then-not-enter
 returns-then-not-enter c = search (rules, not-true, looked_broken)
 
 pub note-place-requires : goal.note-place-requires
-note-place-requires c = let entered = c.enter.ensures in
-    let asked = c.requires.searching in (
-      still_indexed _ _ _ _ _ _ _ _ _ _ entered asked.turning.indexed,
-      (
-        still_headed _ _ _ _ _ _ _ _ _ entered (search (rules, not-false)),
-        (
-          search rules,
-          (
-            still_room _ _ _ _ _ _ _ _ _ _ entered asked.turning.filled,
-            search rules,
-          ),
-        ),
-      ),
-    )
+note-place-requires c = let entered = c.enter.ensures in let asked = c.requires.searching in record { indexed = still_indexed _ _ _ _ _ _ _ _ _ _ entered asked.turning.indexed; headed = still_headed _ _ _ _ _ _ _ _ _ entered (search (rules, not-false)); n_le_most_entries = search rules; entries_size_in_bounds = still_room _ _ _ _ _ _ _ _ _ _ entered asked.turning.filled; index_size_in_bounds = search rules }
 
 pub overflow_add-result : goal.overflow_add-result
 overflow_add-result c = search (rules, move_fits)

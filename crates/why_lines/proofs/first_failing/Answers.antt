@@ -12,7 +12,7 @@ pub kept_at-requires : goal.kept_at-requires
 kept_at-requires c = search all
 
 pub returns-then-not-kept_at : goal.returns-then-not-kept_at
-returns-then-not-kept_at c = so_far_found _ _ _ _ c.loop-i.invariant _ c.loop-i-test.true c.kept_at.ensures c.if-not-kept_at.true
+returns-then-not-kept_at c = so_far_found _ _ _ _ c.loop-i.invariant _ c.loop-i-test.true c.kept_at.ensures c.if-not-kept_at.true-raw
 
 pub overflow_add-i : goal.overflow_add-i
 overflow_add-i c = search all

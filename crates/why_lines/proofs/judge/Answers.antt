@@ -9,13 +9,12 @@ pub judge_nodes-requires : goal.judge_nodes-requires
 judge_nodes-requires c = let asked = c.requires in record { run_held = c.note_states.ensures.held; held = asked.run_given.held; marks_size_in_bounds = asked.marks_size_in_bounds; kept_size_in_bounds = asked.kept_size_in_bounds }
 
 pub lowest-requires : goal.lowest-requires
-lowest-requires c = let noted = c in
-    let asked = noted.before.before.before.before.before.before.before.before.requires in (
-      noted.note-states.ensures,
-      record {
-        some_position = asked.0.some_position;
-        held = asked.0.held;
-        room = search rules;
-        all = c.judge_nodes.ensures;
-      },
-    )
+lowest-requires c = let asked = c.requires in record {
+  run_noted = c.note_states.ensures;
+  lines_ready = record {
+    some_position = asked.run_given.some_position;
+    held = asked.run_given.held;
+    room = search rules;
+    all = c.judge_nodes.ensures;
+  };
+}

@@ -19,7 +19,7 @@ pub overflow_sub-k : goal.overflow_sub-k
 overflow_sub-k c = search all
 
 pub alike-requires : goal.alike-requires
-alike-requires c = (search rules, (search seek_pair, (search rules, search part_room)))
+alike-requires c = record { flagged_graph = search rules; i_lt_pairs = search seek_pair; j_lt_pairs = search rules; in_bounds = search part_room }
 
 pub overflow_mul-k : goal.overflow_mul-k
 overflow_mul-k c = search all

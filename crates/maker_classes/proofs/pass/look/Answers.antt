@@ -31,7 +31,7 @@ pub slice_bounds-alike-end-2 : goal.slice_bounds-alike-end-2
 slice_bounds-alike-end-2 c = search all
 
 pub alike-requires : goal.alike-requires
-alike-requires c = (search rules, (search first_there, (search rules, search part_room)))
+alike-requires c = record { flagged_graph = search rules; i_lt_pairs = search first_there; j_lt_pairs = search rules; in_bounds = search part_room }
 
 pub shape_of-area-then-alike : goal.shape_of-area-then-alike
 shape_of-area-then-alike c = search all
@@ -43,7 +43,7 @@ pub returns-then-alike : goal.returns-then-alike
 returns-then-alike c = look_alike _ _ _ _ _ _ _ _ c.requires.passed c.requires.i_lt_pairs _ c.is_marked.ensures _ c.class-first.ensures _ c.alike.ensures c.if-alike.true
 
 pub leave-requires : goal.leave-requires
-leave-requires c = (search rules, look_leaving _ _ _ _ _ _ _ _ c.requires.passed c.requires.i_lt_pairs _ c.is_marked.ensures _ c.class-first.ensures _ c.alike.ensures (search (rules, not-true, not-false)) (search rules))
+leave-requires c = record { passed = search rules; leaving = look_leaving _ _ _ _ _ _ _ _ c.requires.passed c.requires.i_lt_pairs _ c.is_marked.ensures _ c.class-first.ensures _ c.alike.ensures (search (rules, not-true, not-false)) (search rules) }
 
 pub overflow_add-result : goal.overflow_add-result
 overflow_add-result c = search all

@@ -1,0 +1,8 @@
+-- `answer_numbers::yes` meets its contract.
+use borrow.Author.Rules.{rules}
+use Rattle.answer_numbers.specs.Shown.{shown}
+use Rattle.answer_numbers.proofs.yes.Goals as goal
+
+pub returns : goal.returns
+unfolding shown
+returns c = search rules

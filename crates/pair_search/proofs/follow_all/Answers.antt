@@ -1,0 +1,55 @@
+use borrow.Author.Rules.{rules}
+use Prim.Native.Nat.{◌-◌}
+use mathlib.Core.Path.{◌≡◌}
+use lib.ListN.{length}
+use Rattle.pair_trial.specs.Walked.{walked}
+use Rattle.pair_trial.proofs.Walking.{actions_read}
+use Rattle.pair_search.proofs.Growing.{Growing, grow_start, grow_ready, grow_listed, grow_end, grow_head, grow_size, grow_more, grow_many}
+use Rattle.pair_search.proofs.follow_all.Goals as goal
+
+ruleset all = (rules, actions_read, grow_start, grow_ready, grow_listed, grow_end, grow_head, grow_size, grow_more, grow_many)
+
+pub actions-actions-requires : goal.actions-actions-requires
+actions-actions-requires c = search all
+
+pub loop-a-init : goal.loop-a-init
+loop-a-init c = (search (rules, actions_read, grow_start), search rules, search rules, search rules)
+
+pub overflow_add-a : goal.overflow_add-a
+overflow_add-a c = search all
+
+pub step-n-requires : goal.step-n-requires
+step-n-requires c = record { searching = search (rules, grow_ready); a_bound = search (rules, grow_listed) }
+
+pub first-requires : goal.first-requires
+first-requires c = record { i_bound = search (rules, grow_head); entries_size_in_bounds = search (rules, grow_size) }
+
+pub shape_of-pairs-then-first-gt-MOST : goal.shape_of-pairs-then-first-gt-MOST
+shape_of-pairs-then-first-gt-MOST c = search all
+
+pub shape_of-index-then-first-gt-MOST : goal.shape_of-index-then-first-gt-MOST
+shape_of-index-then-first-gt-MOST c = search all
+
+pub shape_of-graph-then-first-gt-MOST : goal.shape_of-graph-then-first-gt-MOST
+shape_of-graph-then-first-gt-MOST c = search all
+
+pub returns-then-first-gt-MOST : goal.returns-then-first-gt-MOST
+returns-then-first-gt-MOST c = search (rules, grow_many)
+
+pub loop-a-smaller : goal.loop-a-smaller
+loop-a-smaller c = search all
+
+pub loop-a-preserved : goal.loop-a-preserved
+loop-a-preserved c = (search (rules, grow_more), search rules, search rules, search rules)
+
+pub shape_of-pairs : goal.shape_of-pairs
+shape_of-pairs c = search all
+
+pub shape_of-index : goal.shape_of-index
+shape_of-index c = search all
+
+pub shape_of-graph : goal.shape_of-graph
+shape_of-graph c = search all
+
+pub returns : goal.returns
+returns c = search (rules, grow_end)

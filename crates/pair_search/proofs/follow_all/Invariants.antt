@@ -1,0 +1,15 @@
+-- The loop keeps what `Growing` says: the actions that are left decide what is new. They become fewer.
+use borrow.Author.Rules.{rules}
+use Prim.Native.Nat.{◌-◌}
+use mathlib.Core.Path.{◌≡◌}
+use lib.ListN.{length}
+use Rattle.pair_trial.specs.Walked.{walked}
+use Rattle.pair_trial.proofs.Walking.{actions_read}
+use Rattle.pair_search.proofs.Growing.{Growing, grow_start, grow_ready, grow_listed, grow_end, grow_head, grow_size, grow_more, grow_many}
+use Rattle.pair_search.proofs.follow_all.Given as goal
+
+abbrev pub invariant-loop-a : goal.invariant-loop-a
+invariant-loop-a l = Growing (walked l.tower l.table l.rows) l.nodes l.wide l.initial.pairs l.i l.met l.actions l.a l.pairs l.index l.graph l.n × (length l.pairs ≡ length l.initial.pairs) × (length l.index ≡ length l.initial.index) × (length l.graph ≡ length l.initial.graph)
+
+abbrev pub decreases-loop-a : goal.decreases-loop-a
+decreases-loop-a l = l.actions - l.a
