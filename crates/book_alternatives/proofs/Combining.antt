@@ -10,7 +10,7 @@ use lib.ListN.{length, get_or, drop, drop_of_length-le}
 use lib.Seq.{drop-cons}
 use Rattle.logic.specs.Time.{ticks}
 use Rattle.logic.specs.Tower.{Tower}
-use Rattle.logic.specs.Book.{Formula, constant, size, root, Book}
+use Rattle.logic.specs.Book.{Formula, constant, root, Book}
 use Rattle.logic.specs.declared.Tick.{Tick}
 use Rattle.pending.specs.Pending.{Pending, fresh}
 use Rattle.reading.specs.BookArea.{nodes_in, lines_in}

@@ -17,7 +17,7 @@ use Rattle.base.specs.Bytes.{byte_at}
 use Rattle.base.specs.Lists.{every}
 use Rattle.base.proofs.Lists.{and_left, and_right, or_cases}
 use Rattle.logic.specs.Time.{ticks}
-use Rattle.logic.specs.Book.{Formula, constant, proposition, and, or, next, until, within}
+use Rattle.logic.specs.Book.{Formula, constant, proposition, and, or, until, within}
 use Rattle.logic.specs.declared.Tick.{Tick}
 use Rattle.reading.specs.Tokens.{stands, skip, numeral, mark_named, mark_at, mark_token}
 use Rattle.reading.specs.Grammar.{Bound, no_bound, compared, optional, Connective, connective, connectives, BoundRead, bound_at, Parsed, bad, got, onward, behind, Level, or_level, and_level, unit_level, or_rest, and_rest, joining, bracketed, two_parts, with_bound, led, marked_unit, unit_at, read_level, formula_one, formula_two, formula_at}

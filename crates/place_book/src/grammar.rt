@@ -89,7 +89,7 @@ const SECOND_PART: u8 = 2;
 
 // How far a line was read: the place, what is expected there, how many brackets are open, and what
 // was found.
-#[derive(Clone, Copy)]
+#[derive(Drop)]
 pub struct Scan {
     pub at: usize,
     pub expected: u8,

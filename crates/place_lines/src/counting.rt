@@ -2,7 +2,7 @@
 use place_bytes::{byte_at, down, is_digit, plus, up, wide};
 
 // A number in a text: where it begins and what it is; or none.
-#[derive(Clone, Copy)]
+#[derive(Drop)]
 pub struct Numeral {
     pub at: usize,
     pub value: usize,
@@ -150,7 +150,7 @@ pub fn nodes_to(text: &[u8], end: usize) -> usize {
 }
 
 // Open brackets: how many there are, and the most there were.
-#[derive(Clone, Copy)]
+#[derive(Drop)]
 pub struct Open {
     now: usize,
     most: usize,

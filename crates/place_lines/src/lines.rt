@@ -4,7 +4,7 @@ use place_bytes::down;
 const LINE_END: u8 = 10;
 
 // Where a line may begin, and how many line ends come before it still.
-#[derive(Clone, Copy)]
+#[derive(Drop)]
 pub struct Start {
     at: usize,
     left: usize,

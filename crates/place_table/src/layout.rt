@@ -4,7 +4,7 @@ use place_bytes::{plus, two_at};
 
 // What is wrong, in which row or step, the value that is there, and what it should be or be below.
 // `what` is 0 where nothing is.
-#[derive(Clone, Copy)]
+#[derive(Drop)]
 pub struct Fault {
     pub what: u8,
     pub number: usize,

@@ -10,7 +10,7 @@ const NOWHERE: u8 = 1;
 
 // How far a line was read: how many brackets are open, whether the unit behind E comes, and whether the
 // place was found.
-#[derive(Clone, Copy)]
+#[derive(Drop)]
 pub struct Timed {
     pub at: usize,
     pub found: bool,

@@ -4,7 +4,7 @@ use place_bytes::{number_at, plus, two_at};
 
 // A place in a tower file: the state and the action that it is about, the place and what is there. `is`
 // says whether there is one.
-#[derive(Clone, Copy)]
+#[derive(Drop)]
 pub struct Spot {
     pub state: usize,
     pub action: usize,

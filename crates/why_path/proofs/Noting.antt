@@ -1,5 +1,5 @@
 -- How each pair was first met is noted: step by step, from the last to the first.
-use Prim.Native.Nat.{ℕ, zero, suc, ◌+◌, ◌-◌, ◌*◌, ◌≤◌, ◌<◌}
+use Prim.Native.Nat.{ℕ, ◌+◌, ◌-◌, ◌*◌, ◌≤◌, ◌<◌}
 use native.Mathlib.Omega.{arith}
 use native.Mathlib.Decide.{dec_lt, ℕ_discrete}
 use mathlib.Core.Path.{◌≡◌, refl, sym, ap, ◌∙◌, subst}
@@ -11,7 +11,7 @@ use mir.Syntax.{w8, w64}
 use mir.Val.{Fits}
 use Rattle.base.specs.Bytes.{number_at, number_bytes}
 use Rattle.area_bytes.proofs.Numbers.{stored, byte_beside, stored_read, stored_beside, length_stored}
-use Rattle.pair_graph.specs.Graph.{Move, to}
+use Rattle.pair_graph.specs.Graph.{to}
 use Rattle.pair_graph.specs.Steps.{cell, move_of, move_at, HoldsGraph}
 use Rattle.pair_graph.proofs.Lists.{low_nowhere, one_target}
 use Rattle.pair_graph.proofs.Moves.{high_move}

@@ -1,7 +1,6 @@
-use Prim.Native.Nat.{◌-◌}
 use borrow.Author.Rules.{rules}
 use Rattle.book_progression.proofs.Stepping.{node_there}
-use Rattle.alternative_bytes.proofs.Ways.{Asking, asking_start, asking_end, asking_fails, asking_on, fewer_left}
+use Rattle.alternative_bytes.proofs.Ways.{asking_start, asking_end, asking_fails, asking_on, fewer_left}
 use Rattle.alternative_bytes.proofs.asks_from.Goals as goal
 
 ruleset all = (rules, asking_start, node_there, asking_end, asking_fails, asking_on, fewer_left)

@@ -1,6 +1,5 @@
-use Prim.Native.Nat.{◌-◌}
 use borrow.Author.Rules.{rules}
-use Rattle.alternative_bytes.proofs.Ways.{SameByte, Filling, filling_start, filling_on, copy_end}
+use Rattle.alternative_bytes.proofs.Ways.{filling_start, filling_on, copy_end}
 use Rattle.alternative_bytes.proofs.copy.Goals as goal
 
 ruleset all = (rules, filling_start, filling_on, copy_end)

@@ -1,7 +1,6 @@
 -- `alternative_bytes::copy` meets its contract, by the laws of Ways.
 use Prim.Native.Nat.{◌-◌}
-use borrow.Author.Rules.{rules}
-use Rattle.alternative_bytes.proofs.Ways.{SameByte, Filling, filling_start, filling_on, copy_end}
+use Rattle.alternative_bytes.proofs.Ways.{SameByte, Filling}
 use Rattle.alternative_bytes.proofs.copy.Given as goal
 
 abbrev pub invariant-loop-k : goal.invariant-loop-k

@@ -1,6 +1,4 @@
-use Prim.Native.Nat.{◌-◌}
 use borrow.Author.Rules.{rules}
-use Rattle.alternative_bytes.specs.Promises.{EqualTo}
 use Rattle.alternative_bytes.proofs.Ways.{equal_one, differ_here, differ_end}
 use Rattle.alternative_bytes.proofs.next_difference.Goals as goal
 

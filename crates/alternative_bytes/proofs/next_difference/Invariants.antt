@@ -1,8 +1,6 @@
 -- `alternative_bytes::next_difference` meets its contract, by the laws of Ways.
 use Prim.Native.Nat.{◌-◌}
-use borrow.Author.Rules.{rules}
 use Rattle.alternative_bytes.specs.Promises.{EqualTo}
-use Rattle.alternative_bytes.proofs.Ways.{equal_one, differ_here, differ_end}
 use Rattle.alternative_bytes.proofs.next_difference.Given as goal
 
 abbrev pub invariant-loop-i : goal.invariant-loop-i

@@ -1,6 +1,4 @@
-use Prim.Native.Nat.{◌-◌}
 use borrow.Author.Rules.{rules}
-use Rattle.alternative_bytes.specs.Promises.{EqualTo}
 use Rattle.alternative_bytes.proofs.Ways.{equal_none, equal_eight}
 use Rattle.alternative_bytes.proofs.past_eights.Goals as goal
 

@@ -1,8 +1,6 @@
 -- `alternative_bytes::past_eights` meets its contract, by the laws of Ways.
 use Prim.Native.Nat.{◌-◌}
-use borrow.Author.Rules.{rules}
 use Rattle.alternative_bytes.specs.Promises.{EqualTo}
-use Rattle.alternative_bytes.proofs.Ways.{equal_none, equal_eight}
 use Rattle.alternative_bytes.proofs.past_eights.Given as goal
 
 abbrev pub invariant-loop-i : goal.invariant-loop-i

@@ -1,7 +1,6 @@
-use Prim.Native.Nat.{◌-◌}
 use borrow.Author.Rules.{rules}
 use Rattle.book_progression.proofs.Stepping.{node_there, fewer_left}
-use Rattle.alternative_bytes.proofs.Ways.{Merging, merging_start, merging_on, merging_end}
+use Rattle.alternative_bytes.proofs.Ways.{merging_start, merging_on, merging_end}
 use Rattle.alternative_bytes.proofs.put_both.Goals as goal
 
 ruleset all = (rules, merging_start, node_there, merging_on, fewer_left, merging_end)

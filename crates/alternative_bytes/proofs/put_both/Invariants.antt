@@ -1,8 +1,6 @@
 -- `alternative_bytes::put_both` meets its contract, by the laws of Ways.
 use Prim.Native.Nat.{◌-◌}
-use borrow.Author.Rules.{rules}
-use Rattle.book_progression.proofs.Stepping.{node_there, fewer_left}
-use Rattle.alternative_bytes.proofs.Ways.{Merging, merging_start, merging_on, merging_end}
+use Rattle.alternative_bytes.proofs.Ways.{Merging}
 use Rattle.alternative_bytes.proofs.put_both.Given as goal
 
 abbrev pub invariant-loop-k : goal.invariant-loop-k

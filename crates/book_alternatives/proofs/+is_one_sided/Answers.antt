@@ -2,7 +2,6 @@
 use Rattle.book_progression.proofs.Nodes.{first_below, until_below, second_below}
 use Rattle.book_alternatives.proofs.Sides.{sides_leaf, sides_two, sides_only, sides_until, sides_both}
 use borrow.Author.Rules.{rules}
-use Prim.Native.Nat.{ℕ, ◌<◌}
 use Rattle.book_alternatives.proofs.+is_one_sided.Goals as goal
 
 pub returns-then-code-le-WANTED : goal.returns-then-code-le-WANTED

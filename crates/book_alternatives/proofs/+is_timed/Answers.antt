@@ -2,7 +2,6 @@
 use Rattle.book_progression.proofs.Nodes.{first_below, second_below}
 use Rattle.book_alternatives.proofs.Timing.{timed_leaf, timed_node, timed_first, timed_second}
 use borrow.Author.Rules.{rules}
-use Prim.Native.Nat.{ℕ, ◌<◌}
 use Rattle.book_alternatives.proofs.+is_timed.Goals as goal
 
 pub returns-then-code-le-WANTED : goal.returns-then-code-le-WANTED

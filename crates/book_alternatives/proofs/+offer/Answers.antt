@@ -2,7 +2,6 @@
 use Rattle.book_alternatives.proofs.Offering.{offer_node, offer_own, fresh_few, part_node, part_inside, part_ready, stays_ready, second_is_node, second_part_ready, two_ready, offered_tested, offered_alone, offered_stays, offered_two}
 use Rattle.book_alternatives.proofs.InPlace.{in_place_ready, offered_one}
 use borrow.Author.Rules.{rules}
-use Prim.Native.Nat.{ℕ, ◌<◌}
 use Rattle.book_alternatives.proofs.+offer.Goals as goal
 
 pub gives_one-requires : goal.gives_one-requires

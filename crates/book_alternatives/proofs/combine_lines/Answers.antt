@@ -1,7 +1,6 @@
-use Prim.Native.Nat.{◌-◌}
 use borrow.Author.Rules.{rules}
 use Rattle.book_progression.proofs.BookHeld.{is_line}
-use Rattle.book_alternatives.proofs.Combining.{LinesGoing, lines_first, lines_end, lines_next, lines_ready}
+use Rattle.book_alternatives.proofs.Combining.{lines_first, lines_end, lines_next, lines_ready}
 use Rattle.book_alternatives.proofs.combine_lines.Goals as goal
 
 pub loop-i-init : goal.loop-i-init

@@ -1,8 +1,6 @@
 -- `book_alternatives::combine_lines` meets its contract, by the laws of Combining.
 use Prim.Native.Nat.{◌-◌}
-use borrow.Author.Rules.{rules}
-use Rattle.book_progression.proofs.BookHeld.{is_line}
-use Rattle.book_alternatives.proofs.Combining.{LinesGoing, lines_first, lines_end, lines_next, lines_ready}
+use Rattle.book_alternatives.proofs.Combining.{LinesGoing}
 use Rattle.book_alternatives.proofs.combine_lines.Given as goal
 
 abbrev pub invariant-loop-i : goal.invariant-loop-i

@@ -1,7 +1,6 @@
-use Prim.Native.Nat.{◌-◌}
 use borrow.Author.Rules.{rules}
 use Rattle.book_progression.proofs.Stepping.{fewer_left}
-use Rattle.book_alternatives.proofs.Combining.{NodesGoing, nodes_first, nodes_end, nodes_on, nodes_ready}
+use Rattle.book_alternatives.proofs.Combining.{nodes_first, nodes_end, nodes_on, nodes_ready}
 use Rattle.book_alternatives.proofs.combine_nodes.Goals as goal
 
 pub loop-k-init : goal.loop-k-init

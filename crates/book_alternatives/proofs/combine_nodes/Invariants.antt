@@ -1,8 +1,6 @@
 -- `book_alternatives::combine_nodes` meets its contract, by the laws of Combining.
 use Prim.Native.Nat.{◌-◌}
-use borrow.Author.Rules.{rules}
-use Rattle.book_progression.proofs.Stepping.{fewer_left}
-use Rattle.book_alternatives.proofs.Combining.{NodesGoing, nodes_first, nodes_end, nodes_on, nodes_ready}
+use Rattle.book_alternatives.proofs.Combining.{NodesGoing}
 use Rattle.book_alternatives.proofs.combine_nodes.Given as goal
 
 abbrev pub invariant-loop-k : goal.invariant-loop-k

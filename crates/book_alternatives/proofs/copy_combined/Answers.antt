@@ -1,6 +1,5 @@
-use Prim.Native.Nat.{◌-◌}
 use borrow.Author.Rules.{rules}
-use Rattle.book_alternatives.proofs.Copying.{Copying, copying_start, copying_next, copying_over, copying_end}
+use Rattle.book_alternatives.proofs.Copying.{copying_start, copying_next, copying_over, copying_end}
 use Rattle.book_alternatives.proofs.copy_combined.Goals as goal
 
 ruleset all = (rules, copying_start, copying_next, copying_over, copying_end)

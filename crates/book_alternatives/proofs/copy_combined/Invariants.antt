@@ -1,7 +1,6 @@
 -- `book_alternatives::copy_combined` meets its contract, by the laws of Copying.
 use Prim.Native.Nat.{◌-◌}
-use borrow.Author.Rules.{rules}
-use Rattle.book_alternatives.proofs.Copying.{Copying, copying_start, copying_next, copying_over, copying_end}
+use Rattle.book_alternatives.proofs.Copying.{Copying}
 use Rattle.book_alternatives.proofs.copy_combined.Given as goal
 
 abbrev pub invariant-loop-k : goal.invariant-loop-k

@@ -1,6 +1,5 @@
-use Prim.Native.Nat.{◌-◌}
 use borrow.Author.Rules.{rules}
-use Rattle.book_alternatives.proofs.Joining.{Joining, joining_first, joining_ready, joining_next, joining_end}
+use Rattle.book_alternatives.proofs.Joining.{joining_first, joining_ready, joining_next, joining_end}
 use Rattle.book_alternatives.proofs.progressed.Goals as goal
 
 pub loop-i-init : goal.loop-i-init

@@ -1,7 +1,6 @@
 -- `book_alternatives::progressed` meets its contract, by the laws of Joining.
 use Prim.Native.Nat.{◌-◌}
-use borrow.Author.Rules.{rules}
-use Rattle.book_alternatives.proofs.Joining.{Joining, joining_first, joining_ready, joining_next, joining_end}
+use Rattle.book_alternatives.proofs.Joining.{Joining}
 use Rattle.book_alternatives.proofs.progressed.Given as goal
 
 abbrev pub invariant-loop-i : goal.invariant-loop-i

@@ -1,6 +1,5 @@
-use Prim.Native.Nat.{◌-◌}
 use borrow.Author.Rules.{rules}
-use Rattle.book_alternatives.proofs.Widths.{NoneSided, none_start, none_more, two_timed_none, two_timed_some, node_there}
+use Rattle.book_alternatives.proofs.Widths.{none_start, none_more, two_timed_none, two_timed_some, node_there}
 use Rattle.book_alternatives.proofs.two_timed.Goals as goal
 
 ruleset all = (rules, none_start, none_more, two_timed_none, two_timed_some, node_there)

@@ -1,8 +1,7 @@
 -- `book_alternatives::two_timed` meets its contract.
 -- The invariant: no node that was passed is an or with two timed sides. The measure: how many are left.
 use Prim.Native.Nat.{◌-◌}
-use borrow.Author.Rules.{rules}
-use Rattle.book_alternatives.proofs.Widths.{NoneSided, none_start, none_more, two_timed_none, two_timed_some, node_there}
+use Rattle.book_alternatives.proofs.Widths.{NoneSided}
 use Rattle.book_alternatives.proofs.two_timed.Given as goal
 
 abbrev pub invariant-loop-k : goal.invariant-loop-k

@@ -1,6 +1,6 @@
 -- The readers of formulas meet their contracts: the cycle of calls falls by the bytes left with a level number, and each goal follows by the laws of its way.
 use native.Mathlib.Omega.{arith}
-use Rattle.book_formula.specs.Parse.{Joins, by_or, by_and}
+use Rattle.book_formula.specs.Parse.{by_or, by_and}
 use Rattle.book_formula.proofs.Ways.{bracketed_bad, bracketed_open, bracketed_read, first_bad, joins_bad, joins_end, joins_more, joins_start, led_fits, led_inside, led_nothing, led_one, led_two, led_unbounded, led_within, less_bracket, less_first, less_joined, less_led, less_part, less_rest, less_second, less_turn, letter_fits, letter_inside, one_bad, one_put, second_bad, second_read, second_unclosed, second_undivided, two_bad, two_read, two_unopened, unit_false, unit_led, unit_marked, unit_negated, unit_open, unit_true, within_bad, within_read}
 use borrow.Author.Rules.{rules}
 use Rattle.book_formula.proofs.+formula_readers.Goals as goal

@@ -2,7 +2,6 @@
 use Rattle.book_progression.proofs.Nodes.{first_below, second_below}
 use Rattle.book_progression.proofs.Holding.{holds_timed, holds_and_not, holds_and, holds_or_first, holds_or}
 use borrow.Author.Rules.{rules}
-use Prim.Native.Nat.{ℕ, ◌<◌}
 use Rattle.book_progression.proofs.+holds.Goals as goal
 
 pub returns-then-code-ge-NO_MORE : goal.returns-then-code-ge-NO_MORE

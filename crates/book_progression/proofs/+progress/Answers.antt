@@ -2,7 +2,6 @@
 use Rattle.book_progression.proofs.Nodes.{first_node, until_node, second_node}
 use Rattle.book_progression.proofs.Progressing.{progress_leaf, progress_next, progress_until_ends, progress_until_late, progress_until_broken, progress_until, progress_and_broken, progress_and, progress_or_second_holds, progress_or_first, progress_or_first_holds, progress_or_second, first_ready, until_ready, second_ready, still_ready, is_next}
 use borrow.Author.Rules.{rules}
-use Prim.Native.Nat.{ℕ, ◌<◌}
 use Rattle.book_progression.proofs.+progress.Goals as goal
 
 pub code-code-requires : goal.code-code-requires

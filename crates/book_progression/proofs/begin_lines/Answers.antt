@@ -1,5 +1,4 @@
-use Prim.Native.Nat.{◌-◌}
-use Rattle.book_progression.proofs.Lines.{LinesBeginning, begin_first, begin_end, begin_next}
+use Rattle.book_progression.proofs.Lines.{begin_first, begin_end, begin_next}
 use Rattle.book_progression.proofs.BookHeld.{is_line}
 use borrow.Author.Rules.{rules}
 use Rattle.book_progression.proofs.begin_lines.Goals as goal

@@ -1,8 +1,6 @@
 -- `book_progression::begin_lines` meets its contract, by the laws of Lines and BookHeld.
 use Prim.Native.Nat.{◌-◌}
-use Rattle.book_progression.proofs.Lines.{LinesBeginning, begin_first, begin_end, begin_next}
-use Rattle.book_progression.proofs.BookHeld.{is_line}
-use borrow.Author.Rules.{rules}
+use Rattle.book_progression.proofs.Lines.{LinesBeginning}
 use Rattle.book_progression.proofs.begin_lines.Given as goal
 
 abbrev pub invariant-loop-at : goal.invariant-loop-at

@@ -1,6 +1,4 @@
 use borrow.Author.Rules.{rules}
-use Prim.Native.Nat.{◌-◌}
-use Rattle.book_progression.specs.Promises.{EmptyTo}
 use Rattle.book_progression.proofs.Stepping.{empty_none, empty_one}
 use Rattle.book_progression.proofs.past_empty.Goals as goal
 

@@ -1,8 +1,6 @@
 -- The loop has passed over empty cells only.
-use borrow.Author.Rules.{rules}
 use Prim.Native.Nat.{◌-◌}
 use Rattle.book_progression.specs.Promises.{EmptyTo}
-use Rattle.book_progression.proofs.Stepping.{empty_none, empty_one}
 use Rattle.book_progression.proofs.past_empty.Given as goal
 
 abbrev pub invariant-loop-i : goal.invariant-loop-i

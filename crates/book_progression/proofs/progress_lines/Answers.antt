@@ -1,5 +1,4 @@
-use Prim.Native.Nat.{◌-◌}
-use Rattle.book_progression.proofs.Lines.{LinesGoing, lines_first, lines_end, lines_broken, lines_next}
+use Rattle.book_progression.proofs.Lines.{lines_first, lines_end, lines_broken, lines_next}
 use Rattle.book_progression.proofs.BookHeld.{is_line}
 use borrow.Author.Rules.{rules}
 use Rattle.book_progression.proofs.progress_lines.Goals as goal

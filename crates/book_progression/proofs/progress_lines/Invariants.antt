@@ -1,8 +1,6 @@
 -- `book_progression::progress_lines` meets its contract, by the laws of Lines and BookHeld.
 use Prim.Native.Nat.{◌-◌}
-use Rattle.book_progression.proofs.Lines.{LinesGoing, lines_first, lines_end, lines_broken, lines_next}
-use Rattle.book_progression.proofs.BookHeld.{is_line}
-use borrow.Author.Rules.{rules}
+use Rattle.book_progression.proofs.Lines.{LinesGoing}
 use Rattle.book_progression.proofs.progress_lines.Given as goal
 
 abbrev pub invariant-loop-i : goal.invariant-loop-i

@@ -1,5 +1,4 @@
-use Prim.Native.Nat.{◌-◌}
-use Rattle.book_progression.proofs.Stepping.{NodesGoing, nodes_first, nodes_end, nodes_broken, nodes_on, fewer_left, cell_inside, node_there}
+use Rattle.book_progression.proofs.Stepping.{nodes_first, nodes_end, nodes_broken, nodes_on, fewer_left, cell_inside, node_there}
 use borrow.Author.Rules.{rules}
 use Rattle.book_progression.proofs.progress_nodes.Goals as goal
 

@@ -1,4 +1,4 @@
-use Rattle.book_progression.proofs.Nesting.{Nesting, nesting_first, nesting_less, nesting_node, nesting_next, nesting_end}
+use Rattle.book_progression.proofs.Nesting.{nesting_first, nesting_less, nesting_node, nesting_next, nesting_end}
 use borrow.Author.Rules.{rules}
 use Rattle.book_progression.proofs.stay_nested.Goals as goal
 

@@ -1,6 +1,5 @@
 -- `book_progression::stay_nested` meets its contract, by the laws of Nesting.
-use Rattle.book_progression.proofs.Nesting.{Nesting, nesting_first, nesting_less, nesting_node, nesting_next, nesting_end}
-use borrow.Author.Rules.{rules}
+use Rattle.book_progression.proofs.Nesting.{Nesting}
 use Rattle.book_progression.proofs.stay_nested.Given as goal
 
 abbrev pub invariant-loop-d : goal.invariant-loop-d

@@ -1,7 +1,5 @@
-use Prim.Native.Nat.{◌-◌}
-use lib.ListN.{length, length-set}
+use lib.ListN.{length-set}
 use native.Mathlib.Omega.{arith}
-use Rattle.book_reader.specs.Lines.{Coming}
 use Rattle.book_reader.proofs.Ways.{coming_start, coming_on, coming_less, lines_refused, lines_read, lines_few}
 use borrow.Author.Rules.{rules}
 use Rattle.book_reader.proofs.all_lines.Goals as goal

@@ -1,10 +1,7 @@
 -- `book_reader::all_lines` meets its contract; each need follows by the laws of its way.
 use Prim.Native.Nat.{◌-◌}
-use lib.ListN.{length, length-set}
-use native.Mathlib.Omega.{arith}
+use lib.ListN.{length}
 use Rattle.book_reader.specs.Lines.{Coming}
-use Rattle.book_reader.proofs.Ways.{coming_start, coming_on, coming_less, lines_refused, lines_read, lines_few}
-use borrow.Author.Rules.{rules}
 use Rattle.book_reader.proofs.all_lines.Given as goal
 
 abbrev pub invariant-loop-at : goal.invariant-loop-at

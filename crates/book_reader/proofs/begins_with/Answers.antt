@@ -1,6 +1,3 @@
-use Prim.Native.Nat.{◌-◌}
-use lib.ListN.{length}
-use Rattle.book_reader.specs.Lines.{ComparingWord}
 use Rattle.book_reader.proofs.Ways.{comparing_start, comparing_short, comparing_other, comparing_more, comparing_all}
 use borrow.Author.Rules.{rules}
 use Rattle.book_reader.proofs.begins_with.Goals as goal

@@ -2,8 +2,6 @@
 use Prim.Native.Nat.{◌-◌}
 use lib.ListN.{length}
 use Rattle.book_reader.specs.Lines.{ComparingWord}
-use Rattle.book_reader.proofs.Ways.{comparing_start, comparing_short, comparing_other, comparing_more, comparing_all}
-use borrow.Author.Rules.{rules}
 use Rattle.book_reader.proofs.begins_with.Given as goal
 
 abbrev pub invariant-loop-i : goal.invariant-loop-i

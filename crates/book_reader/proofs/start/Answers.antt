@@ -4,7 +4,6 @@ use mathlib.Core.Path.{◌≡◌, refl}
 use lib.ListN.{length-set}
 use Rattle.reading.specs.BookReading.{usual_bound}
 use Rattle.book_reader.proofs.Ways.{started}
-use borrow.Author.Rules.{rules}
 use Rattle.book_reader.proofs.start.Goals as goal
 
 usual : 20 ≡ usual_bound

@@ -1,10 +1,6 @@
 use borrow.Author.Rules.{rules}
-use Prim.Native.Nat.{◌-◌}
-use Rattle.logic.specs.Tower.{tower_of}
-use Rattle.reading.specs.TableReading.{table_of}
-use Rattle.checker_rows.specs.RowVerdict.{rows_from}
 use Rattle.checker_rows.proofs.Ways.{has_header, rows_wrong_start, rows_wrong, rows_right, rows_more}
-use Rattle.area_bytes.proofs.Scans.{Left, left_below}
+use Rattle.area_bytes.proofs.Scans.{left_below}
 use Rattle.checker_rows.proofs.judge_rows.Goals as goal
 
 ruleset all = (rules, has_header, rows_wrong_start, rows_wrong, rows_right, rows_more, left_below)

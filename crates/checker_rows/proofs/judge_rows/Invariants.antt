@@ -1,11 +1,9 @@
 -- The loop keeps what `Left` says: the rows from here on decide. They become fewer.
-use borrow.Author.Rules.{rules}
 use Prim.Native.Nat.{◌-◌}
 use Rattle.logic.specs.Tower.{tower_of}
 use Rattle.reading.specs.TableReading.{table_of}
 use Rattle.checker_rows.specs.RowVerdict.{rows_from}
-use Rattle.checker_rows.proofs.Ways.{has_header, rows_wrong_start, rows_wrong, rows_right, rows_more}
-use Rattle.area_bytes.proofs.Scans.{Left, left_below}
+use Rattle.area_bytes.proofs.Scans.{Left}
 use Rattle.checker_rows.proofs.judge_rows.Given as goal
 
 abbrev pub invariant-loop-r : goal.invariant-loop-r

@@ -1,11 +1,6 @@
 use borrow.Author.Rules.{rules}
-use Prim.Native.Nat.{◌-◌}
-use Rattle.base.specs.Lists.{some_of}
-use Rattle.logic.specs.Tower.{tower_of}
-use Rattle.reading.specs.TableReading.{table_of}
-use Rattle.outcome.specs.Check.{withheld}
 use Rattle.checker_rows.proofs.Ways.{scan_withheld}
-use Rattle.area_bytes.proofs.Scans.{Left, left_below, some_found, some_more, some_end}
+use Rattle.area_bytes.proofs.Scans.{left_below, some_found, some_more, some_end}
 use Rattle.checker_rows.proofs.some_withheld.Goals as goal
 
 ruleset all = (rules, scan_withheld, left_below, some_found, some_more, some_end)

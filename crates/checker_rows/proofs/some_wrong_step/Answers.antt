@@ -1,9 +1,6 @@
 use borrow.Author.Rules.{rules}
-use Prim.Native.Nat.{◌-◌}
-use Rattle.base.specs.Lists.{some_of}
-use Rattle.reading.specs.TableReading.{row_first, row_count}
-use Rattle.checker_rows.proofs.Ways.{has_header, row_end_fits, left_fits, scan_wrong_steps, wrong_at}
-use Rattle.area_bytes.proofs.Scans.{Left, left_start, some_found, some_more, some_end}
+use Rattle.checker_rows.proofs.Ways.{has_header, row_end_fits, left_fits, scan_wrong_steps}
+use Rattle.area_bytes.proofs.Scans.{left_start, some_found, some_more, some_end}
 use Rattle.checker_rows.proofs.some_wrong_step.Goals as goal
 
 ruleset all = (rules, has_header, row_end_fits, left_fits, scan_wrong_steps, left_start, some_found, some_more, some_end)

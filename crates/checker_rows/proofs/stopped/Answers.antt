@@ -1,9 +1,6 @@
 use borrow.Author.Rules.{rules}
-use Prim.Native.Nat.{◌-◌}
-use Rattle.base.specs.Lists.{every}
-use Rattle.reading.specs.TableReading.{row_first, row_count}
-use Rattle.checker_rows.proofs.Ways.{has_header, row_end_fits, left_inside, left_action, left_fits, scan_stopped, stops_at, step_goes_on, step_stops}
-use Rattle.area_bytes.proofs.Scans.{Left, left_start, every_end}
+use Rattle.checker_rows.proofs.Ways.{has_header, row_end_fits, left_inside, left_action, left_fits, scan_stopped, step_goes_on, step_stops}
+use Rattle.area_bytes.proofs.Scans.{left_start, every_end}
 use Rattle.checker_rows.proofs.stopped.Goals as goal
 
 ruleset all = (rules, has_header, row_end_fits, left_inside, left_action, left_fits, scan_stopped, step_goes_on, step_stops, left_start, every_end)

@@ -2,9 +2,8 @@ use borrow.Author.Tests.{not-true, not-false}
 use borrow.Author.Rules.{rules}
 use Rattle.logic.specs.TableFile.{step_size}
 use Rattle.reading.specs.TableReading.{step_place}
-use Prim.Native.Nat.{◌-◌}
 use Rattle.file_table.proofs.Laws.{inside}
-use Rattle.file_table.proofs.Ways.{RowsLeft, rows_start, rows_too_many, rows_stop, rows_next, rows_end}
+use Rattle.file_table.proofs.Ways.{rows_start, rows_too_many, rows_stop, rows_next, rows_end}
 use Rattle.file_table.proofs.rows_right.Goals as goal
 
 ruleset all = (rules, not-true, not-false, rows_start, rows_too_many, rows_stop, rows_next, rows_end)

@@ -1,7 +1,6 @@
 use borrow.Author.Rules.{rules}
-use Prim.Native.Nat.{◌-◌}
 use Rattle.file_table.proofs.Laws.{header_of}
-use Rattle.file_table.proofs.Ways.{GreaterFrom, greater_start, row_end_fits, step_inside, step_found, step_lower, step_greater, steps_past}
+use Rattle.file_table.proofs.Ways.{greater_start, row_end_fits, step_inside, step_found, step_lower, step_greater, steps_past}
 use Rattle.file_table.proofs.step_to.Goals as goal
 
 ruleset all = (rules, header_of, greater_start, row_end_fits, step_inside, step_found, step_lower, step_greater, steps_past)

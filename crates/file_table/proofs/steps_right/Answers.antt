@@ -2,9 +2,8 @@ use borrow.Author.Tests.{not-true, not-false}
 use borrow.Author.Rules.{rules}
 use Rattle.logic.specs.TableFile.{step_size}
 use Rattle.reading.specs.TableReading.{step_place}
-use Prim.Native.Nat.{◌-◌}
 use Rattle.file_table.proofs.Laws.{inside}
-use Rattle.file_table.proofs.Ways.{StepsLeft, steps_start, steps_stop, steps_next, steps_end, low_fits}
+use Rattle.file_table.proofs.Ways.{steps_start, steps_stop, steps_next, steps_end, low_fits}
 use Rattle.file_table.proofs.steps_right.Goals as goal
 
 ruleset all = (rules, not-true, not-false, steps_start, steps_stop, steps_next, steps_end, low_fits)

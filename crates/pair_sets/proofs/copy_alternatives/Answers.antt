@@ -1,6 +1,5 @@
-use Prim.Native.Nat.{◌-◌}
 use borrow.Author.Rules.{rules}
-use Rattle.pair_sets.proofs.Copying.{Copying, copying_start, copying_from, copying_to, copying_next, copying_end}
+use Rattle.pair_sets.proofs.Copying.{copying_start, copying_from, copying_to, copying_next, copying_end}
 use Rattle.pair_sets.proofs.copy_alternatives.Goals as goal
 
 ruleset all = (rules, copying_start, copying_from, copying_to, copying_next, copying_end)

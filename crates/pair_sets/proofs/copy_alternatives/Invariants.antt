@@ -1,7 +1,6 @@
 -- The loop keeps what `Copying` says: the bytes before this one are copied. Those that are left become fewer.
 use Prim.Native.Nat.{◌-◌}
-use borrow.Author.Rules.{rules}
-use Rattle.pair_sets.proofs.Copying.{Copying, copying_start, copying_from, copying_to, copying_next, copying_end}
+use Rattle.pair_sets.proofs.Copying.{Copying}
 use Rattle.pair_sets.proofs.copy_alternatives.Given as goal
 
 abbrev pub invariant-loop-k : goal.invariant-loop-k

@@ -1,6 +1,5 @@
-use Prim.Native.Nat.{◌-◌}
 use borrow.Author.Rules.{rules}
-use Rattle.pair_sets.proofs.Taking.{Taking, taking_start, taking_to, taking_from, taking_next, taking_end}
+use Rattle.pair_sets.proofs.Taking.{taking_start, taking_to, taking_from, taking_next, taking_end}
 use Rattle.pair_sets.proofs.take_alternatives.Goals as goal
 
 ruleset all = (rules, taking_start, taking_to, taking_from, taking_next, taking_end)

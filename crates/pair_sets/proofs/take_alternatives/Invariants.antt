@@ -1,7 +1,6 @@
 -- The loop keeps what `Taking` says: the first j are taken. Those that are left become fewer.
 use Prim.Native.Nat.{◌-◌}
-use borrow.Author.Rules.{rules}
-use Rattle.pair_sets.proofs.Taking.{Taking, taking_start, taking_to, taking_from, taking_next, taking_end}
+use Rattle.pair_sets.proofs.Taking.{Taking}
 use Rattle.pair_sets.proofs.take_alternatives.Given as goal
 
 abbrev pub invariant-loop-j : goal.invariant-loop-j

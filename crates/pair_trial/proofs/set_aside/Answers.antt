@@ -1,6 +1,5 @@
 use borrow.Author.Rules.{rules}
-use Prim.Native.Nat.{◌-◌}
-use Rattle.pair_trial.proofs.Waiting.{Copying, copying_start, copying_to, copying_from, copying_next, copying_end}
+use Rattle.pair_trial.proofs.Waiting.{copying_start, copying_to, copying_from, copying_next, copying_end}
 use Rattle.pair_trial.proofs.set_aside.Goals as goal
 
 ruleset all = (rules, copying_start, copying_to, copying_from, copying_next, copying_end)

@@ -1,7 +1,6 @@
 -- The loop copies the alternatives one by one. They become fewer.
-use borrow.Author.Rules.{rules}
 use Prim.Native.Nat.{◌-◌}
-use Rattle.pair_trial.proofs.Waiting.{Copying, copying_start, copying_to, copying_from, copying_next, copying_end}
+use Rattle.pair_trial.proofs.Waiting.{Copying}
 use Rattle.pair_trial.proofs.set_aside.Given as goal
 
 abbrev pub invariant-loop-j : goal.invariant-loop-j

@@ -1,5 +1,4 @@
 use borrow.Author.Rules.{rules}
-use Prim.Native.Nat.{◌-◌, ◌≤◌}
 use Rattle.pair_trial.proofs.Walking.{action_below}
 use Rattle.pair_trial.proofs.Walking.{tower_state_inside}
 use Rattle.pair_trial.proofs.Trials.{action_before, action_before_tower, before_found, before_none}

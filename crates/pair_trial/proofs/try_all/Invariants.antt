@@ -1,11 +1,9 @@
 -- The loop keeps what `Trying` says: what comes of every action so far waits. The actions become fewer.
-use borrow.Author.Rules.{rules}
 use Prim.Native.Nat.{◌-◌}
 use mathlib.Core.Path.{◌≡◌}
 use lib.ListN.{length}
 use Rattle.pair_trial.specs.Walked.{walked}
 use Rattle.pair_trial.specs.Trial.{Trying}
-use Rattle.pair_trial.proofs.Trials.{all_listed, all_behind, trying_start, trying_next, tried_over, tried_all}
 use Rattle.pair_trial.proofs.try_all.Given as goal
 
 abbrev pub invariant-loop-a : goal.invariant-loop-a

@@ -1,7 +1,6 @@
 use borrow.Author.Rules.{rules}
-use Prim.Native.Nat.{◌-◌}
 use borrow.Author.Tests.{not-true, not-false}
-use Rattle.set_bytes.proofs.Dropping.{Dropping, drop_start, drop_kept, drop_dropped, drop_end, drop_cast, drop_fits, drop_inside, drop_low}
+use Rattle.set_bytes.proofs.Dropping.{drop_start, drop_kept, drop_dropped, drop_end, drop_cast, drop_fits, drop_inside, drop_low}
 use Rattle.set_bytes.proofs.drop_needless.Goals as goal
 
 ruleset all = (rules, not-true, not-false, drop_start, drop_kept, drop_dropped, drop_end, drop_cast, drop_fits, drop_inside, drop_low)

@@ -1,7 +1,4 @@
 use borrow.Author.Rules.{rules}
-use Prim.Native.Nat.{◌-◌, ◌≤◌}
-use Rattle.set_bytes.specs.SetBytes.{copies_of}
-use Rattle.set_bytes.specs.Promises.{Gathered}
 use Rattle.set_bytes.proofs.Gathering.{room_next, copies_start, copies_more, copies_end}
 use Rattle.set_bytes.proofs.gather_copies.Goals as goal
 

@@ -1,9 +1,7 @@
 -- The loop keeps what `Gathered` says of the first i copies. Those that are left become fewer.
-use borrow.Author.Rules.{rules}
 use Prim.Native.Nat.{◌-◌, ◌≤◌}
 use Rattle.set_bytes.specs.SetBytes.{copies_of}
 use Rattle.set_bytes.specs.Promises.{Gathered}
-use Rattle.set_bytes.proofs.Gathering.{room_next, copies_start, copies_more, copies_end}
 use Rattle.set_bytes.proofs.gather_copies.Given as goal
 
 abbrev pub invariant-loop-i : goal.invariant-loop-i

@@ -1,7 +1,4 @@
 use borrow.Author.Rules.{rules}
-use Prim.Native.Nat.{◌-◌, ◌*◌, ◌≤◌}
-use Rattle.set_bytes.specs.SetBytes.{pairs_of}
-use Rattle.set_bytes.specs.Promises.{Gathered}
 use Rattle.set_bytes.proofs.Gathering.{pairs_start, pairs_more, pairs_end, pair_fits, row_room}
 use Rattle.set_bytes.proofs.gather_pairs.Goals as goal
 

@@ -1,9 +1,7 @@
 -- The loop keeps what `Gathered` says of the first i rows. Those that are left become fewer.
-use borrow.Author.Rules.{rules}
 use Prim.Native.Nat.{◌-◌, ◌*◌, ◌≤◌}
 use Rattle.set_bytes.specs.SetBytes.{pairs_of}
 use Rattle.set_bytes.specs.Promises.{Gathered}
-use Rattle.set_bytes.proofs.Gathering.{pairs_start, pairs_more, pairs_end, pair_fits, row_room}
 use Rattle.set_bytes.proofs.gather_pairs.Given as goal
 
 abbrev pub invariant-loop-i : goal.invariant-loop-i

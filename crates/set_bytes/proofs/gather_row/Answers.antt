@@ -1,7 +1,4 @@
 use borrow.Author.Rules.{rules}
-use Prim.Native.Nat.{◌-◌, ◌≤◌}
-use Rattle.set_bytes.specs.SetBytes.{row_of}
-use Rattle.set_bytes.specs.Promises.{Gathered}
 use Rattle.set_bytes.proofs.Gathering.{room_next, row_start, row_more, row_end}
 use Rattle.set_bytes.proofs.gather_row.Goals as goal
 

@@ -1,9 +1,7 @@
 -- The loop keeps what `Gathered` says of the first j of the row. Those that are left become fewer.
-use borrow.Author.Rules.{rules}
 use Prim.Native.Nat.{◌-◌, ◌≤◌}
 use Rattle.set_bytes.specs.SetBytes.{row_of}
 use Rattle.set_bytes.specs.Promises.{Gathered}
-use Rattle.set_bytes.proofs.Gathering.{room_next, row_start, row_more, row_end}
 use Rattle.set_bytes.proofs.gather_row.Given as goal
 
 abbrev pub invariant-loop-j : goal.invariant-loop-j

@@ -1,6 +1,5 @@
 use borrow.Author.Rules.{rules}
-use Prim.Native.Nat.{◌-◌}
-use Rattle.set_bytes.proofs.Dropping.{LookingOver, look_start, look_covered, look_needless, look_apart, look_end}
+use Rattle.set_bytes.proofs.Dropping.{look_start, look_covered, look_needless, look_apart, look_end}
 use Rattle.book_progression.proofs.Nodes.{cast_byte}
 use Rattle.set_bytes.proofs.Chosen.{number_fits, number_inside}
 use Rattle.set_bytes.proofs.look_over.Goals as goal

@@ -1,9 +1,6 @@
 -- The loop keeps what `LookingOver` says of the first i. Those that are left become fewer.
-use borrow.Author.Rules.{rules}
 use Prim.Native.Nat.{◌-◌}
-use Rattle.set_bytes.proofs.Dropping.{LookingOver, look_start, look_covered, look_needless, look_apart, look_end}
-use Rattle.book_progression.proofs.Nodes.{cast_byte}
-use Rattle.set_bytes.proofs.Chosen.{number_fits, number_inside}
+use Rattle.set_bytes.proofs.Dropping.{LookingOver}
 use Rattle.set_bytes.proofs.look_over.Given as goal
 
 abbrev pub invariant-loop-i : goal.invariant-loop-i

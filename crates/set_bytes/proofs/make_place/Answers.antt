@@ -1,6 +1,5 @@
 use borrow.Author.Rules.{rules}
-use Prim.Native.Nat.{◌-◌}
-use Rattle.set_bytes.proofs.Placing.{MakingPlace, move_start, move_next, move_end, move_to, move_from}
+use Rattle.set_bytes.proofs.Placing.{move_start, move_next, move_end, move_to, move_from}
 use Rattle.set_bytes.proofs.make_place.Goals as goal
 
 ruleset all = (rules, move_start, move_next, move_end, move_to, move_from)

@@ -1,7 +1,6 @@
 -- The loop keeps what `MakingPlace` says: the numbers from i on are one place on. Those that are left become fewer.
-use borrow.Author.Rules.{rules}
 use Prim.Native.Nat.{◌-◌}
-use Rattle.set_bytes.proofs.Placing.{MakingPlace, move_start, move_next, move_end, move_to, move_from}
+use Rattle.set_bytes.proofs.Placing.{MakingPlace}
 use Rattle.set_bytes.proofs.make_place.Given as goal
 
 abbrev pub invariant-loop-i : goal.invariant-loop-i

@@ -1,6 +1,5 @@
 use borrow.Author.Rules.{rules}
-use Prim.Native.Nat.{◌-◌}
-use Rattle.set_bytes.proofs.Placing.{NotEarlier, place_start, place_next, place_found, place_end}
+use Rattle.set_bytes.proofs.Placing.{place_start, place_next, place_found, place_end}
 use Rattle.book_progression.proofs.Nodes.{cast_byte}
 use Rattle.set_bytes.proofs.Chosen.{number_fits, number_inside}
 use Rattle.set_bytes.proofs.place_of.Goals as goal

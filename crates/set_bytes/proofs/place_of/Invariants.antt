@@ -1,9 +1,6 @@
 -- The loop keeps what `NotEarlier` says: the candidate is not earlier than any of the first i. Those that are left become fewer.
-use borrow.Author.Rules.{rules}
 use Prim.Native.Nat.{◌-◌}
-use Rattle.set_bytes.proofs.Placing.{NotEarlier, place_start, place_next, place_found, place_end}
-use Rattle.book_progression.proofs.Nodes.{cast_byte}
-use Rattle.set_bytes.proofs.Chosen.{number_fits, number_inside}
+use Rattle.set_bytes.proofs.Placing.{NotEarlier}
 use Rattle.set_bytes.proofs.place_of.Given as goal
 
 abbrev pub invariant-loop-i : goal.invariant-loop-i

@@ -1,6 +1,5 @@
 use borrow.Author.Rules.{rules}
-use Prim.Native.Nat.{◌-◌}
-use Rattle.set_bytes.proofs.Output.{PuttingOut, put_start, put_next, put_end, put_room}
+use Rattle.set_bytes.proofs.Output.{put_start, put_next, put_end, put_room}
 use Rattle.book_progression.proofs.Nodes.{cast_byte}
 use Rattle.set_bytes.proofs.Chosen.{number_fits, number_inside}
 use Rattle.set_bytes.proofs.put_out.Goals as goal

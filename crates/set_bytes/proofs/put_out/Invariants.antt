@@ -1,9 +1,6 @@
 -- The loop keeps what `PuttingOut` says: the first i are written. Those that are left become fewer.
-use borrow.Author.Rules.{rules}
 use Prim.Native.Nat.{◌-◌}
-use Rattle.set_bytes.proofs.Output.{PuttingOut, put_start, put_next, put_end, put_room}
-use Rattle.book_progression.proofs.Nodes.{cast_byte}
-use Rattle.set_bytes.proofs.Chosen.{number_fits, number_inside}
+use Rattle.set_bytes.proofs.Output.{PuttingOut}
 use Rattle.set_bytes.proofs.put_out.Given as goal
 
 abbrev pub invariant-loop-i : goal.invariant-loop-i

@@ -1,6 +1,4 @@
 use borrow.Author.Rules.{rules}
-use Prim.Native.Nat.{◌-◌, ◌≤◌}
-use Rattle.set_bytes.specs.Promises.{AllTaken}
 use Rattle.set_bytes.proofs.Gathering.{taken_start, taken_more, taken_end}
 use Rattle.set_bytes.proofs.take_copies.Goals as goal
 

@@ -1,8 +1,6 @@
 -- The loop keeps what `AllTaken` says of the first i. Those that are left become fewer.
-use borrow.Author.Rules.{rules}
 use Prim.Native.Nat.{◌-◌, ◌≤◌}
 use Rattle.set_bytes.specs.Promises.{AllTaken}
-use Rattle.set_bytes.proofs.Gathering.{taken_start, taken_more, taken_end}
 use Rattle.set_bytes.proofs.take_copies.Given as goal
 
 abbrev pub invariant-loop-i : goal.invariant-loop-i

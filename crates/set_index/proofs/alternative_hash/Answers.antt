@@ -1,6 +1,5 @@
-use Prim.Native.Nat.{◌-◌}
 use borrow.Author.Rules.{rules}
-use Rattle.set_index.proofs.Ways.{HashingAlternative, hashing_start, product_fits, sum_fits, hashing_more, hashing_end}
+use Rattle.set_index.proofs.Ways.{hashing_start, product_fits, sum_fits, hashing_more, hashing_end}
 use Rattle.set_index.proofs.alternative_hash.Goals as goal
 
 ruleset all = (rules, hashing_start, product_fits, sum_fits, hashing_more, hashing_end)

@@ -1,8 +1,7 @@
 -- `set_index::alternative_hash` meets its contract.
 -- The invariant: h is the sum of the first k numbers of the alternative, and m the multiplier of the next. The measure: how many are left.
 use Prim.Native.Nat.{◌-◌}
-use borrow.Author.Rules.{rules}
-use Rattle.set_index.proofs.Ways.{HashingAlternative, hashing_start, product_fits, sum_fits, hashing_more, hashing_end}
+use Rattle.set_index.proofs.Ways.{HashingAlternative}
 use Rattle.set_index.proofs.alternative_hash.Given as goal
 
 abbrev pub invariant-loop-k : goal.invariant-loop-k

@@ -1,5 +1,5 @@
 use borrow.Author.Rules.{rules}
-use Rattle.set_index.proofs.Ways.{SearchingBucket, find_start, find_less, find_hit, find_miss, find_end}
+use Rattle.set_index.proofs.Ways.{find_start, find_less, find_hit, find_miss, find_end}
 use Rattle.set_index.proofs.find.Goals as goal
 
 ruleset all = (rules, find_start, find_less, find_hit, find_miss, find_end)

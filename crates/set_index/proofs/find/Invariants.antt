@@ -1,7 +1,6 @@
 -- `set_index::find` meets its contract.
 -- The invariant: of the entries passed none is equal. The measure: where the chain goes on, which falls.
-use borrow.Author.Rules.{rules}
-use Rattle.set_index.proofs.Ways.{SearchingBucket, find_start, find_less, find_hit, find_miss, find_end}
+use Rattle.set_index.proofs.Ways.{SearchingBucket}
 use Rattle.set_index.proofs.find.Given as goal
 
 abbrev pub invariant-loop-at : goal.invariant-loop-at

@@ -1,6 +1,5 @@
-use Prim.Native.Nat.{◌-◌}
 use borrow.Author.Rules.{rules}
-use Rattle.set_index.proofs.Ways.{HashingEntry, number_product, entry_start, next_alternative, entry_sum_fits, entry_more, entry_end}
+use Rattle.set_index.proofs.Ways.{number_product, entry_start, next_alternative, entry_sum_fits, entry_more, entry_end}
 use Rattle.set_index.proofs.hash.Goals as goal
 
 ruleset all = (rules, number_product, entry_start, next_alternative, entry_sum_fits, entry_more, entry_end)

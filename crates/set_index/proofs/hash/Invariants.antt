@@ -1,8 +1,7 @@
 -- `set_index::hash` meets its contract.
 -- The invariant: with the hashes of the alternatives from s on h is the sum of all. The measure: how many are left.
 use Prim.Native.Nat.{◌-◌}
-use borrow.Author.Rules.{rules}
-use Rattle.set_index.proofs.Ways.{HashingEntry, number_product, entry_start, next_alternative, entry_sum_fits, entry_more, entry_end}
+use Rattle.set_index.proofs.Ways.{HashingEntry}
 use Rattle.set_index.proofs.hash.Given as goal
 
 abbrev pub invariant-loop-s : goal.invariant-loop-s

@@ -1,7 +1,6 @@
-use Prim.Native.Nat.{◌-◌}
 use mathlib.Core.Logic.{inl, inr}
 use borrow.Author.Rules.{rules}
-use Rattle.set_index.proofs.Ways.{ComparedBytes, compared_start, compared_next, compared_end}
+use Rattle.set_index.proofs.Ways.{compared_start, compared_next, compared_end}
 use Rattle.set_index.proofs.same_alternative.Goals as goal
 
 ruleset all = (rules, compared_start, compared_end)

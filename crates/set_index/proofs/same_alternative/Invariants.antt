@@ -1,9 +1,7 @@
 -- `set_index::same_alternative` meets its contract.
 -- The invariant: the bytes passed and the last eight are equal, or the alternatives are not. The measure: how many are left.
 use Prim.Native.Nat.{◌-◌}
-use mathlib.Core.Logic.{inl, inr}
-use borrow.Author.Rules.{rules}
-use Rattle.set_index.proofs.Ways.{ComparedBytes, compared_start, compared_next, compared_end}
+use Rattle.set_index.proofs.Ways.{ComparedBytes}
 use Rattle.set_index.proofs.same_alternative.Given as goal
 
 abbrev pub invariant-loop-offset : goal.invariant-loop-offset

@@ -1,7 +1,6 @@
-use Prim.Native.Nat.{◌-◌}
 use borrow.Author.Rules.{rules}
 use borrow.Author.Tests.{not-true, not-false}
-use Rattle.set_index.proofs.Ways.{ComparingAlternatives, alternatives_start, alternatives_more, alternatives_differ, alternatives_end}
+use Rattle.set_index.proofs.Ways.{alternatives_start, alternatives_more, alternatives_differ, alternatives_end}
 use Rattle.set_index.proofs.same_alternatives.Goals as goal
 
 ruleset all = (rules, not-true, not-false, alternatives_start, alternatives_more, alternatives_differ, alternatives_end)

@@ -1,9 +1,7 @@
 -- `set_index::same_alternatives` meets its contract.
 -- The invariant: the alternatives passed are equal. The measure: how many are left.
 use Prim.Native.Nat.{◌-◌}
-use borrow.Author.Rules.{rules}
-use borrow.Author.Tests.{not-true, not-false}
-use Rattle.set_index.proofs.Ways.{ComparingAlternatives, alternatives_start, alternatives_more, alternatives_differ, alternatives_end}
+use Rattle.set_index.proofs.Ways.{ComparingAlternatives}
 use Rattle.set_index.proofs.same_alternatives.Given as goal
 
 abbrev pub invariant-loop-k : goal.invariant-loop-k

@@ -1,7 +1,6 @@
 -- `ends`: here, later, or never.
 use mathlib.Core.Path.{refl}
 use Rattle.logic.specs.Time.{plus}
-use borrow.Author.Rules.{rules}
 use Rattle.why_judging.proofs.ends.Goals as goal
 
 pub returns-then-second : goal.returns-then-second

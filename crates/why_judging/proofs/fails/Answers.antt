@@ -1,7 +1,6 @@
 -- `fails`: here, or later.
 use mathlib.Core.Path.{refl}
 use Rattle.logic.specs.Time.{plus}
-use borrow.Author.Rules.{rules}
 use Rattle.why_judging.proofs.fails.Goals as goal
 
 pub returns-then-part : goal.returns-then-part

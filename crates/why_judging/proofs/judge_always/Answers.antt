@@ -1,6 +1,5 @@
-use Rattle.why_judging.specs.Judgement.{NodeWaits}
 use Rattle.why_judging.proofs.Parts.{fails_last, always_kept}
-use Rattle.why_judging.proofs.Loops.{NodeJudging, node_first, node_put, waits_back, node_end}
+use Rattle.why_judging.proofs.Loops.{node_first, node_put, waits_back, node_end}
 use borrow.Author.Rules.{rules}
 use Rattle.why_judging.proofs.judge_always.Goals as goal
 

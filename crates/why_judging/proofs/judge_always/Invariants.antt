@@ -1,8 +1,6 @@
 -- `judge_always`: positions from the last back, with how far ahead the part next fails.
 use Rattle.why_judging.specs.Judgement.{NodeWaits}
-use Rattle.why_judging.proofs.Parts.{fails_last, always_kept}
-use Rattle.why_judging.proofs.Loops.{NodeJudging, node_first, node_put, waits_back, node_end}
-use borrow.Author.Rules.{rules}
+use Rattle.why_judging.proofs.Loops.{NodeJudging}
 use Rattle.why_judging.proofs.judge_always.Given as goal
 
 abbrev pub invariant-loop-i : goal.invariant-loop-i

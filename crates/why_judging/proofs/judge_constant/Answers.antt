@@ -1,4 +1,4 @@
-use Rattle.why_judging.proofs.Loops.{NodeJudging, constant_back, node_first, node_put, node_end}
+use Rattle.why_judging.proofs.Loops.{constant_back, node_first, node_put, node_end}
 use borrow.Author.Rules.{rules}
 use Rattle.why_judging.proofs.judge_constant.Goals as goal
 

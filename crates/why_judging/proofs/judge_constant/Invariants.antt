@@ -1,6 +1,5 @@
 -- `judge_constant`: one byte everywhere.
-use Rattle.why_judging.proofs.Loops.{NodeJudging, constant_back, node_first, node_put, node_end}
-use borrow.Author.Rules.{rules}
+use Rattle.why_judging.proofs.Loops.{NodeJudging}
 use Rattle.why_judging.proofs.judge_constant.Given as goal
 
 abbrev pub invariant-loop-i : goal.invariant-loop-i

@@ -1,5 +1,4 @@
-use Prim.Native.Nat.{◌-◌}
-use Rattle.why_judging.proofs.Loops.{NodesJudging, nodes_first, nodes_ready, nodes_next, nodes_end}
+use Rattle.why_judging.proofs.Loops.{nodes_first, nodes_ready, nodes_next, nodes_end}
 use borrow.Author.Rules.{rules}
 use Rattle.why_judging.proofs.judge_in_order.Goals as goal
 

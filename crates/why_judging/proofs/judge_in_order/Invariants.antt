@@ -1,7 +1,6 @@
 -- `judge_in_order`: nodes in order.
 use Prim.Native.Nat.{◌-◌}
-use Rattle.why_judging.proofs.Loops.{NodesJudging, nodes_first, nodes_ready, nodes_next, nodes_end}
-use borrow.Author.Rules.{rules}
+use Rattle.why_judging.proofs.Loops.{NodesJudging}
 use Rattle.why_judging.proofs.judge_in_order.Given as goal
 
 abbrev pub invariant-loop-k : goal.invariant-loop-k

@@ -1,4 +1,4 @@
-use Rattle.why_judging.proofs.Loops.{NodeJudging, node_first, node_put, node_end}
+use Rattle.why_judging.proofs.Loops.{node_first, node_put, node_end}
 use borrow.Author.Rules.{rules}
 use Rattle.why_judging.proofs.judge_mark.Goals as goal
 

@@ -1,6 +1,5 @@
 -- `judge_next`: positions from the last back.
-use Rattle.why_judging.proofs.Loops.{NodeJudging, node_first, node_put, node_end}
-use borrow.Author.Rules.{rules}
+use Rattle.why_judging.proofs.Loops.{NodeJudging}
 use Rattle.why_judging.proofs.judge_next.Given as goal
 
 abbrev pub invariant-loop-i : goal.invariant-loop-i

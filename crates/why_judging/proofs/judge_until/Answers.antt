@@ -1,6 +1,5 @@
-use Rattle.why_judging.specs.Judgement.{NodeWaits}
 use Rattle.why_judging.proofs.Parts.{ends_last, until_kept}
-use Rattle.why_judging.proofs.Loops.{NodeJudging, node_first, node_put, waits_back, node_end}
+use Rattle.why_judging.proofs.Loops.{node_first, node_put, waits_back, node_end}
 use borrow.Author.Rules.{rules}
 use Rattle.why_judging.proofs.judge_until.Goals as goal
 

@@ -1,8 +1,6 @@
 -- `judge_until`: positions from the last back, with how far ahead it next ends.
 use Rattle.why_judging.specs.Judgement.{NodeWaits}
-use Rattle.why_judging.proofs.Parts.{ends_last, until_kept}
-use Rattle.why_judging.proofs.Loops.{NodeJudging, node_first, node_put, waits_back, node_end}
-use borrow.Author.Rules.{rules}
+use Rattle.why_judging.proofs.Loops.{NodeJudging}
 use Rattle.why_judging.proofs.judge_until.Given as goal
 
 abbrev pub invariant-loop-i : goal.invariant-loop-i

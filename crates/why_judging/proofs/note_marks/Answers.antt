@@ -1,5 +1,4 @@
-use Prim.Native.Nat.{◌-◌}
-use Rattle.why_judging.proofs.Marks.{Marking, marking_first, marking_next, marking_end}
+use Rattle.why_judging.proofs.Marks.{marking_first, marking_next, marking_end}
 use borrow.Author.Rules.{rules}
 use Rattle.why_judging.proofs.note_marks.Goals as goal
 

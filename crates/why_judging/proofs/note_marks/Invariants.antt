@@ -1,7 +1,6 @@
 -- `note_marks`: positions from the first on.
 use Prim.Native.Nat.{◌-◌}
-use Rattle.why_judging.proofs.Marks.{Marking, marking_first, marking_next, marking_end}
-use borrow.Author.Rules.{rules}
+use Rattle.why_judging.proofs.Marks.{Marking}
 use Rattle.why_judging.proofs.note_marks.Given as goal
 
 abbrev pub invariant-loop-i : goal.invariant-loop-i

@@ -1,5 +1,4 @@
-use Prim.Native.Nat.{◌*◌}
-use Rattle.why_path.proofs.Noting.{NotingBack, noting_all, pair_before, noting_more, noted_all}
+use Rattle.why_path.proofs.Noting.{noting_all, pair_before, noting_more, noted_all}
 use borrow.Author.Rules.{rules}
 use Rattle.why_path.proofs.note_all.Goals as goal
 

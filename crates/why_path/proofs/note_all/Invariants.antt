@@ -1,8 +1,7 @@
 -- `why_path::note_all` meets its contract.
 -- The invariant: the steps of the pairs from the counter on are noted. The measure: the counter.
 use Prim.Native.Nat.{◌*◌}
-use Rattle.why_path.proofs.Noting.{NotingBack, noting_all, pair_before, noting_more, noted_all}
-use borrow.Author.Rules.{rules}
+use Rattle.why_path.proofs.Noting.{NotingBack}
 use Rattle.why_path.proofs.note_all.Given as goal
 
 abbrev pub invariant-loop-i : goal.invariant-loop-i

@@ -1,6 +1,5 @@
-use Prim.Native.Nat.{◌+◌, ◌*◌}
 use mathlib.Core.Path.{refl}
-use Rattle.why_path.proofs.Noting.{NotingBack, noting_pair, step_before, noting_step, noted_pair}
+use Rattle.why_path.proofs.Noting.{noting_pair, step_before, noting_step, noted_pair}
 use borrow.Author.Rules.{rules}
 use Rattle.why_path.proofs.note_pair.Goals as goal
 

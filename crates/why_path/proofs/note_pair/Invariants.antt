@@ -1,9 +1,7 @@
 -- `why_path::note_pair` meets its contract.
 -- The invariant: the steps from that of the counter on are noted. The measure: the counter.
 use Prim.Native.Nat.{◌+◌, ◌*◌}
-use mathlib.Core.Path.{refl}
-use Rattle.why_path.proofs.Noting.{NotingBack, noting_pair, step_before, noting_step, noted_pair}
-use borrow.Author.Rules.{rules}
+use Rattle.why_path.proofs.Noting.{NotingBack}
 use Rattle.why_path.proofs.note_pair.Given as goal
 
 abbrev pub invariant-loop-a : goal.invariant-loop-a

@@ -1,4 +1,4 @@
-use Rattle.why_path.proofs.Writing.{CountingBack, counting_none, pair_noted, falls, counting_more, counted}
+use Rattle.why_path.proofs.Writing.{counting_none, pair_noted, falls, counting_more, counted}
 use borrow.Author.Rules.{rules}
 use Rattle.why_path.proofs.way_length.Goals as goal
 

@@ -1,7 +1,6 @@
 -- `why_path::way_length` meets its contract.
 -- The invariant: so many actions of the run are counted, and that to the pair at hand is left. The measure: the pair.
-use Rattle.why_path.proofs.Writing.{CountingBack, counting_none, pair_noted, falls, counting_more, counted}
-use borrow.Author.Rules.{rules}
+use Rattle.why_path.proofs.Writing.{CountingBack}
 use Rattle.why_path.proofs.way_length.Given as goal
 
 abbrev pub invariant-loop-j : goal.invariant-loop-j

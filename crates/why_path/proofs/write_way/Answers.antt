@@ -1,4 +1,4 @@
-use Rattle.why_path.proofs.Writing.{WritingBack, writing_none, some_left, list_inside, falls_back, writing_more, way_written}
+use Rattle.why_path.proofs.Writing.{writing_none, some_left, list_inside, falls_back, writing_more, way_written}
 use borrow.Author.Rules.{rules}
 use Rattle.why_path.proofs.write_way.Goals as goal
 

@@ -1,7 +1,6 @@
 -- `why_path::write_way` meets its contract.
 -- The invariant: the run is written from its end to the place at hand, and that to the pair at hand is left. The measure: the pair.
-use Rattle.why_path.proofs.Writing.{WritingBack, writing_none, some_left, list_inside, falls_back, writing_more, way_written}
-use borrow.Author.Rules.{rules}
+use Rattle.why_path.proofs.Writing.{WritingBack}
 use Rattle.why_path.proofs.write_way.Given as goal
 
 abbrev pub invariant-loop-j : goal.invariant-loop-j

@@ -1,5 +1,4 @@
-use Prim.Native.Nat.{◌-◌, ◌*◌}
-use Rattle.pair_graph.proofs.Lists.{ListingCells, listing_none, listing_pair, listed_all}
+use Rattle.pair_graph.proofs.Lists.{listing_none, listing_pair, listed_all}
 use borrow.Author.Rules.{rules}
 use Rattle.pair_graph.proofs.predecessors.list_all.Goals as goal
 

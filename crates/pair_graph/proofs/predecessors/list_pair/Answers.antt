@@ -1,5 +1,4 @@
-use Prim.Native.Nat.{◌+◌, ◌-◌, ◌*◌}
-use Rattle.pair_graph.proofs.Lists.{ListingCells, listing_first, listing_cell, listed_pair}
+use Rattle.pair_graph.proofs.Lists.{listing_first, listing_cell, listed_pair}
 use borrow.Author.Rules.{rules}
 use Rattle.pair_graph.proofs.predecessors.list_pair.Goals as goal
 

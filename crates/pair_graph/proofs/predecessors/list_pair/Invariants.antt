@@ -1,8 +1,7 @@
 -- `pair_graph::predecessors::list_pair` meets its contract.
 -- The invariant: the lists have the cells before that of the counter. The measure: how many actions are left.
 use Prim.Native.Nat.{◌+◌, ◌-◌, ◌*◌}
-use Rattle.pair_graph.proofs.Lists.{ListingCells, listing_first, listing_cell, listed_pair}
-use borrow.Author.Rules.{rules}
+use Rattle.pair_graph.proofs.Lists.{ListingCells}
 use Rattle.pair_graph.proofs.predecessors.list_pair.Given as goal
 
 abbrev pub invariant-loop-a : goal.invariant-loop-a

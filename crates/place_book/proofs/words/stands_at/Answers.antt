@@ -1,0 +1,36 @@
+use borrow.Author.Rules.{rules}
+use lib.ListN.{length}
+use Prim.Native.Nat.{◌-◌}
+use Rattle.place_book.proofs.words.stands_at.Goals as goal
+
+ruleset all = (rules)
+
+pub loop-i-init : goal.loop-i-init
+loop-i-init c = search all
+
+pub plus-requires : goal.plus-requires
+plus-requires c = search all
+
+pub byte_at-requires : goal.byte_at-requires
+byte_at-requires c = search all
+
+pub bounds-word-i : goal.bounds-word-i
+bounds-word-i c = search all
+
+pub is_letter-requires : goal.is_letter-requires
+is_letter-requires c = search all
+
+pub returns-then-not-is_letter : goal.returns-then-not-is_letter
+returns-then-not-is_letter c = search all
+
+pub overflow_add-i : goal.overflow_add-i
+overflow_add-i c = search all
+
+pub loop-i-smaller : goal.loop-i-smaller
+loop-i-smaller c = search all
+
+pub loop-i-preserved : goal.loop-i-preserved
+loop-i-preserved c = search all
+
+pub returns : goal.returns
+returns c = search all

@@ -1,0 +1,26 @@
+use borrow.Author.Rules.{rules}
+use Prim.Native.Nat.{◌-◌}
+use Rattle.place_lines.proofs.counting.deepest.Goals as goal
+
+ruleset all = (rules)
+
+pub loop-i-init : goal.loop-i-init
+loop-i-init c = search all
+
+pub byte_at-requires : goal.byte_at-requires
+byte_at-requires c = search all
+
+pub passed-open-requires : goal.passed-open-requires
+passed-open-requires c = search all
+
+pub overflow_add-i : goal.overflow_add-i
+overflow_add-i c = search all
+
+pub loop-i-smaller : goal.loop-i-smaller
+loop-i-smaller c = search all
+
+pub loop-i-preserved : goal.loop-i-preserved
+loop-i-preserved c = search all
+
+pub returns : goal.returns
+returns c = search all

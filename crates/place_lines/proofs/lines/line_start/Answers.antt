@@ -1,0 +1,27 @@
+use borrow.Author.Rules.{rules}
+use lib.ListN.{length}
+use Prim.Native.Nat.{◌-◌}
+use Rattle.place_lines.proofs.lines.line_start.Goals as goal
+
+ruleset all = (rules)
+
+pub loop-i-init : goal.loop-i-init
+loop-i-init c = search all
+
+pub bounds-text-i : goal.bounds-text-i
+bounds-text-i c = search all
+
+pub overflow_add-i : goal.overflow_add-i
+overflow_add-i c = search all
+
+pub passed-start-requires : goal.passed-start-requires
+passed-start-requires c = search all
+
+pub loop-i-smaller : goal.loop-i-smaller
+loop-i-smaller c = search all
+
+pub loop-i-preserved : goal.loop-i-preserved
+loop-i-preserved c = search all
+
+pub returns : goal.returns
+returns c = search all

@@ -1,0 +1,10 @@
+-- Nothing has to hold from turn to turn; fewer states are left.
+use borrow.Author.Rules.{rules}
+use Prim.Native.Nat.{◌-◌}
+use Rattle.place_tower.proofs.faults.bad_mask.Given as goal
+
+abbrev pub invariant-loop-state : goal.invariant-loop-state
+invariant-loop-state l = Unit {0}
+
+abbrev pub decreases-loop-state : goal.decreases-loop-state
+decreases-loop-state l = l.states - l.state

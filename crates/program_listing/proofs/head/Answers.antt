@@ -1,0 +1,7 @@
+use Rattle.base.specs.Text.{ascii}
+use Rattle.program_listing.proofs.Ways.{head_way}
+use Rattle.program_listing.proofs.head.Goals as goal
+
+pub returns : goal.returns
+unfolding ascii
+returns c = search head_way

@@ -1,0 +1,16 @@
+-- `why::show_run` meets its contract.
+use borrow.Author.Rules.{rules}
+use Rattle.why.proofs.Ways.{write_held, write_lower, write_pair, write_action, run_short, run_judgeable, run_shown}
+use Rattle.why.proofs.show_run.Goals as goal
+
+pub write_run-requires : goal.write_run-requires
+write_run-requires c = (search (rules, write_held), (search (rules, write_lower), (search rules, (search (rules, write_pair), search (rules, write_action)))))
+
+pub judge-place-requires : goal.judge-place-requires
+judge-place-requires c = (search (rules, run_judgeable), (search rules, (search rules, search rules)))
+
+pub returns-in-TooShort : goal.returns-in-TooShort
+returns-in-TooShort c = search (rules, run_short)
+
+pub returns-in-Run : goal.returns-in-Run
+returns-in-Run c = search (rules, run_shown)
