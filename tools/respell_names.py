@@ -1,11 +1,12 @@
 #!/usr/bin/env python3
-"""Respells this repository's own definitions, lemmas, fields and constructors: words are joined by `_`, not by `-`.
+"""Respells this repository's own definitions, lemmas, fields, constructors and variables: words are joined by `_`, not by `-`.
 
-usage: python3 tools/respell_names.py [TOP]     after port.py, once, at the top of the repository
+usage: python3 tools/respell_names.py [TOP [KIT]]     after port.py, at the top of the repository
 
-Which names: those that a file of crates/*/specs/ or crates/*/proofs/ declares (a line that begins with the name, or the line of a
-field or constructor). Names that Rattle makes stay, and so do names of Rust's functions, strings, inputs and outputs. A name that
-a file imports from a library stays in that file. In pages (*.md) names change between backticks alone.
+Which names: the words with a dash in the files of crates/*/specs/ and crates/*/proofs/, but for those of a function's own folder,
+that no file of the kit has, and those that such a file declares. Names that Rattle makes stay, and so do names of Rust's functions,
+strings, inputs and outputs. A name that a file imports from a library stays in that file. In pages (*.md) names change between
+backticks alone. Five names that port.py gave a capital get it back.
 Also renamed: modules `specs.Contracts` (the name is Rattle's now) to `specs.Promises`.
 """
 
@@ -21,8 +22,23 @@ USE = re.compile(r"^\s*(?:ghost |pub )*use ([^;{]*?)(?:\.\{([^}]*)\})?;?\s*$", r
 STRING = re.compile(r'"(?:[^"\\]|\\.)*"')
 
 
+CAPITALS = {"one-Unit": "one_unit", "first-Marks": "first_marks", "in-List": "in_list", "is-IsWide": "is_wide", "Room-after": "room_after"}
+CAPITALS |= {name.replace("-", "_"): small for name, small in CAPITALS.items()}
+
+
 def respelled(name):
-    return name.replace("getD", "get_or").replace("-", "_")
+    return CAPITALS.get(name) or name.replace("getD", "get_or").replace("-", "_")
+
+
+def words_of(kit):
+    """The words with a dash in the kit's own files."""
+    found = set()
+    for folder, _, files in os.walk(os.path.join(kit, "rattle")):
+        for f in files:
+            if f.endswith((".antt", ".rt")):
+                with open(os.path.join(folder, f), encoding="utf-8", errors="replace") as it:
+                    found.update(w for w in WORD.findall(it.read()) if "-" in w)
+    return found
 
 
 def texts(top):
@@ -49,6 +65,15 @@ def declared(path, text):
         elif g:
             found.update(g.group(1).split())
     return {n for n in found if "-" in n.strip("-") and OWN.fullmatch(n)}
+
+
+def used(path, text):
+    """The words with a dash in such a file, outside its comments and imports."""
+    parts = path.split("/crates/")[-1].split("/")
+    if not path.endswith(".antt") or "/crates/" not in path or (parts[1] == "proofs" and len(parts) > 3):
+        return set()
+    lines = [l for l in text.split("\n") if not l.startswith("use ") and not l.lstrip().startswith("--")]
+    return {w for l in lines for w in WORD.findall(l) if "-" in w.strip("-") and OWN.fullmatch(w) and w[0].isalpha()}
 
 
 def foreign(text, crates):
@@ -80,14 +105,17 @@ def turned(path, text, names, stay):
     return WORD.sub(word, text)
 
 
-def main(top):
+def main(top, kit):
     crates = set(os.listdir(os.path.join(top, "crates")))
     all_texts = {p: open(p, encoding="utf-8").read() for p in texts(top)}
-    names = set()
+    names, words, taken = set(), set(), words_of(kit)
     for p, t in all_texts.items():
         names |= declared(p, t)
-    others = {respelled(n) for n in names if n != respelled(n)}
-    fallen = [n for n in others if sum(respelled(m) == n for m in names) > 1]
+        words |= used(p, t)
+        taken |= foreign(t, crates) if p.endswith((".rt", ".antt")) else set()
+    names |= {w for w in words if w not in taken} | set(CAPITALS)
+    others = [respelled(n) for n in names if n != respelled(n) and n not in CAPITALS]
+    fallen = sorted({n for n in others if others.count(n) > 1})
     if fallen:
         raise SystemExit(f"names that fall together: {fallen}")
     changed = 0
@@ -106,4 +134,4 @@ def main(top):
 
 
 if __name__ == "__main__":
-    main(os.path.abspath(sys.argv[1] if len(sys.argv) > 1 else "."))
+    main(os.path.abspath(sys.argv[1] if len(sys.argv) > 1 else "."), sys.argv[2] if len(sys.argv) > 2 else "/opt/rattle")

@@ -81,7 +81,7 @@ module _ (bytes : List ℕ) (k cell other : ℕ) where
 
     pub more_other : (code ≡ 11 → ⊥) → (code ≡ 12 → ⊥) → CellNoMore false bytes k cell other
     unfolding no_more_ticks
-    more_other not-always not-until =
+    more_other not_always not_until =
         record {
           says = λ f s. by_kind bytes k (λ f. false ≡ no_more_cell f (cell_of cell) (cell_of other)) f s
               (λ b s lo. differ ∙ sym (numbers _)) (λ a b s lo up. differ ∙ sym (numbers _)) (λ a b s at. differ ∙ sym (numbers _))
@@ -238,7 +238,7 @@ module _ (bytes : List ℕ) (n : ℕ) (area : List ℕ) (p q : ℕ) (a : Bool) (
   related_no_less is = record { no_more = λ e. absurd (omega arith); more = λ other. rw (← is) one; apart = λ e. absurd (omega arith) }
 
   pub related_apart : (b : Bool) → NoMore b bytes n area q p → a ≡ false → b ≡ false → Related 0 bytes n area p q
-  related_apart b two is is-too = record { no_more = λ e. absurd (omega arith); more = λ other. rw (← is) one; apart = λ e. rw (← is-too) two }
+  related_apart b two is is_too = record { no_more = λ e. absurd (omega arith); more = λ other. rw (← is) one; apart = λ e. rw (← is_too) two }
 
 -- ---- which comes first
 
@@ -355,11 +355,11 @@ SameByte area p j byte = byte ≡ get_or area (p + j) 0
 
 module _ (n : ℕ) (area : List ℕ) (p : ℕ) (room : List ℕ) (to : ℕ) (after : List ℕ) (k : ℕ) (over : n ≤ k) (fits : to + n ≤ length room) where
   pub copy_end : Filling (SameByte area p) room to n after k → p + n ≤ length area → Copied n area p room to after
-  copy_end going fits-p =
+  copy_end going fits_p =
       let length_to = alternative_length after n to (omega (arith, going.size)) in
       record {
         beside = going.beside;
-        is = ext_get_or none (alternative_in after n to) (alternative_in area n p) (length_to ∙ sym (alternative_length area n p fits-p))
+        is = ext_get_or none (alternative_in after n to) (alternative_in area n p) (length_to ∙ sym (alternative_length area n p fits_p))
             (λ i inside. let low : i < n = omega (arith, length_to) in
             alternative_cell after n to i low ∙ ap cell_of (going.says i (omega arith)) ∙ sym (alternative_cell area n p i low));
       }

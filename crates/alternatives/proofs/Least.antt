@@ -376,35 +376,35 @@ module _ {X : Type 0} (no_more : X → X → Bool) (earlier : X → X → Bool) 
       covered_is_in : (xs ys : List X) → Antichain no_more earlier xs → ((x : X) → Memᴰ x xs → P x) → ((y : X) → Memᴰ y ys → P y)
           → ((x : X) → Memᴰ x xs → Covered no_more ys x) → ((y : X) → Memᴰ y ys → Covered no_more xs y)
           → (x : X) → Memᴰ x xs → Memᴰ x ys
-      covered_is_in xs ys c all-xs all-ys to fro x m =
+      covered_is_in xs ys c all_xs all_ys to fro x m =
           let (y, k, e) = to x m in
           let (z, j, f) = fro y k in
           let same : z ≡ x = antichain_one xs c j m (laws.chained z y x f e) in
-          Memᴰ.cast (antisym x y (all-xs x m) (all-ys y k) (ap (λ (w : X). no_more w y) (sym same) ∙ f) e) k
+          Memᴰ.cast (antisym x y (all_xs x m) (all_ys y k) (ap (λ (w : X). no_more w y) (sym same) ∙ f) e) k
 
       -- Two antichains that cover each other are equal.
       pub antichain_unique : (xs ys : List X) → Antichain no_more earlier xs → Antichain no_more earlier ys
           → ((x : X) → Memᴰ x xs → P x) → ((y : X) → Memᴰ y ys → P y)
           → ((x : X) → Memᴰ x xs → Covered no_more ys x) → ((y : X) → Memᴰ y ys → Covered no_more xs y) → xs ≡ ys
-      antichain_unique xs ys c d all-xs all-ys to fro =
-          antichain_same xs ys c d (covered_is_in xs ys c all-xs all-ys to fro) (covered_is_in ys xs d all-ys all-xs fro to)
+      antichain_unique xs ys c d all_xs all_ys to fro =
+          antichain_same xs ys c d (covered_is_in xs ys c all_xs all_ys to fro) (covered_is_in ys xs d all_ys all_xs fro to)
 
       -- Of two lists that cover each other the same stays.
       pub least_same : (xs ys : List X) → ((x : X) → Memᴰ x xs → P x) → ((y : X) → Memᴰ y ys → P y)
           → ((x : X) → Memᴰ x xs → Covered no_more ys x) → ((y : X) → Memᴰ y ys → Covered no_more xs y)
           → least no_more earlier xs ≡ least no_more earlier ys
-      least_same xs ys all-xs all-ys to fro =
+      least_same xs ys all_xs all_ys to fro =
           antichain_unique (least no_more earlier xs) (least no_more earlier ys) (least_antichain xs) (least_antichain ys)
-          (λ x m. all-xs x (least_from xs m)) (λ y m. all-ys y (least_from ys m))
+          (λ x m. all_xs x (least_from xs m)) (λ y m. all_ys y (least_from ys m))
           (λ x m. covered_on ys (least no_more earlier ys) (to x (least_from xs m)) (λ y k. least_covers ys k))
           (λ y m. covered_on xs (least no_more earlier xs) (fro y (least_from ys m)) (λ x k. least_covers xs k))
 
       -- It does not matter which come first.
       pub least_order : (xs ys : List X) → ((x : X) → Memᴰ x xs → P x) → ((y : X) → Memᴰ y ys → P y)
           → least no_more earlier (xs ++ ys) ≡ least no_more earlier (ys ++ xs)
-      least_order xs ys all-xs all-ys =
-          least_same (xs ++ ys) (ys ++ xs) (λ z m. ⊎_elim (all-xs z) (all-ys z) (Memᴰ.append_cases xs m))
-          (λ z m. ⊎_elim (all-ys z) (all-xs z) (Memᴰ.append_cases ys m))
+      least_order xs ys all_xs all_ys =
+          least_same (xs ++ ys) (ys ++ xs) (λ z m. ⊎_elim (all_xs z) (all_ys z) (Memᴰ.append_cases xs m))
+          (λ z m. ⊎_elim (all_ys z) (all_xs z) (Memᴰ.append_cases ys m))
           (λ z m. covered_in (either xs ys m)) (λ z m. covered_in (either ys xs m))
         where
           either : (us vs : List X) {z : X} → Memᴰ z (us ++ vs) → Memᴰ z (vs ++ us)

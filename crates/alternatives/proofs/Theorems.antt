@@ -8,7 +8,7 @@ use mathlib.Core.Logic.{◌↔◌}
 use mathlib.Core.Option.{none, some}
 use mathlib.Core.List.Memᴰ
 use mathlib.Core.List.{List, ◌++◌}
-use Rattle.base.proofs.Lists.{whether-there, none-some}
+use Rattle.base.proofs.Lists.{whether_there, none-some}
 use Rattle.logic.specs.Tower.{Tower, Listed}
 use Rattle.logic.specs.Book.{Book, FitBook}
 use Rattle.logic.specs.Runs.{leads, IsRun, Unbroken, Broken}
@@ -70,7 +70,7 @@ module _ (tower : Tower) (book : Book) (fit : FitBook book) where
       → Broken tower book w ↔ (leads (pair_step tower book) (first_pair tower book) w ≡ none)
   unfolding Broken
   broken_iff listed spare w run = (
-    λ broken. whether-there (leads (pair_step tower book) (first_pair tower book) w) (λ e. e)
+    λ broken. whether_there (leads (pair_step tower book) (first_pair tower book) w) (λ e. e)
         (λ v e. absurd (broken (leads_unbroken w v e))),
     λ e unbroken. none-some e ((unbroken_iff listed spare w run).0 unbroken).1,
   )

@@ -7,7 +7,7 @@ use native.Mathlib.Omega.{arith}
 use lib.ListN.{length}
 use borrow.Author.Tests.{ltb-false}
 use Rattle.base.specs.Lists.{below, total}
-use Rattle.base.proofs.Lists.{present-map-out}
+use Rattle.base.proofs.Lists.{present_map_out}
 use Rattle.base.proofs.Search.{Few, Reached, start, onward, length_weight, search_reached}
 use Rattle.logic.specs.Tower.{Tower}
 use Rattle.logic.specs.Book.{Book}
@@ -32,7 +32,7 @@ module _ (tower : Tower) (book : Book) where
   unfolding pair_followers
   reached_standing start = first_standing tower book
   reached_standing (onward {y = y} {z = z} r m) =
-      let (a, n, e) = present-map-out (pair_step tower book y) (below tower.actions) m in (pair_step_out tower book y z a e).2
+      let (a, n, e) = present_map_out (pair_step tower book y) (below tower.actions) m in (pair_step_out tower book y z a e).2
 
   -- So each of the pairs counts.
   pub pairs_heavy : (v : Pair) → Memᴰ v (pairs tower book) → 0 < pair_weight v

@@ -25,7 +25,7 @@ cleared_chains Stands buckets heads_at links_at size area e =
     zeros h = omega (arith, cleared_byte size (heads_at + 2 * h), cleared_byte size (heads_at + 2 * h + 1))
 
 module _ (heads_at buckets links_at numbers : ℕ) (area : List ℕ) (h k : ℕ) (apart : Apart heads_at buckets links_at numbers)
-    (heads-room : heads_at + 2 * buckets ≤ length area) (links-room : links_at + 2 * numbers ≤ length area) (small : h < buckets)
+    (heads_room : heads_at + 2 * buckets ≤ length area) (links_room : links_at + 2 * numbers ≤ length area) (small : h < buckets)
     (within : k < numbers) where
   -- the area with the link written, and with both
   abbrev one : List ℕ

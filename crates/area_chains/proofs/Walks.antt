@@ -13,15 +13,15 @@ one_more P i all here k l = elim (dec_lt k i) [ yes m ↦ all k m | no m ↦ (le
 pub chained_stands : (Stands Other : ℕ → ℕ → Type 0) (buckets : ℕ) (head link : ℕ → ℕ) (n : ℕ)
     → ((k h : ℕ) → k < n → Stands k h → Other k h) → ((k h : ℕ) → k < n → Other k h → Stands k h)
     → Chained Stands buckets head link n → Chained Other buckets head link n
-chained_stands Stands Other buckets head link n to-other to-stands c =
+chained_stands Stands Other buckets head link n to_other to_stands c =
     record {
-      heads = λ h k l e. let m = c.heads h k l e in record { there = m.there; stands = to-other k h m.there m.stands };
+      heads = λ h k l e. let m = c.heads h k l e in record { there = m.there; stands = to_other k h m.there m.stands };
       links =
           λ l k h less o s e.
-          let m = c.links l k h less o (to-stands l h less s) e in
-          record { there = m.there; stands = to-other k h (omega (arith, m.there)) m.stands };
-      all_heads = λ l h less o s. c.all_heads l h less o (to-stands l h less s);
-      all_links = λ l k h less o s p t. c.all_links l k h less o (to-stands l h less s) p (to-stands k h (omega arith) t);
+          let m = c.links l k h less o (to_stands l h less s) e in
+          record { there = m.there; stands = to_other k h (omega (arith, m.there)) m.stands };
+      all_heads = λ l h less o s. c.all_heads l h less o (to_stands l h less s);
+      all_links = λ l k h less o s p t. c.all_links l k h less o (to_stands l h less s) p (to_stands k h (omega arith) t);
     }
 
 module _ (Stands : ℕ → ℕ → Type 0) (buckets : ℕ) where
@@ -52,21 +52,21 @@ module _ (Stands : ℕ → ℕ → Type 0) (buckets : ℕ) where
   -- Equal heads and links are chains of the same.
   pub chained_same : (head link head' link' : ℕ → ℕ) (n : ℕ) → Chained Stands buckets head link n
       → ((h : ℕ) → h < buckets → head' h ≡ head h) → ((k : ℕ) → k < n → link' k ≡ link k) → Chained Stands buckets head' link' n
-  chained_same head link head' link' n c same-heads same-links =
+  chained_same head link head' link' n c same_heads same_links =
       record {
-        heads = λ h k l e. c.heads h k l (sym (same-heads h l) ∙ e);
-        links = λ l k h less o s e. c.links l k h less o s (sym (same-links l less) ∙ e);
-        all_heads = λ l h less o s. omega (arith, same-heads h o, c.all_heads l h less o s);
-        all_links = λ l k h less o s p t. omega (arith, same-links l less, c.all_links l k h less o s p t);
+        heads = λ h k l e. c.heads h k l (sym (same_heads h l) ∙ e);
+        links = λ l k h less o s e. c.links l k h less o s (sym (same_links l less) ∙ e);
+        all_heads = λ l h less o s. omega (arith, same_heads h o, c.all_heads l h less o s);
+        all_links = λ l k h less o s p t. omega (arith, same_links l less, c.all_links l k h less o s p t);
       }
 
-  module _ (head link head' link' : ℕ → ℕ) (i h : ℕ) (c : Chained Stands buckets head link i) (small : h < buckets) (in-h : Stands i h)
-      (only : (g : ℕ) → Stands i g → g ≡ h) (Link-here : link' i ≡ head h) (link_else : (k : ℕ) → k < i → link' k ≡ link k)
+  module _ (head link head' link' : ℕ → ℕ) (i h : ℕ) (c : Chained Stands buckets head link i) (small : h < buckets) (in_h : Stands i h)
+      (only : (g : ℕ) → Stands i g → g ≡ h) (Link_here : link' i ≡ head h) (link_else : (k : ℕ) → k < i → link' k ≡ link k)
       (head_here : head' h ≡ suc i) (head_else : (g : ℕ) → g < buckets → (g ≡ h → ⊥) → head' g ≡ head g) where
     new_heads : (g k : ℕ) → g < buckets → head' g ≡ suc k → Dec (g ≡ h) → Member Stands (i + 1) k g
     new_heads g k l e (yes same) =
         let ki : i ≡ k = omega (arith, ap head' same) in
-        subst (λ x. Member Stands (i + 1) x g) ki (record { there = omega arith; stands = subst (Stands i) (sym same) in-h })
+        subst (λ x. Member Stands (i + 1) x g) ki (record { there = omega arith; stands = subst (Stands i) (sym same) in_h })
     new_heads g k l e (no other) =
         let old = c.heads g k l (sym (head_else g l other) ∙ e) in
         record { there = omega (arith, old.there); stands = old.stands }
@@ -85,7 +85,7 @@ module _ (Stands : ℕ → ℕ → Type 0) (buckets : ℕ) where
               one_more (λ l. Stands l g → link' l ≡ suc k → Member Stands l k g) i
               (λ l m s e. c.links l k g m o s (sym (link_else l m) ∙ e))
               (λ s e. let same = only g s in
-              c.heads g k o (ap head same ∙ sym Link-here ∙ e)) l less;
+              c.heads g k o (ap head same ∙ sym Link_here ∙ e)) l less;
           all_heads =
               λ l g less o.
               one_more (λ l. Stands l g → l < head' g) i (λ l m s. new_all l g m o s (ℕ_discrete g h))
@@ -121,7 +121,7 @@ module _ (Stands : ℕ → ℕ → Type 0) (buckets : ℕ) where
     pub walk_first : (at : ℕ) → at ≡ head h → (j : ℕ) → j < n → Stands j h → j < at
     walk_first at e j l s = omega (arith, c.all_heads j h l small s)
 
-    module _ (at next : ℕ) (w : Walking n h at) (more : 0 < at) (to-next : next ≡ link (at - 1)) where
+    module _ (at next : ℕ) (w : Walking n h at) (more : 0 < at) (to_next : next ≡ link (at - 1)) where
       -- It goes on along a link,
       pub walk_on : Walking n h next
       walk_on =
@@ -129,13 +129,13 @@ module _ (Stands : ℕ → ℕ → Type 0) (buckets : ℕ) where
           record {
             node =
                 λ j e.
-                let old = c.links (at - 1) j h m.there small m.stands (sym to-next ∙ e) in
+                let old = c.links (at - 1) j h m.there small m.stands (sym to_next ∙ e) in
                 record { there = omega (arith, m.there, old.there); stands = old.stands };
           }
 
       -- which leads to a smaller number,
       pub walk_falls : next < at
-      walk_falls = go next to-next
+      walk_falls = go next to_next
         where
           go : (x : ℕ) → x ≡ link (at - 1) → x < at
           go zero e = omega arith

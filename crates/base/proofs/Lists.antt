@@ -19,8 +19,8 @@ use Rattle.base.specs.Lists.{every, some_of, count_from, below, present, is_ther
 
 -- A Bool is true or false; each arm is given the equation.
 pub whether {ℓ} : {C : Type ℓ} (b : Bool) → (b ≡ true → C) → (b ≡ false → C) → C
-whether true if_so if-not = if_so refl
-whether false if_so if-not = if-not refl
+whether true if_so if_not = if_so refl
+whether false if_so if_not = if_not refl
 
 -- No Bool is both.
 pub never_both {ℓ} : {C : Type ℓ} {b : Bool} → b ≡ true → b ≡ false → C
@@ -333,9 +333,9 @@ module _ {ℓ} {X : Type ℓ} where
   some_one p q = cc
 
   -- An option is nothing or a value; each arm is given the equation.
-  pub whether-there {κ} : {C : Type κ} (o : Option X) → (o ≡ none → C) → ((x : X) → o ≡ some x → C) → C
-  whether-there none if-not if_so = if-not refl
-  whether-there (some x) if-not if_so = if_so x refl
+  pub whether_there {κ} : {C : Type κ} (o : Option X) → (o ≡ none → C) → ((x : X) → o ≡ some x → C) → C
+  whether_there none if_not if_so = if_not refl
+  whether_there (some x) if_not if_so = if_so x refl
 
   -- Two options are alike by the test: both nothing, or both there and alike.
   pub same_option_out : (same : X → X → Bool) (o p : Option X) → same_option same o p ≡ true
@@ -440,14 +440,14 @@ module _ {ℓ} {X : Type ℓ} where
       go ih (inr n) = Memᴰ.tail (ih n)
 
   -- What is present of a list mapped to options: it comes of a member.
-  pub present-map-out {κ} : {Y : Type κ} (f : Y → Option X) (ys : List Y) {x : X} → Memᴰ x (present (map f ys))
+  pub present_map_out {κ} : {Y : Type κ} (f : Y → Option X) (ys : List Y) {x : X} → Memᴰ x (present (map f ys))
       → (y : Y) × Memᴰ y ys × (f y ≡ some x)
-  present-map-out f ys m = Memᴰ.of_map f ys (present_out (map f ys) m)
+  present_map_out f ys m = Memᴰ.of_map f ys (present_out (map f ys) m)
 
   -- What a member is mapped to is present.
-  pub present-map-in {κ} : {Y : Type κ} (f : Y → Option X) {y : Y} (ys : List Y) {x : X} → Memᴰ y ys → f y ≡ some x
+  pub present_map_in {κ} : {Y : Type κ} (f : Y → Option X) {y : Y} (ys : List Y) {x : X} → Memᴰ y ys → f y ≡ some x
       → Memᴰ x (present (map f ys))
-  present-map-in f ys m e = present_in (map f ys) (Memᴰ.cast (sym e) (Memᴰ.map f m))
+  present_map_in f ys m e = present_in (map f ys) (Memᴰ.cast (sym e) (Memᴰ.map f m))
 
 -- Two lists mapped to options with the same values by p and q: so are the values present.
 pub present_map_same {ℓ κ μ ν} : {A : Type ℓ} {X : Type κ} {Y : Type μ} {Z : Type ν} (f : A → Option X) (g : A → Option Y) (p : X → Z)
@@ -486,7 +486,7 @@ present_rising {X = X} f key h k (suc n) = go (f k) refl (present_rising f key h
   where
     above : (x : X) → key x ≡ k → (y : X) → Memᴰ y (present (map f (count_from (suc k) n))) → key x < key y
     above x e y m =
-        let (a, at, p) = present-map-out f (count_from (suc k) n) m in
+        let (a, at, p) = present_map_out f (count_from (suc k) n) m in
         let (low, high) = mem_count_from (suc k) n at in
         let q = h a y p in
         omega arith

@@ -128,16 +128,16 @@ module _ {X : Type 0} {same : X → X → Bool} (is : IsSame same) where
       let (z, m, e) = h y (Memᴰ.head refl) in
       let (rest, sum, out) = taken weight m in
       let fewer = apart_weigh weight alike ms rest a (λ u k. go z e rest out u k (h u (Memᴰ.tail k))) in
-      let same-weight = alike y z e in
+      let same_weight = alike y z e in
       omega arith
     where
       go : (z : X) → same y z ≡ true → (rest : List X) → ((w : X) → Memᴰ w l → (w ≡ z) ⊎ Memᴰ w rest) → (u : X) → Memᴰ u ms
           → (v : X) × Memᴰ v l × (same u v ≡ true) → (v : X) × Memᴰ v rest × (same u v ≡ true)
       go z e rest out u k (v, m, f) =
           ⊎_elim
-          (λ is-z.
+          (λ is_z.
           absurd
-          (never_both (is.chained y z u e (is.turned u z (ap (same u) (sym is-z) ∙ f))) (some_none (same y) none_same k)))
+          (never_both (is.chained y z u e (is.turned u z (ap (same u) (sym is_z) ∙ f))) (some_none (same y) none_same k)))
           (λ i. (v, i, f)) (out v m)
 
   -- So there are no more of them than it has.
@@ -156,8 +156,8 @@ apart_distinct same itself (x ∷ xs) (none_same, a) =
 pub distinct_apart : {X : Type 0} (same : X → X → Bool) → ((x y : X) → same x y ≡ true → x ≡ y) → (xs : List X) → Distinct xs → Apart same xs
 unfolding Apart Distinct
 distinct_apart same out [] a = tt
-distinct_apart same out (x ∷ xs) (not-in-rest, a) =
-    (none_of (same x) xs (λ y m. false_by (same x y) (λ e. not-in-rest (Memᴰ.cast (out x y e) m))), distinct_apart same out xs a)
+distinct_apart same out (x ∷ xs) (not_in_rest, a) =
+    (none_of (same x) xs (λ y m. false_by (same x y) (λ e. not_in_rest (Memᴰ.cast (out x y e) m))), distinct_apart same out xs a)
 
 length_snoc : {X : Type 0} (xs : List X) (y : X) → length (xs ++ (y ∷ [])) ≡ suc (length xs)
 length_snoc xs y = let e = length-append xs (y ∷ []) in omega arith
@@ -328,13 +328,13 @@ module _ {X : Type 0} (same : X → X → Bool) (followers : X → List X) where
     search_looks : IsSame same → (n : ℕ) (done todo seen l : List X) → seen ≡ done ++ todo → suc most ≤ n + length done
         → l ≡ searched n seen todo → Few weight most l → Looked done todo seen l
     unfolding search_on MetInOrder
-    search_looks is zero done todo seen l e fuel is-l few = absurd (omega (arith, length_weight weight l few.heavy, few.light, ap length is-l, ap length e, length-append done todo))
-    search_looks is (suc n) done [] seen l e fuel is-l few =
-        record { more = []; grown = is-l ∙ sym (append-nil seen); order = ap length e ∙ ap length (append-nil done) }
-    search_looks is (suc n) done (y ∷ todo) seen l e fuel is-l few =
+    search_looks is zero done todo seen l e fuel is_l few = absurd (omega (arith, length_weight weight l few.heavy, few.light, ap length is_l, ap length e, length-append done todo))
+    search_looks is (suc n) done [] seen l e fuel is_l few =
+        record { more = []; grown = is_l ∙ sym (append-nil seen); order = ap length e ∙ ap length (append-nil done) }
+    search_looks is (suc n) done (y ∷ todo) seen l e fuel is_l few =
         let less : suc most ≤ n + length (done ++ (y ∷ [])) = omega (arith, length_snoc done y) in
         let next = search_looks is n (done ++ (y ∷ [])) (todo ++ new seen y) (seen ++ new seen y) l moved less in
-        go (ltb most (total (map weight seen))) refl is-l (λ q. next q few)
+        go (ltb most (total (map weight seen))) refl is_l (λ q. next q few)
       where
         moved : seen ++ new seen y ≡ (done ++ (y ∷ [])) ++ (todo ++ new seen y)
         moved =

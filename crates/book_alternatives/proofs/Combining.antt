@@ -39,20 +39,20 @@ use Rattle.book_alternatives.proofs.Sets.{changed_none, changed_both, changed_wi
 pub leaves_none : (count : ℕ) (sets room : List ℕ) → count ≤ 17 → StepLeaves count sets room sets room
 leaves_none count sets room few = record { most = few; changed = changed_none sets 0 joined_at; candidates = candidates_none room }
 
-pub leaves_both : (one two : ℕ) (sets room mid mid_room after after-room : List ℕ) → StepLeaves one sets room mid mid_room
-    → StepLeaves two mid mid_room after after-room → StepLeaves two sets room after after-room
-leaves_both one two sets room mid mid_room after after-room first then =
+pub leaves_both : (one two : ℕ) (sets room mid mid_room after after_room : List ℕ) → StepLeaves one sets room mid mid_room
+    → StepLeaves two mid mid_room after after_room → StepLeaves two sets room after after_room
+leaves_both one two sets room mid mid_room after after_room first then =
     record {
       most = then.most;
       changed = changed_both sets 0 joined_at mid after first.changed then.changed;
-      candidates = candidates_both room mid_room after-room first.candidates then.candidates;
+      candidates = candidates_both room mid_room after_room first.candidates then.candidates;
     }
 
 -- The areas may have changed meanwhile.
-pub still_ready : (bytes : List ℕ) (n mask count : ℕ) (sets room : List ℕ) (left : ℕ) (after after-room : List ℕ)
-    → StepLeaves left sets room after after-room → CombinedStands bytes n mask left after → StepReady bytes n mask count sets room
-    → StepReady bytes n mask left after after-room
-still_ready bytes n mask count sets room left after after-room leaves stands ready =
+pub still_ready : (bytes : List ℕ) (n mask count : ℕ) (sets room : List ℕ) (left : ℕ) (after after_room : List ℕ)
+    → StepLeaves left sets room after after_room → CombinedStands bytes n mask left after → StepReady bytes n mask count sets room
+    → StepReady bytes n mask left after after_room
+still_ready bytes n mask count sets room left after after_room leaves stands ready =
     record {
       nodes = ready.nodes;
       few = ready.few;
@@ -94,10 +94,10 @@ module _ (bytes : List ℕ) (n k : ℕ) (r : Tick) (mask : ℕ) (d : Tick) (sets
         candidates = omega (arith, ready.candidates_room, offered.leaves.candidates.size);
       }
 
-  pub node_combined : (out count : ℕ) (after after-room : List ℕ)
-      → Combines out bytes n mid combined_at count one.at one.count combined_at mid_room after after-room
-      → NodeCombined out bytes n k r mask d count sets room after after-room
-  node_combined out count after after-room comb =
+  pub node_combined : (out count : ℕ) (after after_room : List ℕ)
+      → Combines out bytes n mid combined_at count one.at one.count combined_at mid_room after after_room
+      → NodeCombined out bytes n k r mask d count sets room after after_room
+  node_combined out count after after_room comb =
       record {
         leaves = record {
           most = comb.leaves.most;
@@ -105,7 +105,7 @@ module _ (bytes : List ℕ) (n k : ℕ) (r : Tick) (mask : ℕ) (d : Tick) (sets
               (changed_wider sets (960 * 0) (960 * (k + 1)) mid 0 joined_at (offered.leaves.changed 0 ready.rooted) (omega arith)
               (omega (arith, ready.few, ready.node)))
               (changed_beside mid combined_at 960 after 0 joined_at comb.leaves.beside (omega arith) (omega arith));
-          candidates = candidates_both room mid_room after-room offered.leaves.candidates comb.leaves.candidates;
+          candidates = candidates_both room mid_room after_room offered.leaves.candidates comb.leaves.candidates;
         };
         says = λ f s fs are at. comb.says fs are ∙ ap₂ (combined fs)
             (kept_behind sets (960 * 0) (960 * (k + 1)) mid n combined_at count (offered.leaves.changed 0 ready.rooted) (omega (arith, ready.few, ready.node)))
@@ -113,9 +113,9 @@ module _ (bytes : List ℕ) (n k : ℕ) (r : Tick) (mask : ℕ) (d : Tick) (sets
       }
 
 -- What a node was combined with stands,
-pub node_stands : (out : ℕ) (bytes : List ℕ) (n k : ℕ) (r : Tick) (mask : ℕ) (d : Tick) (count : ℕ) (sets room after after-room : List ℕ)
-    → NodeCombined out bytes n k r mask d count sets room after after-room → Rooted bytes 0 k → CombinedStands bytes n mask out after
-node_stands out bytes n k r mask d count sets room after after-room node root =
+pub node_stands : (out : ℕ) (bytes : List ℕ) (n k : ℕ) (r : Tick) (mask : ℕ) (d : Tick) (count : ℕ) (sets room after after_room : List ℕ)
+    → NodeCombined out bytes n k r mask d count sets room after after_room → Rooted bytes 0 k → CombinedStands bytes n mask out after
+node_stands out bytes n k r mask d count sets room after after_room node root =
     record {
       says = λ fs are at.
           rw (node.says root.formula root.stored fs are at)
@@ -140,13 +140,13 @@ module _ (bytes : List ℕ) (n k cell mask : ℕ) (d : Tick) (count : ℕ) (sets
   unfolding cell_of combined_cell
   cell_none e ready = record { leaves = leaves_none count sets room ready.most; stands = ready.stands; says = λ f s fs are at. rw e refl }
 
-  pub cell_combined : (out : ℕ) (after after-room : List ℕ) → NodeCombined out bytes n k (ticks (cell - 1)) mask d count sets room after after-room
-      → (cell ≡ 0 → ⊥) → k < n → StepReady bytes n mask count sets room → CellCombined out bytes n k cell mask d count sets room after after-room
+  pub cell_combined : (out : ℕ) (after after_room : List ℕ) → NodeCombined out bytes n k (ticks (cell - 1)) mask d count sets room after after_room
+      → (cell ≡ 0 → ⊥) → k < n → StepReady bytes n mask count sets room → CellCombined out bytes n k cell mask d count sets room after after_room
   unfolding combined_cell
-  cell_combined out after after-room node there low ready =
+  cell_combined out after after_room node there low ready =
       record {
         leaves = node.leaves;
-        stands = node_stands out bytes n k (ticks (cell - 1)) mask d count sets room after after-room node (ready.rooted k low);
+        stands = node_stands out bytes n k (ticks (cell - 1)) mask d count sets room after after_room node (ready.rooted k low);
         says = λ f s fs are at. rw (cell_there cell there) (node.says f s fs are at);
       }
 
@@ -164,9 +164,9 @@ nodes_cons tower fs x d g gs k none cells s = refl
 nodes_cons tower fs x d g gs k (some r) cells s = refl
 
 -- How far the nodes are combined: those from number k on are left to do.
-pub record NodesGoing (bytes : List ℕ) (n mask : ℕ) (d : Tick) (old : List ℕ) (from count : ℕ) (first first-room : List ℕ) (left k : ℕ) (sets room : List ℕ) : Type 0 where
+pub record NodesGoing (bytes : List ℕ) (n mask : ℕ) (d : Tick) (old : List ℕ) (from count : ℕ) (first first_room : List ℕ) (left k : ℕ) (sets room : List ℕ) : Type 0 where
   pub low : k ≤ n
-  pub leaves : StepLeaves left first first-room sets room
+  pub leaves : StepLeaves left first first_room sets room
   pub stands : CombinedStands bytes n mask left sets
   pub says : (fs : List Formula) → AreNodes bytes n fs → (at : MarkedState mask)
       → combined_nodes at.tower fs at.state d fs 0 (alternative_in old n from) (answered first n combined_at count)
@@ -177,9 +177,9 @@ pub nodes_first : (bytes : List ℕ) (n mask : ℕ) (d : Tick) (old : List ℕ) 
 nodes_first bytes n mask d old from count sets room ready =
     record { low = omega arith; leaves = leaves_none count sets room ready.most; stands = ready.stands; says = λ fs are at. refl }
 
-module _ (bytes : List ℕ) (n mask : ℕ) (d : Tick) (old : List ℕ) (from count : ℕ) (first first-room : List ℕ) (left k : ℕ) (sets room : List ℕ)
-    (going : NodesGoing bytes n mask d old from count first first-room left k sets room) where
-  pub nodes_end : n ≤ k → NodesCombined left bytes n mask d old from count first first-room sets room
+module _ (bytes : List ℕ) (n mask : ℕ) (d : Tick) (old : List ℕ) (from count : ℕ) (first first_room : List ℕ) (left k : ℕ) (sets room : List ℕ)
+    (going : NodesGoing bytes n mask d old from count first first_room left k sets room) where
+  pub nodes_end : n ≤ k → NodesCombined left bytes n mask d old from count first first_room sets room
   unfolding combined_nodes
   nodes_end over =
       record {
@@ -190,12 +190,12 @@ module _ (bytes : List ℕ) (n mask : ℕ) (d : Tick) (old : List ℕ) (from cou
             sym (going.says fs are at ∙ rw (drop_of_length-le fs done) refl);
       }
 
-  nodes_next : (out : ℕ) (after after-room : List ℕ) → CellCombined out bytes n k (get_or old (from + k) 0) mask d left sets room after after-room
-      → k < n → from + n ≤ length old → NodesGoing bytes n mask d old from count first first-room out (k + 1) after after-room
-  nodes_next out after after-room cell low fits =
+  nodes_next : (out : ℕ) (after after_room : List ℕ) → CellCombined out bytes n k (get_or old (from + k) 0) mask d left sets room after after_room
+      → k < n → from + n ≤ length old → NodesGoing bytes n mask d old from count first first_room out (k + 1) after after_room
+  nodes_next out after after_room cell low fits =
       record {
         low = omega arith;
-        leaves = leaves_both left out first first-room sets room after after-room going.leaves cell.leaves;
+        leaves = leaves_both left out first first_room sets room after after_room going.leaves cell.leaves;
         stands = cell.stands;
         says = λ fs are at. going.says fs are at ∙ step fs are at;
       }
@@ -211,62 +211,62 @@ module _ (bytes : List ℕ) (n mask : ℕ) (d : Tick) (old : List ℕ) (from cou
           (drop (suc k) (alternative_in old n from)) (answered sets n combined_at left)
           ∙ rw (alternative_cell old n from k low, ← cell.says (get_or fs k (constant false)) (are.stored k low) fs are at) refl)
 
-  pub nodes_ready : StepReady bytes n mask count first first-room → StepReady bytes n mask left sets room
-  nodes_ready ready = still_ready bytes n mask count first first-room left sets room going.leaves going.stands ready
+  pub nodes_ready : StepReady bytes n mask count first first_room → StepReady bytes n mask left sets room
+  nodes_ready ready = still_ready bytes n mask count first first_room left sets room going.leaves going.stands ready
 
 -- Empty cells are passed over.
-nodes_past : (bytes : List ℕ) (n mask : ℕ) (d : Tick) (old : List ℕ) (from count : ℕ) (first first-room : List ℕ) (left k : ℕ) (sets room : List ℕ) (r : ℕ)
-    → NodesGoing bytes n mask d old from count first first-room left k sets room → StepReady bytes n mask count first first-room → from + n ≤ length old
-    → EmptyTo old from n k r → NodesGoing bytes n mask d old from count first first-room left r sets room
-nodes_past bytes n mask d old from count first first-room left k sets room r going ready fits over =
+nodes_past : (bytes : List ℕ) (n mask : ℕ) (d : Tick) (old : List ℕ) (from count : ℕ) (first first_room : List ℕ) (left k : ℕ) (sets room : List ℕ) (r : ℕ)
+    → NodesGoing bytes n mask d old from count first first_room left k sets room → StepReady bytes n mask count first first_room → from + n ≤ length old
+    → EmptyTo old from n k r → NodesGoing bytes n mask d old from count first first_room left r sets room
+nodes_past bytes n mask d old from count first first_room left k sets room r going ready fits over =
     let all : k + (r - k) ≡ r = omega (arith, over.least) in
     rw all at (go (r - k) (omega arith))
   where
-    go : (m : ℕ) → k + m ≤ r → NodesGoing bytes n mask d old from count first first-room left (k + m) sets room
+    go : (m : ℕ) → k + m ≤ r → NodesGoing bytes n mask d old from count first first_room left (k + m) sets room
     go zero l = let here : k + 0 ≡ k = omega arith in rw here going
     go (suc m) l =
         let next : k + m + 1 ≡ k + suc m = omega arith in
         let now = go m (omega arith) in
         rw (← next)
-        (nodes_next bytes n mask d old from count first first-room left (k + m) sets room now left sets room
+        (nodes_next bytes n mask d old from count first first_room left (k + m) sets room now left sets room
         (cell_none bytes n (k + m) (get_or old (from + (k + m)) 0) mask d left sets room (over.empty (k + m) (omega arith) (omega arith))
-        (nodes_ready bytes n mask d old from count first first-room left (k + m) sets room now ready))
+        (nodes_ready bytes n mask d old from count first first_room left (k + m) sets room now ready))
         (omega (arith, over.most)) fits)
 
 -- Node k is combined, and empty cells behind it are passed over.
-pub nodes_on : (bytes : List ℕ) (n mask : ℕ) (d : Tick) (old : List ℕ) (from count : ℕ) (first first-room : List ℕ) (left k : ℕ) (sets room : List ℕ) (r : ℕ)
-    (out : ℕ) (after after-room : List ℕ) → EmptyTo old from n (k + 1) r
-    → NodesGoing bytes n mask d old from count first first-room left k sets room
-    → CellCombined out bytes n k (get_or old (from + k) 0) mask d left sets room after after-room
-    → k < n → from + n ≤ length old → StepReady bytes n mask count first first-room
-    → NodesGoing bytes n mask d old from count first first-room out r after after-room
-nodes_on bytes n mask d old from count first first-room left k sets room r out after after-room over going cell low fits ready =
-    nodes_past bytes n mask d old from count first first-room out (k + 1) after after-room r
-    (nodes_next bytes n mask d old from count first first-room left k sets room going out after after-room cell low fits) ready fits over
+pub nodes_on : (bytes : List ℕ) (n mask : ℕ) (d : Tick) (old : List ℕ) (from count : ℕ) (first first_room : List ℕ) (left k : ℕ) (sets room : List ℕ) (r : ℕ)
+    (out : ℕ) (after after_room : List ℕ) → EmptyTo old from n (k + 1) r
+    → NodesGoing bytes n mask d old from count first first_room left k sets room
+    → CellCombined out bytes n k (get_or old (from + k) 0) mask d left sets room after after_room
+    → k < n → from + n ≤ length old → StepReady bytes n mask count first first_room
+    → NodesGoing bytes n mask d old from count first first_room out r after after_room
+nodes_on bytes n mask d old from count first first_room left k sets room r out after after_room over going cell low fits ready =
+    nodes_past bytes n mask d old from count first first_room out (k + 1) after after_room r
+    (nodes_next bytes n mask d old from count first first_room left k sets room going out after after_room cell low fits) ready fits over
 
 -- ---- one line
 
-module _ (bytes : List ℕ) (n i mask : ℕ) (d : Tick) (count : ℕ) (sets room : List ℕ) (form : ℕ) (at-form : form ≡ form_of bytes i) where
+module _ (bytes : List ℕ) (n i mask : ℕ) (d : Tick) (count : ℕ) (sets room : List ℕ) (form : ℕ) (at_form : form ≡ form_of bytes i) where
   pub line_passed : (form ≡ 1 → ⊥) → StepReady bytes n mask count sets room → LineCombined count bytes n i mask d count sets room sets room
   unfolding combined_rule
   line_passed not_one ready =
       record {
         leaves = leaves_none count sets room ready.most;
         stands = ready.stands;
-        says = λ rule m line fs are at. rw (starts rule.form (λ e. not_one (at-form ∙ line.form ∙ e))) refl;
+        says = λ rule m line fs are at. rw (starts rule.form (λ e. not_one (at_form ∙ line.form ∙ e))) refl;
       }
 
-  pub line_combined : (k : ℕ) (q : Tick) (out : ℕ) (after after-room : List ℕ) → NodeCombined out bytes n k q mask d count sets room after after-room
+  pub line_combined : (k : ℕ) (q : Tick) (out : ℕ) (after after_room : List ℕ) → NodeCombined out bytes n k q mask d count sets room after after_room
       → k ≡ formula_of bytes i → q ≡ ticks (fresh_of bytes k) → form ≡ 1 → IsLine bytes i → n ≡ nodes_in bytes
-      → StepReady bytes n mask count sets room → LineCombined out bytes n i mask d count sets room after after-room
+      → StepReady bytes n mask count sets room → LineCombined out bytes n i mask d count sets room after after_room
   unfolding combined_rule
-  line_combined k q out after after-room node place new one is all ready =
+  line_combined k q out after after_room node place new one is all ready =
       record {
         leaves = node.leaves;
-        stands = node_stands out bytes n k q mask d count sets room after after-room node
+        stands = node_stands out bytes n k q mask d count sets room after after_room node
             (ready.rooted k (omega (arith, place ∙ is.is.place, is.is.low)));
         says = λ rule m line fs are at.
-            rw (is_everywhere rule.form (sym (at-form ∙ line.form) ∙ one))
+            rw (is_everywhere rule.form (sym (at_form ∙ line.form) ∙ one))
             (said rule.formula (root m rule.formula) (place ∙ line.place) (rw (place ∙ line.place) line.stored) fs are at);
       }
     where
@@ -285,21 +285,21 @@ line_ready bytes n i k q mask count sets room place new line all ready =
 pub line_passes : (bytes : List ℕ) (n i mask : ℕ) (d : Tick) (count : ℕ) (sets room : List ℕ) (form k : ℕ) (b : Bool) → Passes b bytes k mask → b ≡ true
     → form ≡ form_of bytes i → k ≡ formula_of bytes i → form ≡ 1 → IsLine bytes i → n ≡ nodes_in bytes → StepReady bytes n mask count sets room
     → LineCombined count bytes n i mask d count sets room sets room
-line_passes bytes n i mask d count sets room form k b pass is-so at-form place one line all ready =
+line_passes bytes n i mask d count sets room form k b pass is-so at_form place one line all ready =
     let q = ticks (fresh_of bytes k) in
     let six = pass.code is-so in
     let looked = looks_or_first_holds bytes k q mask d (code_of bytes k) refl (omega arith) (omega arith) (λ four. omega arith) (λ five. omega arith)
     (first_of bytes k) b refl (pass.first is-so) is-so in
-    line_combined bytes n i mask d count sets room form at-form k q count sets room
+    line_combined bytes n i mask d count sets room form at_form k q count sets room
     (node_passes bytes n k q mask d count sets room 1 looked refl (line_ready bytes n i k q mask count sets room place refl line all ready))
     place refl one line all ready
 
 -- ---- all lines
 
 -- How far the lines are combined: those from number i on are left to do.
-pub record LinesGoing (bytes : List ℕ) (n mask : ℕ) (d : Tick) (count : ℕ) (first first-room : List ℕ) (lines left i : ℕ) (sets room : List ℕ) : Type 0 where
+pub record LinesGoing (bytes : List ℕ) (n mask : ℕ) (d : Tick) (count : ℕ) (first first_room : List ℕ) (lines left i : ℕ) (sets room : List ℕ) : Type 0 where
   pub low : i ≤ lines
-  pub leaves : StepLeaves left first first-room sets room
+  pub leaves : StepLeaves left first first_room sets room
   pub stands : CombinedStands bytes n mask left sets
   pub says : (book : Book) → HeldBook bytes book → (fs : List Formula) → AreNodes bytes n fs → (at : MarkedState mask)
       → combined_rules at.tower fs at.state d book 0 (answered first n combined_at count)
@@ -311,9 +311,9 @@ unfolding nodes_before
 lines_first bytes n mask d count sets room lines ready =
     record { low = omega arith; leaves = leaves_none count sets room ready.most; stands = ready.stands; says = λ book held fs are at. refl }
 
-module _ (bytes : List ℕ) (n mask : ℕ) (d : Tick) (count : ℕ) (first first-room : List ℕ) (lines left i : ℕ) (sets room : List ℕ)
-    (going : LinesGoing bytes n mask d count first first-room lines left i sets room) where
-  pub lines_end : lines ≡ lines_in bytes → lines ≤ i → LinesCombined left bytes n mask d count first first-room sets room
+module _ (bytes : List ℕ) (n mask : ℕ) (d : Tick) (count : ℕ) (first first_room : List ℕ) (lines left i : ℕ) (sets room : List ℕ)
+    (going : LinesGoing bytes n mask d count first first_room lines left i sets room) where
+  pub lines_end : lines ≡ lines_in bytes → lines ≤ i → LinesCombined left bytes n mask d count first first_room sets room
   unfolding combined_rules
   lines_end all over =
       record {
@@ -323,13 +323,13 @@ module _ (bytes : List ℕ) (n mask : ℕ) (d : Tick) (count : ℕ) (first first
             sym (going.says book held fs are at ∙ rw (drop_of_length-le book done) refl);
       }
 
-  pub lines_next : (out : ℕ) (after after-room : List ℕ) → LineCombined out bytes n i mask d left sets room after after-room → lines ≡ lines_in bytes
-      → i < lines → LinesGoing bytes n mask d count first first-room lines out (i + 1) after after-room
+  pub lines_next : (out : ℕ) (after after_room : List ℕ) → LineCombined out bytes n i mask d left sets room after after_room → lines ≡ lines_in bytes
+      → i < lines → LinesGoing bytes n mask d count first first_room lines out (i + 1) after after_room
   unfolding combined_rules
-  lines_next out after after-room line all low =
+  lines_next out after after_room line all low =
       record {
         low = omega arith;
-        leaves = leaves_both left out first first-room sets room after after-room going.leaves line.leaves;
+        leaves = leaves_both left out first first_room sets room after after_room going.leaves line.leaves;
         stands = line.stands;
         says = λ book held fs are at.
             let within : i < length book = omega (arith, held.holds.line_count) in
@@ -341,5 +341,5 @@ module _ (bytes : List ℕ) (n mask : ℕ) (d : Tick) (count : ℕ) (first first
             ) refl;
       }
 
-  pub lines_ready : StepReady bytes n mask count first first-room → StepReady bytes n mask left sets room
-  lines_ready ready = still_ready bytes n mask count first first-room left sets room going.leaves going.stands ready
+  pub lines_ready : StepReady bytes n mask count first first_room → StepReady bytes n mask left sets room
+  lines_ready ready = still_ready bytes n mask count first first_room left sets room going.leaves going.stands ready

@@ -31,9 +31,9 @@ use Rattle.book_alternatives.proofs.Offering.{own_leaves}
 
 -- what the step leaves of it
 ran : (bytes : List ℕ) (k : ℕ) (r : Tick) (mask : ℕ) (d : Tick) (n at : ℕ) (area : List ℕ) (b : Bool) (z : List ℕ)
-    → Progresses b bytes k r mask d (take (at + n - at) (drop at area)) z → (f : Formula) → Stored bytes f k → (in-state : MarkedState mask)
-    → progress in-state.tower in-state.state d f k r (pending_of (part area at n)) ≡ outcome b z
-ran bytes k r mask d n at area b z step f s in-state = rw (← lent area at n) (step.says f s in-state)
+    → Progresses b bytes k r mask d (take (at + n - at) (drop at area)) z → (f : Formula) → Stored bytes f k → (in_state : MarkedState mask)
+    → progress in_state.tower in_state.state d f k r (pending_of (part area at n)) ≡ outcome b z
+ran bytes k r mask d n at area b z step f s in_state = rw (← lent area at n) (step.says f s in_state)
 
 module _ (n at : ℕ) (area : List ℕ) (fits : at + n ≤ length area) (b : Bool) (z : List ℕ)
     (size : length z ≡ length (take (at + n - at) (drop at area))) where

@@ -66,18 +66,18 @@ module _ (bytes : List ℕ) (n : ℕ) (old : List ℕ) (from : ℕ) (sets room :
       pub lines_step : StepReady bytes n mask left mid mid_room
       lines_step = still_ready bytes n mask 1 clean room left mid mid_room run.leaves run.stands nodes_step
 
-      pub behind_done : (out : ℕ) (after after-room : List ℕ) → LinesCombined out bytes n mask d left mid mid_room after after-room
-          → Behind out bytes n mask d old from sets room after after-room
+      pub behind_done : (out : ℕ) (after after_room : List ℕ) → LinesCombined out bytes n mask d left mid mid_room after after_room
+          → Behind out bytes n mask d old from sets room after after_room
       unfolding alternatives_behind
-      behind_done out after after-room lines =
+      behind_done out after after_room lines =
           record {
-            leaves = leaves_both 1 out sets room clean room after after-room
+            leaves = leaves_both 1 out sets room clean room after after_room
                 (record {
                   most = omega arith;
                   changed = changed_beside sets combined_at 960 clean 0 joined_at empty.beside (omega arith) (omega arith);
                   candidates = candidates_none room;
                 })
-                (leaves_both left out clean room mid mid_room after after-room run.leaves lines.leaves);
+                (leaves_both left out clean room mid mid_room after after_room run.leaves lines.leaves);
             says = λ book held at.
                 let are = held_nodes bytes book held n ready.all in
                 lines.says book held (nodes book) are at
@@ -97,14 +97,14 @@ module _ (bytes : List ℕ) (n : ℕ) (old : List ℕ) (from : ℕ) (sets room :
           candidates = omega (arith, ready.candidates_room, done.leaves.candidates.size);
         }
 
-    pub behind_joined : (out count : ℕ) (after after-room : List ℕ)
-        → JoinsSets out bytes n mid joined_at count combined_at next joined_at mid_room after after-room → JoinedStands bytes n mask count sets
-        → BehindJoined out bytes n mask d old from count sets room after after-room
-    behind_joined out count after after-room join stands =
+    pub behind_joined : (out count : ℕ) (after after_room : List ℕ)
+        → JoinsSets out bytes n mid joined_at count combined_at next joined_at mid_room after after_room → JoinedStands bytes n mask count sets
+        → BehindJoined out bytes n mask d old from count sets room after after_room
+    behind_joined out count after after_room join stands =
         record {
           most = join.leaves.most;
           size = join.leaves.beside.size ∙ done.leaves.changed.size;
-          candidates = candidates_both room mid_room after-room done.leaves.candidates join.leaves.candidates;
+          candidates = candidates_both room mid_room after_room done.leaves.candidates join.leaves.candidates;
           stands = record {
             says = λ book held at.
                 rw (said book held at)
@@ -156,11 +156,11 @@ set_element area n at count i low =
     (get_or-map (λ i. alternative_in area n (at + 60 * i)) (below count) i 0 ∙ ap (λ i. alternative_in area n (at + 60 * i)) (get_or_below count i 0 low)))
 
 -- How far the old alternatives are joined: those from number i on are left to do.
-pub record Joining (bytes : List ℕ) (n mask : ℕ) (d : Tick) (old : List ℕ) (from count : ℕ) (first first-room : List ℕ) (left i : ℕ) (sets room : List ℕ) : Type 0 where
+pub record Joining (bytes : List ℕ) (n mask : ℕ) (d : Tick) (old : List ℕ) (from count : ℕ) (first first_room : List ℕ) (left i : ℕ) (sets room : List ℕ) : Type 0 where
   pub low : i ≤ count
   pub most : left ≤ 17
   pub size : length sets ≡ length first
-  pub candidates : Candidates first-room 0 room
+  pub candidates : Candidates first_room 0 room
   pub stands : JoinedStands bytes n mask left sets
   pub says : (book : Book) → HeldBook bytes book → (at : MarkedState mask)
       → progressed_set at.tower book at.state d (set_in old n from count)
@@ -179,10 +179,10 @@ joining_first bytes n mask d old from count sets room =
       says = λ book held at. rw (none_answered sets n joined_at) refl;
     }
 
-module _ (bytes : List ℕ) (n mask : ℕ) (d : Tick) (old : List ℕ) (from count : ℕ) (first first-room : List ℕ) (left i : ℕ) (sets room : List ℕ)
-    (going : Joining bytes n mask d old from count first first-room left i sets room) where
+module _ (bytes : List ℕ) (n mask : ℕ) (d : Tick) (old : List ℕ) (from count : ℕ) (first first_room : List ℕ) (left i : ℕ) (sets room : List ℕ)
+    (going : Joining bytes n mask d old from count first first_room left i sets room) where
   pub joining_ready : n ≡ nodes_in bytes → IsHeld bytes → i < count → from + 60 * count ≤ length old → sets_size ≤ length first
-      → candidates_size ≤ length first-room → AlternativeReady bytes n old (from + 60 * i) sets room
+      → candidates_size ≤ length first_room → AlternativeReady bytes n old (from + 60 * i) sets room
   joining_ready all held low fits sets_room candidates_room =
       record {
         held = held;
@@ -192,20 +192,20 @@ module _ (bytes : List ℕ) (n mask : ℕ) (d : Tick) (old : List ℕ) (from cou
         candidates_room = omega (arith, going.candidates.size);
       }
 
-  pub joining_next : (out : ℕ) (after after-room : List ℕ) → BehindJoined out bytes n mask d old (from + 60 * i) left sets room after after-room
-      → i < count → Joining bytes n mask d old from count first first-room out (i + 1) after after-room
+  pub joining_next : (out : ℕ) (after after_room : List ℕ) → BehindJoined out bytes n mask d old (from + 60 * i) left sets room after after_room
+      → i < count → Joining bytes n mask d old from count first first_room out (i + 1) after after_room
   unfolding joined_behind
-  joining_next out after after-room joined low =
+  joining_next out after after_room joined low =
       record {
         low = omega arith;
         most = joined.most;
         size = joined.size ∙ going.size;
-        candidates = candidates_both first-room room after-room going.candidates joined.candidates;
+        candidates = candidates_both first_room room after_room going.candidates joined.candidates;
         stands = joined.stands;
         says = λ book held at. going.says book held at ∙ rw (set_element old n from count i low, joined.says book held at) refl;
       }
 
-  pub joining_end : n ≡ nodes_in bytes → count ≤ i → Progressed left bytes mask d old from count first-room sets room
+  pub joining_end : n ≡ nodes_in bytes → count ≤ i → Progressed left bytes mask d old from count first_room sets room
   unfolding joined_behind
   joining_end all over =
       record {

@@ -91,7 +91,7 @@ module _ (bytes : List ℕ) (k : ℕ) (r : Tick) (mask : ℕ) (d : Tick) (code :
         }
 
   -- Any other code from 7 on is a next.
-  module _ (high : 7 ≤ code) (not-always : code ≡ 11 → ⊥) (not-until : code ≡ 12 → ⊥) (m : ℕ) (a : Bool) (number : m ≡ number_of bytes k)
+  module _ (high : 7 ≤ code) (not_always : code ≡ 11 → ⊥) (not_until : code ≡ 12 → ⊥) (m : ℕ) (a : Bool) (number : m ≡ number_of bytes k)
       (compared : Compares a code d (ticks m)) where
     said : (c : Comparison) (t : Tick) (g : Formula) → Stored bytes (next c t g) k → compares c d t ≡ a
     unfolding Stored node_code node_number
@@ -159,7 +159,7 @@ module _ (bytes : List ℕ) (k : ℕ) (r : Tick) (mask : ℕ) (d : Tick) (code :
           }
 
   -- An or whose first side is untimed: the second, if the first does not hold.
-  module _ (low : 3 < code) (high : code < 7) (not-four : code ≡ 4 → ⊥) (not_five : code ≡ 5 → ⊥) (p : ℕ) (h : Bool) (first : p ≡ first_of bytes k)
+  module _ (low : 3 < code) (high : code < 7) (not_four : code ≡ 4 → ⊥) (not_five : code ≡ 5 → ⊥) (p : ℕ) (h : Bool) (first : p ≡ first_of bytes k)
       (held : HoldsAt h bytes p mask) where
     left_untimed : (f g : Formula) → Stored bytes (or f g) k → timed f ≡ false
     unfolding Stored node_code

@@ -28,8 +28,8 @@ use Rattle.book_alternatives.proofs.Roots.{PartRooted, first_rooted, second_root
 
 -- ---- the sets of the parts
 
-module _ (bytes : List ℕ) (n p : ℕ) (q : Tick) (mask : ℕ) (d : Tick) (one : SetAt) (sets room after after-room : List ℕ)
-    (call : Offered one bytes n p q mask d sets room after after-room) (new : q ≡ ticks (fresh_of bytes p)) (fs : List Formula) (are : AreNodes bytes n fs)
+module _ (bytes : List ℕ) (n p : ℕ) (q : Tick) (mask : ℕ) (d : Tick) (one : SetAt) (sets room after after_room : List ℕ)
+    (call : Offered one bytes n p q mask d sets room after after_room) (new : q ≡ ticks (fresh_of bytes p)) (fs : List Formula) (are : AreNodes bytes n fs)
     (at : MarkedState mask) where
   -- A part that starts anew, at the place where the formula has it.
   child : (place : ℕ) (g : Formula) → p ≡ place → Stored bytes g p
@@ -109,16 +109,16 @@ module _ (bytes : List ℕ) (k : ℕ) (r : Tick) (mask : ℕ) (d : Tick) (look p
       )
 
   -- Its set.
-  part_said : (n : ℕ) (q : Tick) (one : SetAt) (sets room after after-room : List ℕ) → Offered one bytes n p q mask d sets room after after-room
+  part_said : (n : ℕ) (q : Tick) (one : SetAt) (sets room after after_room : List ℕ) → Offered one bytes n p q mask d sets room after after_room
       → q ≡ ticks (fresh_of bytes p) → (fs : List Formula) → AreNodes bytes n fs → (at : MarkedState mask) → (f : Formula) → Stored bytes f k
       → pick (leb look 3) (λ _. second_comes at.tower fs at.state d f k) (λ _. first_comes at.tower fs at.state d f k)
       ≡ answered after n one.at one.count
-  part_said n q one sets room after after-room call new fs are at f stored = elim (dec_lt 3 look) [
+  part_said n q one sets room after after_room call new fs are at f stored = elim (dec_lt 3 look) [
     | yes l ↦ rw (lt-leb look 3 l)
-        (first_said bytes n p q mask d one sets room after after-room call new fs are at k f stored (part.first l) (looked.second (omega arith))
+        (first_said bytes n p q mask d one sets room after after_room call new fs are at k f stored (part.first l) (looked.second (omega arith))
         (looked.first (omega arith)))
     | no l ↦ rw (le-leb look 3 (omega arith))
-        (second_said bytes n p q mask d one sets room after after-room call new fs are at k f stored (part.second (omega arith)) (looked.second (omega arith)))
+        (second_said bytes n p q mask d one sets room after after_room call new fs are at k f stored (part.second (omega arith)) (looked.second (omega arith)))
   ]
 
 -- ---- what is left
@@ -188,10 +188,10 @@ module _ (bytes : List ℕ) (n k : ℕ) (r : Tick) (mask : ℕ) (d : Tick) (sets
             candidates_room = omega (arith, ready.candidates_room, call.leaves.candidates.size);
           }
 
-      pub offered_stays : (out : SetAt) (after after-room : List ℕ) → Stayed out bytes n k r d one mid mid_room after after-room
-          → (look ≡ 2 → ⊥) → (look ≡ 5 → ⊥) → Offered out bytes n k r mask d sets room after after-room
+      pub offered_stays : (out : SetAt) (after after_room : List ℕ) → Stayed out bytes n k r d one mid mid_room after after_room
+          → (look ≡ 2 → ⊥) → (look ≡ 5 → ⊥) → Offered out bytes n k r mask d sets room after after_room
       unfolding looked_at
-      offered_stays out after after-room stayed not-two not_five =
+      offered_stays out after after_room stayed not_two not_five =
           record {
             leaves = record {
               most = stayed.most call.leaves.most;
@@ -201,12 +201,12 @@ module _ (bytes : List ℕ) (n k : ℕ) (r : Tick) (mask : ℕ) (d : Tick) (sets
                   changed_both sets (960 * from) (960 * (k + 1)) mid after (changed_part from root)
                   (changed_wider mid one.at (960 * (k + 1)) after (960 * from) (960 * (k + 1)) stayed.changed
                   (call.leaves.low from (part_rooted bytes k r mask d look p looked part more from root).0) (omega arith));
-              candidates = candidates_both room mid_room after-room call.leaves.candidates stayed.candidates;
+              candidates = candidates_both room mid_room after_room call.leaves.candidates stayed.candidates;
             };
             says = λ f s fs are at.
                 stayed.says f s fs are
                 ∙ ap (staying fs d f k r) (sym (part_said bytes k r mask d look p looked part more n q one sets room mid mid_room call new fs are at f s))
-                ∙ sym (looked.says f s fs at ∙ rw (lt-leb look 1 more, ne_eqb look 2 not-two, ne_eqb look 5 not_five) refl);
+                ∙ sym (looked.says f s fs at ∙ rw (lt-leb look 1 more, ne_eqb look 2 not_two, ne_eqb look 5 not_five) refl);
           }
 
       -- ---- two parts
@@ -237,11 +237,11 @@ module _ (bytes : List ℕ) (n k : ℕ) (r : Tick) (mask : ℕ) (d : Tick) (sets
                 },
               )
 
-          module _ (two : SetAt) (last last-room : List ℕ) (other : Offered two bytes n p₂ q₂ mask d mid mid_room last last-room) where
+          module _ (two : SetAt) (last last_room : List ℕ) (other : Offered two bytes n p₂ q₂ mask d mid mid_room last last_room) where
             low₂ : p₂ < k
             low₂ = (second_part_rooted 0 ready.rooted).1
 
-            pub two_ready : TwoReady bytes n k one two last last-room
+            pub two_ready : TwoReady bytes n k one two last last_room
             two_ready =
                 record {
                   nodes = ready.nodes;
@@ -259,10 +259,10 @@ module _ (bytes : List ℕ) (n k : ℕ) (r : Tick) (mask : ℕ) (d : Tick) (sets
                 kept_before mid (960 * (p + 1)) (960 * (p₂ + 1)) last n one.at one.count (other.leaves.changed (p + 1) apart) ready.few
                 call.leaves.high
 
-            pub offered_two : (out : SetAt) (after after-room : List ℕ) → OfTwo out bytes n k one two last last-room after after-room
-                → Offered out bytes n k r mask d sets room after after-room
+            pub offered_two : (out : SetAt) (after after_room : List ℕ) → OfTwo out bytes n k one two last last_room after after_room
+                → Offered out bytes n k r mask d sets room after after_room
             unfolding looked_at
-            offered_two out after after-room both =
+            offered_two out after after_room both =
                 record {
                   leaves = record {
                     most = both.leaves.most;
@@ -275,15 +275,15 @@ module _ (bytes : List ℕ) (n k : ℕ) (r : Tick) (mask : ℕ) (d : Tick) (sets
                         (other.leaves.changed from (second_part_rooted from root).0) (omega arith) (omega (arith, low₂)))
                         (changed_beside last (960 * k) 960 after (960 * from) (960 * (k + 1)) both.leaves.beside (omega (arith, root_low bytes from k root))
                         (omega arith)));
-                    candidates = candidates_both room mid_room after-room call.leaves.candidates
-                        (candidates_both mid_room last-room after-room other.leaves.candidates both.leaves.candidates);
+                    candidates = candidates_both room mid_room after_room call.leaves.candidates
+                        (candidates_both mid_room last_room after_room other.leaves.candidates both.leaves.candidates);
                   };
                   says = λ f s fs are at.
                       both.says f s fs are (stands fs are at)
                       ∙ ap₂ (of_two fs f)
                       (first_kept ∙ sym (first_said bytes n p q mask d one sets room mid mid_room call new fs are at k f s (part.first (omega arith))
                       (looked.second (omega arith)) (looked.first (omega arith))))
-                      (sym (second_said bytes n p₂ q₂ mask d two mid mid_room last last-room other new₂ fs are at k f s second (looked.second (omega arith))))
+                      (sym (second_said bytes n p₂ q₂ mask d two mid mid_room last last_room other new₂ fs are at k f s second (looked.second (omega arith))))
                       ∙ sym (looked.says f s fs at ∙ rw five refl);
                 }
               where

@@ -45,8 +45,8 @@ module _ (bytes : List ℕ) (k code : ℕ) (e : code ≡ code_of bytes k) where
       unfolding one_sided
       sides_until at =
           record {
-            says = λ yes-it-is f s. by_until bytes k (λ f. one_sided f ≡ true) f s (sym e ∙ at)
-                (λ t g h s. and_both (left.says yes-it-is g (until_first bytes k p t g h s first))
+            says = λ yes_it_is f s. by_until bytes k (λ f. one_sided f ≡ true) f s (sym e ∙ at)
+                (λ t g h s. and_both (left.says yes_it_is g (until_first bytes k p t g h s first))
                 (right.says (not-false b so) h (until_second bytes k q t g h s second)));
           }
 
@@ -54,12 +54,12 @@ module _ (bytes : List ℕ) (k code : ℕ) (e : code ≡ code_of bytes k) where
       unfolding one_sided two_sided
       sides_both low high a sides not_so =
           record {
-            says = λ yes-it-is f s. by_kind bytes k (λ f. one_sided f ≡ true) f s
+            says = λ yes_it_is f s. by_kind bytes k (λ f. one_sided f ≡ true) f s
                 (λ b s lo. absurd (omega arith)) (λ a b s lo up. absurd (omega arith))
-                (λ g h s at. and_both (left.says yes-it-is g (and_first bytes k p g h s first))
+                (λ g h s at. and_both (left.says yes_it_is g (and_first bytes k p g h s first))
                 (right.says (not-false b so) h (and_second bytes k q g h s second)))
                 (λ g h s lo up. and_both (not_in (sym (sides.says _ s) ∙ not_so))
-                (and_both (left.says yes-it-is g (or_first bytes k p g h s first)) (right.says (not-false b so) h (or_second bytes k q g h s second))))
+                (and_both (left.says yes_it_is g (or_first bytes k p g h s first)) (right.says (not-false b so) h (or_second bytes k q g h s second))))
                 (λ a b c s lo up. absurd (omega arith)) (λ a b s at. absurd (omega arith)) (λ a b c s at. absurd (omega arith));
           }
 

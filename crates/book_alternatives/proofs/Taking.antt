@@ -121,12 +121,12 @@ module _ (bytes : List ℕ) (n k : ℕ) (r : Tick) (one : SetAt) (sets room : Li
   stay_late d late = same d (λ f s. rw (lt-leb d.0 r.0 late) (and_fails (stays f)))
 
   -- Node k is pending beside what its part makes pending.
-  pub stay_on : (d : Tick) (code : ℕ) (own : SetAt) (count : ℕ) (mid after after-room : List ℕ)
-      → Combines count bytes n mid one.at one.count own.at own.count own.at room after after-room
+  pub stay_on : (d : Tick) (code : ℕ) (own : SetAt) (count : ℕ) (mid after after_room : List ℕ)
+      → Combines count bytes n mid one.at one.count own.at own.count own.at room after after_room
       → Alone own n k k (ticks (r.0 - d.0)) sets mid → code ≡ code_of bytes k → 11 ≤ code → d.0 ≤ r.0
-      → Stayed (set_at own.at count) bytes n k r d one sets room after after-room
+      → Stayed (set_at own.at count) bytes n k r d one sets room after after_room
   unfolding staying at_most minus
-  stay_on d code own count mid after after-room comb alone e high early =
+  stay_on d code own count mid after after_room comb alone e high early =
       record {
         most = λ l. comb.leaves.most;
         low = omega (arith, ready.below, alone.own.place);
@@ -176,9 +176,9 @@ module _ (bytes : List ℕ) (n k : ℕ) (one two : SetAt) (sets room : List ℕ)
         candidates = ready.candidates_room;
       }
 
-module _ (bytes : List ℕ) (n k : ℕ) (one two : SetAt) (sets room : List ℕ) (code count : ℕ) (after after-room : List ℕ) where
-  pub two_and : Combines count bytes n sets one.at one.count two.at two.count (960 * k) room after after-room
-      → code ≡ code_of bytes k → code ≡ 4 → OfTwo (set_at (960 * k) count) bytes n k one two sets room after after-room
+module _ (bytes : List ℕ) (n k : ℕ) (one two : SetAt) (sets room : List ℕ) (code count : ℕ) (after after_room : List ℕ) where
+  pub two_and : Combines count bytes n sets one.at one.count two.at two.count (960 * k) room after after_room
+      → code ≡ code_of bytes k → code ≡ 4 → OfTwo (set_at (960 * k) count) bytes n k one two sets room after after_room
   unfolding of_two
   two_and comb e four =
       record {
@@ -189,10 +189,10 @@ module _ (bytes : List ℕ) (n k : ℕ) (one two : SetAt) (sets room : List ℕ)
             f s (omega arith) (λ f g s. comb.says fs are);
       }
 
-  pub two_or : JoinsSets count bytes n sets one.at one.count two.at two.count (960 * k) room after after-room
-      → code ≡ code_of bytes k → (code ≡ 4 → ⊥) → OfTwo (set_at (960 * k) count) bytes n k one two sets room after after-room
+  pub two_or : JoinsSets count bytes n sets one.at one.count two.at two.count (960 * k) room after after_room
+      → code ≡ code_of bytes k → (code ≡ 4 → ⊥) → OfTwo (set_at (960 * k) count) bytes n k one two sets room after after_room
   unfolding of_two
-  two_or join e not-four =
+  two_or join e not_four =
       record {
         place = refl;
         leaves = join.leaves;
@@ -200,6 +200,6 @@ module _ (bytes : List ℕ) (n k : ℕ) (one two : SetAt) (sets room : List ℕ)
             let said = join.says fs are stands in
             by_kind bytes k
             (λ f. answered after n (960 * k) count ≡ of_two fs f (answered sets n one.at one.count) (answered sets n two.at two.count))
-            f s (λ b s lo. said) (λ a b s lo up. said) (λ a b s at. absurd (not-four (e ∙ at))) (λ a b s lo up. said) (λ a b c s lo up. said)
+            f s (λ b s lo. said) (λ a b s lo up. said) (λ a b s at. absurd (not_four (e ∙ at))) (λ a b s lo up. said) (λ a b c s lo up. said)
             (λ a b s at. said) (λ a b c s at. said);
       }

@@ -100,12 +100,12 @@ pub record StayReady (bytes : List ℕ) (n k : ℕ) (r : Tick) (one : SetAt) (se
   pub candidates_room : candidates_size ≤ length room
 
 -- The set of its part with node k, if it stays pending. Only the sets from that of the part to that of node k have changed, and candidates.
-pub record Stayed (out : SetAt) (bytes : List ℕ) (n k : ℕ) (r d : Tick) (one : SetAt) (sets room after after-room : List ℕ) : Type 0 where
+pub record Stayed (out : SetAt) (bytes : List ℕ) (n k : ℕ) (r d : Tick) (one : SetAt) (sets room after after_room : List ℕ) : Type 0 where
   pub most : one.count ≤ 17 → out.count ≤ 17
   pub low : one.at ≤ out.at
   pub high : out.at + set_size ≤ set_size * (k + 1)
   pub changed : ChangedIn sets one.at (set_size * (k + 1)) after
-  pub candidates : Candidates room 0 after-room
+  pub candidates : Candidates room 0 after_room
   pub says : (f : Formula) → Stored bytes f k → (fs : List Formula) → AreNodes bytes n fs
       → answered after n out.at out.count ≡ staying fs d f k r (answered sets n one.at one.count)
 
@@ -120,9 +120,9 @@ pub record TwoReady (bytes : List ℕ) (n k : ℕ) (one two : SetAt) (sets room 
   pub candidates_room : candidates_size ≤ length room
 
 -- The sets of its two sides as that of node k, where the first has nothing to drop. Only that of node k has changed, and candidates.
-pub record OfTwo (out : SetAt) (bytes : List ℕ) (n k : ℕ) (one two : SetAt) (sets room after after-room : List ℕ) : Type 0 where
+pub record OfTwo (out : SetAt) (bytes : List ℕ) (n k : ℕ) (one two : SetAt) (sets room after after_room : List ℕ) : Type 0 where
   pub place : out.at ≡ set_size * k
-  pub leaves : Leaves out.count sets (set_size * k) room after after-room
+  pub leaves : Leaves out.count sets (set_size * k) room after after_room
   pub says : (f : Formula) → Stored bytes f k → (fs : List Formula) → AreNodes bytes n fs
       → NothingToDrop fs (answered sets n one.at one.count)
       → answered after n out.at out.count
@@ -161,16 +161,16 @@ pub record TwoTimed (answer : Bool) (bytes : List ℕ) : Type 0 where
   pub says : answer ≡ false → (book : Book) → HeldBook bytes book → OneSided book
 
 -- What looking at node k leaves: its set lies among those of the formula's own nodes, and only those have changed, and candidates.
-pub record OfferLeaves (out : SetAt) (bytes : List ℕ) (k : ℕ) (sets room after after-room : List ℕ) : Type 0 where
+pub record OfferLeaves (out : SetAt) (bytes : List ℕ) (k : ℕ) (sets room after after_room : List ℕ) : Type 0 where
   pub most : out.count ≤ 17
   pub high : out.at + set_size ≤ set_size * (k + 1)
   pub low : (low : ℕ) → Rooted bytes low k → set_size * low ≤ out.at
   pub changed : (low : ℕ) → Rooted bytes low k → ChangedIn sets (set_size * low) (set_size * (k + 1)) after
-  pub candidates : Candidates room 0 after-room
+  pub candidates : Candidates room 0 after_room
 
 -- The set is what comes of node k with r ticks left, as a state with these marks is left by a step of length d.
-pub record Offered (out : SetAt) (bytes : List ℕ) (n k : ℕ) (r : Tick) (mask : ℕ) (d : Tick) (sets room after after-room : List ℕ) : Type 0 where
-  pub leaves : OfferLeaves out bytes k sets room after after-room
+pub record Offered (out : SetAt) (bytes : List ℕ) (n k : ℕ) (r : Tick) (mask : ℕ) (d : Tick) (sets room after after_room : List ℕ) : Type 0 where
+  pub leaves : OfferLeaves out bytes k sets room after after_room
   pub says : (f : Formula) → Stored bytes f k → (fs : List Formula) → AreNodes bytes n fs → (at : MarkedState mask)
       → answered after n out.at out.count ≡ alternatives_of at.tower fs at.state d f k r
 
@@ -214,14 +214,14 @@ pub record CombineReady (bytes : List ℕ) (n k : ℕ) (r : Tick) (mask count : 
   pub stands : CombinedStands bytes n mask count sets
 
 -- What combining leaves: the set that is joined so far stays.
-pub record StepLeaves (r : ℕ) (sets room after after-room : List ℕ) : Type 0 where
+pub record StepLeaves (r : ℕ) (sets room after after_room : List ℕ) : Type 0 where
   pub most : r ≤ 17
   pub changed : ChangedIn sets 0 joined_at after
-  pub candidates : Candidates room 0 after-room
+  pub candidates : Candidates room 0 after_room
 
 -- The set of node k with r ticks left is combined with what stands so far.
-pub record NodeCombined (out : ℕ) (bytes : List ℕ) (n k : ℕ) (r : Tick) (mask : ℕ) (d : Tick) (count : ℕ) (sets room after after-room : List ℕ) : Type 0 where
-  pub leaves : StepLeaves out sets room after after-room
+pub record NodeCombined (out : ℕ) (bytes : List ℕ) (n k : ℕ) (r : Tick) (mask : ℕ) (d : Tick) (count : ℕ) (sets room after after_room : List ℕ) : Type 0 where
+  pub leaves : StepLeaves out sets room after after_room
   pub says : (f : Formula) → Stored bytes f k → (fs : List Formula) → AreNodes bytes n fs → (at : MarkedState mask)
       → answered after n combined_at out
       ≡ combined fs (answered sets n combined_at count) (alternatives_of at.tower fs at.state d f k r)
@@ -240,32 +240,32 @@ combined_cell tower fs x d f k none s = s
 combined_cell tower fs x d f k (some r) s = combined fs s (alternatives_of tower fs x d f k r)
 
 -- Node k is combined with what stands so far if its cell says that it is pending.
-pub record CellCombined (out : ℕ) (bytes : List ℕ) (n k cell mask : ℕ) (d : Tick) (count : ℕ) (sets room after after-room : List ℕ) : Type 0 where
-  pub leaves : StepLeaves out sets room after after-room
+pub record CellCombined (out : ℕ) (bytes : List ℕ) (n k cell mask : ℕ) (d : Tick) (count : ℕ) (sets room after after_room : List ℕ) : Type 0 where
+  pub leaves : StepLeaves out sets room after after_room
   pub stands : CombinedStands bytes n mask out after
   pub says : (f : Formula) → Stored bytes f k → (fs : List Formula) → AreNodes bytes n fs → (at : MarkedState mask)
       → answered after n combined_at out
       ≡ combined_cell at.tower fs at.state d f k (cell_of cell) (answered sets n combined_at count)
 
 -- Every pending node of the alternative at `from` of another area is combined with what stands so far.
-pub record NodesCombined (r : ℕ) (bytes : List ℕ) (n mask : ℕ) (d : Tick) (old : List ℕ) (from count : ℕ) (sets room after after-room : List ℕ) : Type 0 where
-  pub leaves : StepLeaves r sets room after after-room
+pub record NodesCombined (r : ℕ) (bytes : List ℕ) (n mask : ℕ) (d : Tick) (old : List ℕ) (from count : ℕ) (sets room after after_room : List ℕ) : Type 0 where
+  pub leaves : StepLeaves r sets room after after_room
   pub stands : CombinedStands bytes n mask r after
   pub says : (fs : List Formula) → AreNodes bytes n fs → (at : MarkedState mask)
       → answered after n combined_at r
       ≡ combined_nodes at.tower fs at.state d fs 0 (alternative_in old n from) (answered sets n combined_at count)
 
 -- Line i is combined with what stands so far if it is an `always` line.
-pub record LineCombined (r : ℕ) (bytes : List ℕ) (n i mask : ℕ) (d : Tick) (count : ℕ) (sets room after after-room : List ℕ) : Type 0 where
-  pub leaves : StepLeaves r sets room after after-room
+pub record LineCombined (r : ℕ) (bytes : List ℕ) (n i mask : ℕ) (d : Tick) (count : ℕ) (sets room after after_room : List ℕ) : Type 0 where
+  pub leaves : StepLeaves r sets room after after_room
   pub stands : CombinedStands bytes n mask r after
   pub says : (rule : Rule) (first : ℕ) → LineIs bytes i rule first → (fs : List Formula) → AreNodes bytes n fs → (at : MarkedState mask)
       → answered after n combined_at r
       ≡ combined_rule at.tower fs at.state d rule.form rule.formula (root first rule.formula) (answered sets n combined_at count)
 
 -- Every line in turn.
-pub record LinesCombined (r : ℕ) (bytes : List ℕ) (n mask : ℕ) (d : Tick) (count : ℕ) (sets room after after-room : List ℕ) : Type 0 where
-  pub leaves : StepLeaves r sets room after after-room
+pub record LinesCombined (r : ℕ) (bytes : List ℕ) (n mask : ℕ) (d : Tick) (count : ℕ) (sets room after after_room : List ℕ) : Type 0 where
+  pub leaves : StepLeaves r sets room after after_room
   pub says : (book : Book) → HeldBook bytes book → (fs : List Formula) → AreNodes bytes n fs → (at : MarkedState mask)
       → answered after n combined_at r ≡ combined_rules at.tower fs at.state d book 0 (answered sets n combined_at count)
 
@@ -283,8 +283,8 @@ pub record AlternativeReady (bytes : List ℕ) (n : ℕ) (old : List ℕ) (from 
   pub candidates_room : candidates_size ≤ length room
 
 -- What comes of one old alternative.
-pub record Behind (r : ℕ) (bytes : List ℕ) (n mask : ℕ) (d : Tick) (old : List ℕ) (from : ℕ) (sets room after after-room : List ℕ) : Type 0 where
-  pub leaves : StepLeaves r sets room after after-room
+pub record Behind (r : ℕ) (bytes : List ℕ) (n mask : ℕ) (d : Tick) (old : List ℕ) (from : ℕ) (sets room after after_room : List ℕ) : Type 0 where
+  pub leaves : StepLeaves r sets room after after_room
   pub says : (book : Book) → HeldBook bytes book → (at : MarkedState mask)
       → answered after n combined_at r ≡ alternatives_behind at.tower book at.state d (alternative_in old n from)
 
@@ -298,10 +298,10 @@ pub record CombinedCopied (next : ℕ) (sets after : List ℕ) : Type 0 where
   pub says : (n : ℕ) → n ≤ 60 → answered after n joined_at next ≡ answered sets n combined_at next
 
 -- It is joined with what stands so far.
-pub record BehindJoined (r : ℕ) (bytes : List ℕ) (n mask : ℕ) (d : Tick) (old : List ℕ) (from count : ℕ) (sets room after after-room : List ℕ) : Type 0 where
+pub record BehindJoined (r : ℕ) (bytes : List ℕ) (n mask : ℕ) (d : Tick) (old : List ℕ) (from count : ℕ) (sets room after after_room : List ℕ) : Type 0 where
   pub most : r ≤ 17
   pub size : length after ≡ length sets
-  pub candidates : Candidates room 0 after-room
+  pub candidates : Candidates room 0 after_room
   pub stands : JoinedStands bytes n mask r after
   pub says : (book : Book) → HeldBook bytes book → (at : MarkedState mask)
       → answered after n joined_at r
@@ -309,9 +309,9 @@ pub record BehindJoined (r : ℕ) (bytes : List ℕ) (n mask : ℕ) (d : Tick) (
 
 -- A state with these marks is left by a step of length d: what comes of the old alternatives, those from place `from` on in another area. Of the
 -- room only candidates have changed.
-pub record Progressed (r : ℕ) (bytes : List ℕ) (mask : ℕ) (d : Tick) (old : List ℕ) (from count : ℕ) (room after after-room : List ℕ) : Type 0 where
+pub record Progressed (r : ℕ) (bytes : List ℕ) (mask : ℕ) (d : Tick) (old : List ℕ) (from count : ℕ) (room after after_room : List ℕ) : Type 0 where
   pub most : r ≤ 17
-  pub candidates : Candidates room 0 after-room
+  pub candidates : Candidates room 0 after_room
   pub says : (book : Book) → HeldBook bytes book → (at : MarkedState mask)
       → answered after (nodes_in bytes) joined_at r
       ≡ progressed_set at.tower book at.state d (set_in old (nodes_in bytes) from count)

@@ -34,11 +34,11 @@ unfolding form_code
 is_everywhere at_start one = absurd (omega arith)
 is_everywhere everywhere one = refl
 
-module _ (bytes : List ℕ) (i : ℕ) (cells : List ℕ) (form : ℕ) (at-form : form ≡ form_of bytes i) where
+module _ (bytes : List ℕ) (i : ℕ) (cells : List ℕ) (form : ℕ) (at_form : form ≡ form_of bytes i) where
   pub line_starts : (mask : ℕ) (d : Tick) → (form ≡ 1 → ⊥) → LineSteps true bytes i mask d cells cells
   unfolding progress_rule outcome
   line_starts mask d not_one =
-      record { says = λ rule n line at. rw (starts rule.form (λ e. not_one (at-form ∙ line.form ∙ e))) }
+      record { says = λ rule n line at. rw (starts rule.form (λ e. not_one (at_form ∙ line.form ∙ e))) }
 
   pub line_progresses : (mask : ℕ) (d : Tick) (k : ℕ) (q : Tick) (b : Bool) (after : List ℕ) → form ≡ 1
       → k ≡ formula_of bytes i → q ≡ ticks (fresh_of bytes k) → Progresses b bytes k q mask d cells after
@@ -46,7 +46,7 @@ module _ (bytes : List ℕ) (i : ℕ) (cells : List ℕ) (form : ℕ) (at-form :
   unfolding progress_rule
   line_progresses mask d k q b after one place new call =
       record {
-        says = λ rule n line at. rw (is_everywhere rule.form (sym (at-form ∙ line.form) ∙ one))
+        says = λ rule n line at. rw (is_everywhere rule.form (sym (at_form ∙ line.form) ∙ one))
             (child bytes mask d k (root n rule.formula) q b cells after rule.formula (place ∙ line.place)
             (rw (place ∙ line.place) line.stored) new call at);
       }
@@ -58,7 +58,7 @@ module _ (bytes : List ℕ) (i : ℕ) (cells : List ℕ) (form : ℕ) (at-form :
 
   pub line_waits : form ≡ 1 → LineBegins bytes i cells cells
   unfolding begin_rule
-  line_waits one = record { says = λ rule n line. rw (is_everywhere rule.form (sym (at-form ∙ line.form) ∙ one)) }
+  line_waits one = record { says = λ rule n line. rw (is_everywhere rule.form (sym (at_form ∙ line.form) ∙ one)) }
 
   pub line_begins : (k : ℕ) (q : Tick) (after : List ℕ) → (form ≡ 1 → ⊥) → k ≡ formula_of bytes i
       → q ≡ ticks (fresh_of bytes k) → PutsNode bytes k q cells after → LineBegins bytes i cells after
@@ -68,7 +68,7 @@ module _ (bytes : List ℕ) (i : ℕ) (cells : List ℕ) (form : ℕ) (at-form :
       go : (rule : Rule) (n : ℕ) → LineIs bytes i rule n → Stored bytes rule.formula k
           → pending_of after ≡ begin_rule rule.form rule.formula (root n rule.formula) (pending_of cells)
       go rule n line stored =
-          rw (starts rule.form (λ e. not_one (at-form ∙ line.form ∙ e)), ← place ∙ line.place, ← fresh_is bytes k rule.formula stored, ← new)
+          rw (starts rule.form (λ e. not_one (at_form ∙ line.form ∙ e)), ← place ∙ line.place, ← fresh_is bytes k rule.formula stored, ← new)
           (call.says rule.formula stored)
 
 -- what is asked of the line's formula

@@ -126,11 +126,11 @@ module _ (bytes : List ℕ) (k : ℕ) (r : Tick) (mask : ℕ) (d : Tick) (cells 
     pub progress_and : (n : ℕ) (u : Tick) (b : Bool) (after : List ℕ) → not a ≡ false → n ≡ second_of bytes k → u ≡ ticks (fresh_of bytes n)
         → Progresses b bytes n u mask d mid after → Progresses b bytes k r mask d cells after
     unfolding progress bind outcome Stored node_second
-    progress_and n u b after passes second fresh-second other =
+    progress_and n u b after passes second fresh_second other =
         record {
           says = λ f s at. by_and bytes k (λ f. At b after at f) f s (omega arith)
               (λ f g s. rw (and_child f g s at, not-false a passes)
-              (child bytes mask d n (second_part k) u b mid after g (second ∙ s.0.second) (and_second bytes k n f g s second) fresh-second other at));
+              (child bytes mask d n (second_part k) u b mid after g (second ∙ s.0.second) (and_second bytes k n f g s second) fresh_second other at));
         }
 
   -- the untimed side of an or, and then the other: the second is tested where the first is timed,
@@ -154,7 +154,7 @@ module _ (bytes : List ℕ) (k : ℕ) (r : Tick) (mask : ℕ) (d : Tick) (cells 
         }
 
   -- and else the first.
-  module _ (low : 3 < code) (high : code < 7) (not-four : code ≡ 4 → ⊥) (not_five : code ≡ 5 → ⊥) (p : ℕ) (h : Bool) (first : p ≡ first_of bytes k)
+  module _ (low : 3 < code) (high : code < 7) (not_four : code ≡ 4 → ⊥) (not_five : code ≡ 5 → ⊥) (p : ℕ) (h : Bool) (first : p ≡ first_of bytes k)
       (held : HoldsAt h bytes p mask) where
     pub progress_or_first_holds : h ≡ true → Progresses true bytes k r mask d cells cells
     unfolding progress outcome Stored node_code
@@ -221,12 +221,12 @@ still_ready bytes k r cells after was same = record { node = was.node; cell = om
 pub is_next : (bytes : List ℕ) (k code : ℕ) (r : Tick) (cells : List ℕ) → code ≡ code_of bytes k → 7 ≤ code → (code_of bytes k ≡ 11 → ⊥)
     → (code ≡ 12 → ⊥)
     → NodeReady bytes k r cells → NextReady bytes k cells
-is_next bytes k code r cells e low not-always not-until was =
+is_next bytes k code r cells e low not_always not_until was =
     record {
       node = was.node;
       cell = was.cell;
       low = omega arith;
       high = by_kind bytes k (λ _. code_of bytes k < 11) was.node.formula was.node.stored
           (λ b s lo. omega arith) (λ a b s lo up. omega arith) (λ a b s at. omega arith) (λ a b s lo up. omega arith)
-          (λ a b c s lo up. up) (λ a b s at. absurd (not-always at)) (λ a b c s at. absurd (not-until (e ∙ at)));
+          (λ a b c s lo up. up) (λ a b s at. absurd (not_always at)) (λ a b c s at. absurd (not_until (e ∙ at)));
     }

@@ -63,7 +63,7 @@ module _ (bytes : List ℕ) (k : ℕ) (r : Tick) (cell : ℕ) where
 
     pub merged_other : (code ≡ 11 → ⊥) → (code ≡ 12 → ⊥) → r.0 ≤ 254 → Merged r bytes k r cell
     unfolding coming merge
-    merged_other not-always not-until low =
+    merged_other not_always not_until low =
         record {
           says = λ f s. by_kind bytes k (λ f. r ≡ coming f r (cell_of cell)) f s
               (λ b s lo. rw (cell_there cell there)) (λ a b s lo up. rw (cell_there cell there)) (λ a b s at. rw (cell_there cell there))

@@ -177,7 +177,7 @@ empty_none area from count k l = record { least = omega arith; most = l; empty =
 
 pub empty_four : (area : List ℕ) (from count k i w : ℕ) → EmptyTo area from count k i → w ≡ number_at 4 area (from + i) → w ≡ 0
     → 4 ≤ count - i → EmptyTo area from count k (i + 4)
-empty_four area from count k i w e is-w none-set l =
+empty_four area from count k i w e is-w none_set l =
     record {
       least = omega (arith, e.least);
       most = omega (arith, e.most);
@@ -185,19 +185,19 @@ empty_four area from count k i w e is-w none-set l =
         | yes before ↦ e.empty j m before
         | no here ↦
             let place : from + i + (j - i) ≡ from + j = omega arith in
-            rw (← place) (zero_bytes 4 area (from + i) (sym is-w ∙ none-set) (j - i) (omega arith))
+            rw (← place) (zero_bytes 4 area (from + i) (sym is-w ∙ none_set) (j - i) (omega arith))
       ];
     }
 
 pub empty_one : (area : List ℕ) (from count k i : ℕ) → EmptyTo area from count k i → get_or area (from + i) 0 ≡ 0 → i < count
     → EmptyTo area from count k (i + 1)
-empty_one area from count k i e zero-cell l =
+empty_one area from count k i e zero_cell l =
     record {
       least = omega (arith, e.least);
       most = omega arith;
       empty = λ j m n. elim (dec_lt j i) [
         | yes before ↦ e.empty j m before
-        | no here ↦ let same : j ≡ i = omega arith in rw same zero-cell
+        | no here ↦ let same : j ≡ i = omega arith in rw same zero_cell
       ];
     }
 

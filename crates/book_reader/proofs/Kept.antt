@@ -244,12 +244,12 @@ keeps_more rules form f n h count long few lined small =
 -- An area whose first bytes are those of the rules, and that has their numbers, holds them.
 pub holds_whole : (a : List ℕ) (rules : Book) → length (nodes rules) ≤ 60 → length rules ≤ 60 → Keeps (take node_count_at a) rules
     → nodes_in a ≡ length (nodes rules) → lines_in a ≡ length rules → HoldsBook a rules
-holds_whole a rules few lined h nodes-told lines-told =
+holds_whole a rules few lined h nodes_told lines_told =
     record {
       node_part = sym (take-take (4 * length (nodes rules)) node_count_at a (omega arith)) ∙ h.node_part;
       line_part = sym (take_drop_take (4 * length rules) lines_at node_count_at a (omega arith)) ∙ h.line_part;
-      node_count = nodes-told;
-      line_count = lines-told;
+      node_count = nodes_told;
+      line_count = lines_told;
     }
 
 -- Any bytes are those of no rules.

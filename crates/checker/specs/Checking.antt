@@ -5,8 +5,8 @@ use Rattle.base.specs.declared.Verdict.{Verdict}
 use Rattle.outcome.specs.Check.{check_outcome}
 
 -- The whole outcome: the answer, and what the six areas hold at the end.
-pub record Checks (r : Verdict) (tower text table nodes pairs index graph sets room nodes_after pairs-after index-after graph-after sets-after Room-after : List ℕ) : Type 0 where
+pub record Checks (r : Verdict) (tower text table nodes pairs index graph sets room nodes_after pairs_after index_after graph_after sets_after room_after : List ℕ) : Type 0 where
   pub answer : r ≡ (check_outcome tower text table (nodes ∷ pairs ∷ index ∷ graph ∷ sets ∷ room ∷ [])).answer
   pub said : verdict_said r ≡ verdict_said (check_outcome tower text table (nodes ∷ pairs ∷ index ∷ graph ∷ sets ∷ room ∷ [])).answer
-  pub areas : nodes_after ∷ pairs-after ∷ index-after ∷ graph-after ∷ sets-after ∷ Room-after ∷ []
+  pub areas : nodes_after ∷ pairs_after ∷ index_after ∷ graph_after ∷ sets_after ∷ room_after ∷ []
       ≡ (check_outcome tower text table (nodes ∷ pairs ∷ index ∷ graph ∷ sets ∷ room ∷ [])).areas

@@ -32,7 +32,7 @@ use Rattle.checker_files.specs.declared.Tested.TheVariants.{Sound, NotGood, Refu
 -- The reader's answer for the tower's counts.
 pub for_counts : (tower table : List ℕ) (s a : ℕ) (b : Bool) → s ≡ (tower_of tower).states → a ≡ (tower_of tower).actions → b ≡ laid_out_for table s a
     → b ≡ laid_out_for table (tower_of tower).states (tower_of tower).actions
-for_counts tower table s a b is-s is-a e = rw (← is-s, ← is-a) e
+for_counts tower table s a b is-s is_a e = rw (← is-s, ← is_a) e
 
 -- ---- test_table
 
@@ -60,10 +60,10 @@ rows_say tower table v ok is-v =
     rw (laid_out_read (tower_of tower) table ok.layout ok.states ok.actions, is-v) (rows_after (tower_of tower) (table_of table) (give good_table))
 
 module _ (tower table : List ℕ) (b : Bool) (fit : FitTower tower)
-    (is_b : b ≡ laid_out_for table (tower_of tower).states (tower_of tower).actions) (yes-b : b ≡ true) (v : RowVerdict)
+    (is_b : b ≡ laid_out_for table (tower_of tower).states (tower_of tower).actions) (yes_b : b ≡ true) (v : RowVerdict)
     (is-v : v ≡ rows_verdict (tower_of tower) (table_of table)) where
   abbrev ok : RowsJudgeable tower table
-  ok = judgeable tower table b is_b fit yes-b
+  ok = judgeable tower table b is_b fit yes_b
 
   pub rows_right : v ≡ Right → TableTested Sound tower table
   unfolding tested answer_after
@@ -75,18 +75,18 @@ module _ (tower table : List ℕ) (b : Bool) (fit : FitTower tower)
 
 -- ---- test_files
 
-module _ (tower table : List ℕ) (t : TowerRead) (is-t : t ≡ tower_read (read_tower tower)) where
+module _ (tower table : List ℕ) (t : TowerRead) (is_t : t ≡ tower_read (read_tower tower)) where
   -- Refused with the tower's refusal.
   pub tower_refused : (why : Refusal) → t ≡ Fits.Refused why → FilesTested (Refused why) tower table
   unfolding tested_files ◌then◌ tested
   tower_refused why e =
-      record { answer = sym (rw (refused_of tower t why is-t e)); judged = λ f. let z : ◌≡◌ {A = ℕ} 0 1 = cc in absurd (omega arith) }
+      record { answer = sym (rw (refused_of tower t why is_t e)); judged = λ f. let z : ◌≡◌ {A = ℕ} 0 1 = cc in absurd (omega arith) }
 
   -- The tower is fit.
   pub tower_fit : t ≡ Fits.Fit → FitTower tower
-  tower_fit e = fit_of tower t is-t e
+  tower_fit e = fit_of tower t is_t e
 
   -- The table decides.
   pub tower_good : (r : Tested) → t ≡ Fits.Fit → TableTested r tower table → FilesTested r tower table
   unfolding tested_files ◌then◌
-  tower_good r e f = record { answer = f.answer ∙ sym (rw (fit_gives tower t is-t e)); judged = f.judged }
+  tower_good r e f = record { answer = f.answer ∙ sym (rw (fit_gives tower t is_t e)); judged = f.judged }

@@ -23,7 +23,7 @@ judge_row_after tower table r v after =
     go (some_withheld tower table r) (some_wrong_step tower table r) (stopped tower table r)
   where
     go : (b c d : Bool)
-        → (Withheld r found-if b else WrongStep r found-if c else Stopped r found-if d else answer_after v after)
+        → (Withheld r found_if b else WrongStep r found_if c else Stopped r found_if d else answer_after v after)
         ≡ answer_after
         (pick b (λ _. Wrong (Withheld r)) (λ _. pick c (λ _. Wrong (WrongStep r)) (λ _. pick d (λ _. Wrong (Stopped r)) (λ _. v)))) after
     go true c d = refl
@@ -45,7 +45,7 @@ unfolding rows_verdict ◌found-if◌else◌ answer_after
 rows_after tower table after = go (wrong_start tower table)
   where
     go : (b : Bool)
-        → (Start found-if b else judge_rows tower table (below (length table)) after)
+        → (Start found_if b else judge_rows tower table (below (length table)) after)
         ≡ answer_after (pick b (λ _. Wrong Start) (λ _. rows_from tower table (below (length table)))) after
     go true = refl
     go false = judge_rows_after tower table (below (length table)) after

@@ -101,7 +101,7 @@ start_decides tower table x s ok e f = rw (row_state_at table 0 (row_zero tower 
 
 -- ---- b
 
-module _ (tower table : List ℕ) (r a k : ℕ) (b : Bool) (of-kind : k ≡ (tower_of tower).kind a) (is_b : b ≡ controllable k) where
+module _ (tower table : List ℕ) (r a k : ℕ) (b : Bool) (of_kind : k ≡ (tower_of tower).kind a) (is_b : b ≡ controllable k) where
   -- It may be withheld.
   pub withheld_ours : b ≡ true → false ≡ withheld (tower_of tower) (table_of table) r a
   unfolding withheld
@@ -132,19 +132,19 @@ module _ (tower table : List ℕ) (r a k : ℕ) (b : Bool) (of-kind : k ≡ (tow
         let k : controllable ((tower_of tower).kind a) ≡ false = cc in
         rw (h, k)
 
-    module _ (t : Target) (is-t : t ≡ Moves.target_read (move (table_of table) r a)) where
+    module _ (t : Target) (is_t : t ≡ Moves.target_read (move (table_of table) r a)) where
       -- It has no step.
       pub withheld_no_step : (y : ℕ) → v ≡ State y → t ≡ Nothing → true ≡ withheld (tower_of tower) (table_of table) r a
       unfolding is_there
       withheld_no_step y f g =
-          let h : move (table_of table) r a ≡ none = target_nothing (move (table_of table) r a) t is-t g in
+          let h : move (table_of table) r a ≡ none = target_nothing (move (table_of table) r a) t is_t g in
           sym (withheld_enabled y f ∙ rw h)
 
       -- It has one.
       pub withheld_allowed : (y s : ℕ) → v ≡ State y → t ≡ Row s → false ≡ withheld (tower_of tower) (table_of table) r a
       unfolding is_there
       withheld_allowed y s f g =
-          let h : move (table_of table) r a ≡ some s = target_row (move (table_of table) r a) t s is-t g in
+          let h : move (table_of table) r a ≡ some s = target_row (move (table_of table) r a) t s is_t g in
           sym (withheld_enabled y f ∙ rw h)
 
 -- The loop looks for such an action.
@@ -177,9 +177,9 @@ module _ (tower table : List ℕ) (r i x a : ℕ) (v : Reached) (l : r < rows_of
   pub step_enabled : (y t z : ℕ) → v ≡ State y → t ≡ step_target table i → t < rows_of table → z ≡ row_state table t
       → not (eqb z y) ≡ wrong_step (tower_of tower) (table_of table) r (step_of table i)
   unfolding wrong_step step_of there_with
-  step_enabled y t z f at-t k at-z =
+  step_enabled y t z f at_t k at-z =
       let h : (tower_of tower).target (row_at (table_of table) r).state (step_action table i) ≡ some y = state_reached reached v y is_reached f in
-      rw (h, ← at-t, row_state_at table t k, at-z)
+      rw (h, ← at_t, row_state_at table t k, at-z)
 
 -- a test of steps, by their numbers
 pub some_mapped : {A B : Type 0} (test : B → Bool) (f : A → B) (xs : List A) → some_of test (map f xs) ≡ some_of (λ x. test (f x)) xs
@@ -219,13 +219,13 @@ scan_stopped tower table r l =
     (every_mapped (λ s. not (goes_on ((tower_of tower).kind s.action))) (step_of table) (count_from (row_first table r) (row_count table r)))
 
 module _ (tower table : List ℕ) (first count end i a k : ℕ) (b : Bool) (left : Left (every (stops_at tower table)) first count end i)
-    (l : i < end) (at_a : a ≡ step_action table i) (at-k : k ≡ (tower_of tower).kind a) (is_b : b ≡ goes_on k) where
+    (l : i < end) (at_a : a ≡ step_action table i) (at_k : k ≡ (tower_of tower).kind a) (is_b : b ≡ goes_on k) where
   pub step_goes_on : (all : Bool) → all ≡ every (stops_at tower table) (count_from first count) → b ≡ true → false ≡ all
   step_goes_on all e f =
-      every_fails (stops_at tower table) first count end i left (stops_at tower table i) all e l refl (rw (← at_a, ← at-k, ← is_b, f))
+      every_fails (stops_at tower table) first count end i left (stops_at tower table i) all e l refl (rw (← at_a, ← at_k, ← is_b, f))
 
   pub step_stops : b ≡ false → Left (every (stops_at tower table)) first count end (i + 1)
-  step_stops f = every_more (stops_at tower table) first count end i left (stops_at tower table i) l refl (rw (← at_a, ← at-k, ← is_b, f))
+  step_stops f = every_more (stops_at tower table) first count end i left (stops_at tower table i) l refl (rw (← at_a, ← at_k, ← is_b, f))
 
 -- ---- one row
 
@@ -234,19 +234,19 @@ module _ (tower : Tower) (table : Table) (r : ℕ) (b : Bool) (is_b : b ≡ some
   unfolding row_verdict
   row_withheld f = rw (← is_b, f)
 
-  module _ (c : Bool) (no-b : b ≡ false) (is_c : c ≡ some_wrong_step tower table r) where
+  module _ (c : Bool) (no_b : b ≡ false) (is_c : c ≡ some_wrong_step tower table r) where
     pub row_wrong_step : c ≡ true → Wrong (WrongStep r) ≡ row_verdict tower table r Right
     unfolding row_verdict
-    row_wrong_step f = rw (← is_b, no-b, ← is_c, f)
+    row_wrong_step f = rw (← is_b, no_b, ← is_c, f)
 
-    module _ (d : Bool) (no-c : c ≡ false) (is-d : d ≡ stopped tower table r) where
+    module _ (d : Bool) (no_c : c ≡ false) (is_d : d ≡ stopped tower table r) where
       pub row_stopped : d ≡ true → Wrong (Stopped r) ≡ row_verdict tower table r Right
       unfolding row_verdict
-      row_stopped f = rw (← is_b, no-b, ← is_c, no-c, ← is-d, f)
+      row_stopped f = rw (← is_b, no_b, ← is_c, no_c, ← is_d, f)
 
       pub row_right : d ≡ false → Right ≡ row_verdict tower table r Right
       unfolding row_verdict
-      row_right f = rw (← is_b, no-b, ← is_c, no-c, ← is-d, f)
+      row_right f = rw (← is_b, no_b, ← is_c, no_c, ← is_d, f)
 
 -- ---- all rows
 
@@ -282,10 +282,10 @@ module _ (tower : Tower) (table : List ℕ) (w : Bool) (is-w : w ≡ wrong_start
   unfolding rows_verdict
   rows_wrong_start f = rw (← is-w, f)
 
-  module _ (n end r : ℕ) (no-w : w ≡ false) (is-n : n ≡ rows_of table) (left : Left (rows_from tower (table_of table)) 0 n end r) where
+  module _ (n end r : ℕ) (no_w : w ≡ false) (is-n : n ≡ rows_of table) (left : Left (rows_from tower (table_of table)) 0 n end r) where
     rows_all : rows_verdict tower (table_of table) ≡ rows_from tower (table_of table) (count_from 0 n)
     unfolding rows_verdict below
-    rows_all = rw (← is-w, no-w, length_table_of table, ← is-n)
+    rows_all = rw (← is-w, no_w, length_table_of table, ← is-n)
 
     pub rows_wrong : (v : RowVerdict) (q : Reason) → r < end → v ≡ row_verdict tower (table_of table) r Right → v ≡ Wrong q
         → Wrong q ≡ rows_verdict tower (table_of table)

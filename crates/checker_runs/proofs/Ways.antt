@@ -224,7 +224,7 @@ checked_is tower book table = refl
 
 -- A chain of other reasons does not end with e, if what is behind it does not,
 not_e_on : (q : Reason) (b : Bool) (o : Answer Finding) → (q ≡ Why.Broken → ⊥) → (o ≡ give (not_good Why.Broken) → ⊥)
-    → (q found-if b else o) ≡ give (not_good Why.Broken) → ⊥
+    → (q found_if b else o) ≡ give (not_good Why.Broken) → ⊥
 unfolding ◌found-if◌else◌
 not_e_on q true o other behind e = let same : q ≡ Why.Broken = cc in other same
 not_e_on q false o other behind e = behind e
@@ -300,10 +300,10 @@ book_next tower text table fit = let read = fit_reads fit in rw read
 pub tower_refused : (tower text table nodes graph : List ℕ) (t : TowerRead) (why : Refusal) → t ≡ tower_read (read_tower tower)
     → t ≡ Fits.Refused why → Examines (Refused why) tower text table nodes graph
 unfolding checked_file ◌then◌
-tower_refused tower text table nodes graph t why is-t e =
-    refused_so tower text table nodes graph why (rw (refused_of tower t why is-t e))
+tower_refused tower text table nodes graph t why is_t e =
+    refused_so tower text table nodes graph why (rw (refused_of tower t why is_t e))
 
-module _ (tower text table nodes graph : List ℕ) (marks : ℕ) (fit : FitTower tower) (at-marks : marks ≡ (tower_of tower).marks) where
+module _ (tower text table nodes graph : List ℕ) (marks : ℕ) (fit : FitTower tower) (at_marks : marks ≡ (tower_of tower).marks) where
   -- Refused with the book's refusal.
   pub book_refused : (a : BookAnswer) (why : Refusal) → Answers a marks text nodes → a ≡ Reads.Refused why
       → Examines (Refused why) tower text table nodes graph
@@ -312,7 +312,7 @@ module _ (tower text table nodes graph : List ℕ) (marks : ℕ) (fit : FitTower
       refused_so tower text table nodes graph why (book_next tower text table fit ∙ go (read_book (tower_of tower).marks text) refl)
     where
       told : Reads.Refused why ≡ book_answer (read_book (tower_of tower).marks text)
-      told = sym e ∙ answers.answer ∙ ap (λ z. book_answer (read_book z text)) at-marks
+      told = sym e ∙ answers.answer ∙ ap (λ z. book_answer (read_book z text)) at_marks
 
       go : (o : Answer Book) → read_book (tower_of tower).marks text ≡ o → (o then λ book. checked_table (tower_of tower) book table) ≡ refuse why
       go (refuse q) p = let same : q ≡ why = cc (told, ap book_answer p) in ap refuse same
@@ -322,7 +322,7 @@ module _ (tower text table nodes graph : List ℕ) (marks : ℕ) (fit : FitTower
   pub book_good : (r : Examined) → TableExamined r tower table nodes graph → BookHeld marks text nodes → Examines r tower text table nodes graph
   unfolding ◌then◌
   book_good r of here =
-      let read : read_book (tower_of tower).marks text ≡ give here.held.book = ap (λ z. read_book z text) (sym at-marks) ∙ here.read in
+      let read : read_book (tower_of tower).marks text ≡ give here.held.book = ap (λ z. read_book z text) (sym at_marks) ∙ here.read in
       let known = of.found text here.held read in
       record {
         says = of.says here.held ∙ ap verdict (sym (book_next tower text table fit ∙ rw read));

@@ -66,7 +66,7 @@ unfoldable pub runs_answer : Tower → Book → Table → Answer Finding
 runs_answer tower book table =
     Pairs if over_items tower book table else
     Alternatives if over_alternatives (rows_tower tower table) book else
-    Why.Broken found-if some_broken (rows_tower tower table) book else
+    Why.Broken found_if some_broken (rows_tower tower table) book else
     give good_table
 
 -- the answer for a table file, where tower and book are read

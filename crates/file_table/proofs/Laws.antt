@@ -200,7 +200,7 @@ steps_ascend bytes (suc n) low i h j k l g m =
       | yes d ↦ steps_ascend bytes n (step_action bytes i + 1) (suc i) s.more j k (omega arith) g (omega arith)
       | no d ↦
           let e : i ≡ j = omega arith in
-          let low-k = steps_low bytes n (step_action bytes i + 1) (suc i) s.more k (omega arith) (omega arith) in
+          let low_k = steps_low bytes n (step_action bytes i + 1) (suc i) s.more k (omega arith) (omega arith) in
           rw (← e) (omega arith)
     ]
 

@@ -36,17 +36,17 @@ row_number bytes r small le = omega (arith, small 0, small 1)
 -- The place of a row, as the layout gives it.
 pub row_place_read : (bytes : List ℕ) (k : FileLayout) (r p : ℕ) → k ≡ table_layout bytes → p ≡ steps_at k r → p ≡ row_place bytes r
 unfolding row_place steps_at
-row_place_read bytes k r p is-k e = rw is-k at e
+row_place_read bytes k r p is_k e = rw is_k at e
 
-module _ (bytes : List ℕ) (r p : ℕ) (k : FileLayout) (right : header_right bytes ≡ true) (low : r < rows_of bytes) (is-p : p ≡ row_place bytes r)
-    (is-k : k ≡ table_layout bytes) where
+module _ (bytes : List ℕ) (r p : ℕ) (k : FileLayout) (right : header_right bytes ≡ true) (low : r < rows_of bytes) (is_p : p ≡ row_place bytes r)
+    (is_k : k ≡ table_layout bytes) where
   -- A row is there as a whole.
   row_whole : p + k.width + 3 ≤ length bytes
   unfolding row_place step_place steps_at row_size
   row_whole =
-      let inside = rw (← is-k) at (piece_inside ((table_layout bytes).width + 3) (rows_of bytes) r low) in
-      let end = rw (← is-k) at (header_out bytes right).size in
-      let here = rw (← is-k) at is-p in
+      let inside = rw (← is_k) at (piece_inside ((table_layout bytes).width + 3) (rows_of bytes) r low) in
+      let end = rw (← is_k) at (header_out bytes right).size in
+      let here = rw (← is_k) at is_p in
       omega arith
 
   -- So are its state, its step count and its first step.
@@ -66,26 +66,26 @@ module _ (bytes : List ℕ) (r p : ℕ) (k : FileLayout) (right : header_right b
   pub first_fits : length bytes < 2 ^ 64 → Fits w64 (p + k.width + 1)
   first_fits f = omega (arith, row_whole)
 
-module _ (bytes : List ℕ) (r p : ℕ) (k : FileLayout) (is-p : p ≡ row_place bytes r) (is-k : k ≡ table_layout bytes) where
+module _ (bytes : List ℕ) (r p : ℕ) (k : FileLayout) (is_p : p ≡ row_place bytes r) (is_k : k ≡ table_layout bytes) where
   -- They are what is read.
   pub state_read : (n : ℕ) → n ≡ number_at k.width bytes p → n ≡ row_state bytes r
   unfolding row_state
-  state_read n e = rw (is-p, is-k) at e
+  state_read n e = rw (is_p, is_k) at e
 
   pub count_read : get_or bytes (p + k.width) 0 ≡ row_count bytes r
   unfolding row_count
-  count_read = rw (is-p, is-k)
+  count_read = rw (is_p, is_k)
 
   pub first_read : (n : ℕ) → n ≡ number_at 2 bytes (p + k.width + 1) → n ≡ row_first bytes r
   unfolding row_first
-  first_read n e = rw (is-p, is-k) at e
+  first_read n e = rw (is_p, is_k) at e
 
 -- ---- steps
 
-module _ (bytes : List ℕ) (i n p : ℕ) (is-n : n ≡ rows_of bytes) (is-p : p ≡ row_place bytes n) where
+module _ (bytes : List ℕ) (i n p : ℕ) (is-n : n ≡ rows_of bytes) (is_p : p ≡ row_place bytes n) where
   steps_place : p ≡ steps_at (table_layout bytes) (rows_of bytes)
   unfolding row_place steps_at
-  steps_place = rw is-n at is-p
+  steps_place = rw is-n at is_p
 
   -- The place of a step, from where the steps begin.
   pub step_place_read : p + 3 * i ≡ step_place bytes i
@@ -101,7 +101,7 @@ module _ (bytes : List ℕ) (i : ℕ) (h : header_right bytes ≡ true) (l : i <
   unfolding step_place step_size
   step_number_fits f = omega (arith, (header_out bytes h).size)
 
-  module _ (p : ℕ) (is-p : p ≡ step_place bytes i) where
+  module _ (p : ℕ) (is_p : p ≡ step_place bytes i) where
     -- A step is there as a whole.
     pub action_there : p < length bytes
     unfolding step_place step_size

@@ -37,21 +37,21 @@ module _ (bytes : List ℕ) where
   pub states_out_of_range : (n : ℕ) (k : FileLayout) (b : Bool) → n ≡ table_states bytes → k ≡ table_layout bytes → b ≡ in_range k.most n
       → b ≡ false → false ≡ counts_right bytes
   unfolding counts_right
-  states_out_of_range n k b e is-k f g = sym (rw (← e, ← is-k, ← f, g, and-false))
+  states_out_of_range n k b e is_k f g = sym (rw (← e, ← is_k, ← f, g, and-false))
 
   -- Rows and S are in range: A decides.
   pub actions_left : (n m a : ℕ) (k : FileLayout) (b c d : Bool) → n ≡ rows_of bytes → b ≡ in_range most_rows n → b ≡ true
       → m ≡ table_states bytes → k ≡ table_layout bytes → c ≡ in_range k.most m → c ≡ true → a ≡ table_actions bytes
       → d ≡ in_range most_actions a → d ≡ counts_right bytes
   unfolding counts_right
-  actions_left n m a k b c d e f g h is-k i j l q = q ∙ sym (rw (← e, ← f, g, ← h, ← is-k, ← i, j, ← l))
+  actions_left n m a k b c d e f g h is_k i j l q = q ∙ sym (rw (← e, ← f, g, ← h, ← is_k, ← i, j, ← l))
 
 -- ---- offsets_right, places_right
 
 -- Where the steps begin.
 steps_place : (bytes : List ℕ) (n p : ℕ) → n ≡ rows_of bytes → p ≡ row_place bytes n → steps_at (table_layout bytes) (rows_of bytes) ≡ p
 unfolding row_place steps_at
-steps_place bytes n p is-n is-p = sym (rw is-n at is-p)
+steps_place bytes n p is-n is_p = sym (rw is-n at is_p)
 
 module _ (bytes : List ℕ) where
   -- The offset of rows is wrong.
@@ -63,7 +63,7 @@ module _ (bytes : List ℕ) where
   pub steps_offset_left : (o q n p : ℕ) → o ≡ number_at 2 bytes 4 → o ≡ rows_at → q ≡ number_at 2 bytes 6 → p ≡ row_place bytes n
       → n ≡ rows_of bytes → eqb q p ≡ offsets_right bytes
   unfolding offsets_right
-  steps_offset_left o q n p e h f is-p is-n = sym (rw (← e, eq-eqb o rows_at h, ← f, steps_place bytes n p is-n is-p))
+  steps_offset_left o q n p e h f is_p is-n = sym (rw (← e, eq-eqb o rows_at h, ← f, steps_place bytes n p is-n is_p))
 
   -- An offset is wrong.
   pub offsets_wrong : (b : Bool) → b ≡ offsets_right bytes → b ≡ false → false ≡ places_right bytes
@@ -74,7 +74,7 @@ module _ (bytes : List ℕ) where
   pub size_left : (b : Bool) (n p m : ℕ) → b ≡ offsets_right bytes → b ≡ true → p ≡ row_place bytes n → n ≡ rows_of bytes
       → m ≡ steps_of bytes → eqb (length bytes) (p + step_size * m) ≡ places_right bytes
   unfolding places_right step_place
-  size_left b n p m e f is-p is-n x = sym (rw (← e, f, steps_place bytes n p is-n is-p, ← x))
+  size_left b n p m e f is_p is-n x = sym (rw (← e, f, steps_place bytes n p is-n is_p, ← x))
 
 -- The places that the header gives fit.
 module _ (bytes : List ℕ) (small : (p : ℕ) → Fits w8 (get_or bytes p 0)) where
@@ -86,7 +86,7 @@ module _ (bytes : List ℕ) (small : (p : ℕ) → Fits w8 (get_or bytes p 0)) w
   -- The place behind the last step.
   pub size_fits : (n p m : ℕ) → n ≡ rows_of bytes → p ≡ row_place bytes n → m ≡ steps_of bytes → Fits w64 (p + step_size * m)
   unfolding number_at row_place rows_at row_size step_size
-  size_fits n p m e is-p f =
+  size_fits n p m e is_p f =
       let few : n ≤ 65536 = omega (arith, small 0, small 1) in
       let size : (table_layout bytes).width + 3 ≤ 5 = omega (arith, (table_layout_fits bytes).few_bytes) in
       let rows : ((table_layout bytes).width + 3) * n ≤ 5 * 65536 = mul-le-mul size few in
@@ -202,9 +202,9 @@ pub low_fits : (bytes : List ℕ) (low i a : ℕ) (b : Bool) → header_right by
 unfolding most_actions step_right
 low_fits bytes low i a b h e f g =
     let right = sym e ∙ f in
-    let low-right = leb low (step_action bytes i) in
-    let action-right = ltb (step_action bytes i) (table_actions bytes) in
-    let below = and_right low-right action-right (and_left (low-right && action-right) (ltb (step_target bytes i) (rows_of bytes)) right) in
+    let low_right = leb low (step_action bytes i) in
+    let action_right = ltb (step_action bytes i) (table_actions bytes) in
+    let below = and_right low_right action_right (and_left (low_right && action_right) (ltb (step_target bytes i) (rows_of bytes)) right) in
     omega (arith, (header_out bytes h).few_actions, ltb-true (step_action bytes i) (table_actions bytes) below)
 
 -- ---- row_right
@@ -350,9 +350,9 @@ module _ (bytes : List ℕ) (row a first i : ℕ) (g : GreaterFrom bytes row a f
   pub step_found : (x t : ℕ) → first < i → x ≡ step_action bytes (i - 1) → x ≡ a → t ≡ step_target bytes (i - 1)
       → Row t ≡ target_read (move (table_of bytes) row a)
   unfolding target_read
-  step_found x t l is_x e is-t =
+  step_found x t l is_x e is_t =
       let each = (step_to_each bytes (row_count bytes row) 0 first g.right (i - 1) (omega arith) (omega (arith, g.to))).1 in
-      rw (moves_by, ← e, is_x, each, is-t)
+      rw (moves_by, ← e, is_x, each, is_t)
 
   -- Where no step has the action it is not allowed.
   none_has : ((j : ℕ) → first ≤ j → j < first + row_count bytes row → step_action bytes j ≡ a → ⊥)

@@ -43,13 +43,13 @@ counts_ranges bytes e =
     let x = ltb (start_of bytes) (states_of bytes) in
     let e₃ = or_fails_left (not s || not a || not p) (not x) e in
     let e₂ = or_fails_left (not s || not a) (not p) e₃ in
-    let in-states = range_out most (states_of bytes) (not-false s (or_fails_left (not s) (not a) e₂)) in
-    let in-actions = range_out 16 (actions_of bytes) (last_holds (not s) a e₂) in
+    let in_states = range_out most (states_of bytes) (not-false s (or_fails_left (not s) (not a) e₂)) in
+    let in_actions = range_out 16 (actions_of bytes) (last_holds (not s) a e₂) in
     record {
-      states_least = in-states.0;
-      states_most = omega (arith, in-states.1, (file_layout_fits bytes).few_states);
-      actions_least = in-actions.0;
-      actions_most = in-actions.1;
+      states_least = in_states.0;
+      states_most = omega (arith, in_states.1, (file_layout_fits bytes).few_states);
+      actions_least = in_actions.0;
+      actions_most = in_actions.1;
       marks_most = leb-true (marks_of bytes) 16 (last_holds (not s || not a) p e₃);
       start_below = ltb-true (start_of bytes) (states_of bytes) (last_holds (not s || not a || not p) x e);
     }

@@ -28,57 +28,57 @@ width_most l k e = (fits l k e).few_bytes
 
 -- ---- the header
 
-module _ (l : List ℕ) (k : FileLayout) (is-k : k ≡ layout_of l) where
+module _ (l : List ℕ) (k : FileLayout) (is_k : k ≡ layout_of l) where
   module _ (headed : Headed l) where
     whole : k.header ≤ length l
-    whole = rw is-k headed.header
+    whole = rw is_k headed.header
 
     -- S, the start and the offsets are there.
     pub states_there : k.states + k.width ≤ length l
-    states_there = omega (arith, whole, (fits l k is-k).states_inside)
+    states_there = omega (arith, whole, (fits l k is_k).states_inside)
 
     pub start_there : k.start + k.width ≤ length l
-    start_there = omega (arith, whole, (fits l k is-k).start_inside)
+    start_there = omega (arith, whole, (fits l k is_k).start_inside)
 
     pub first_offset_there : k.offsets + 1 < length l
-    first_offset_there = omega (arith, whole, (fits l k is-k).offsets_inside)
+    first_offset_there = omega (arith, whole, (fits l k is_k).offsets_inside)
 
     pub second_offset_there : k.offsets + 2 + 1 < length l
-    second_offset_there = omega (arith, whole, (fits l k is-k).offsets_inside)
+    second_offset_there = omega (arith, whole, (fits l k is_k).offsets_inside)
 
   pub second_offset_fits : Fits w64 (k.offsets + 2)
-  second_offset_fits = omega (arith, (fits l k is-k).offsets_inside, (fits l k is-k).short_header)
+  second_offset_fits = omega (arith, (fits l k is_k).offsets_inside, (fits l k is_k).short_header)
 
   -- They are what is read.
   pub states_read : (r : ℕ) → r ≡ number_at k.width l k.states → r ≡ states_of l
   unfolding states_of
-  states_read r e = rw is-k at e
+  states_read r e = rw is_k at e
 
   pub start_read : (r : ℕ) → r ≡ number_at k.width l k.start → r ≡ start_of l
   unfolding start_of
-  start_read r e = rw is-k at e
+  start_read r e = rw is_k at e
 
   pub first_offset_read : (r : ℕ) → r ≡ number_at 2 l k.offsets → r ≡ actions_offset l
   unfolding actions_offset
-  first_offset_read r e = rw is-k at e
+  first_offset_read r e = rw is_k at e
 
   pub second_offset_read : (r : ℕ) → r ≡ number_at 2 l (k.offsets + 2) → r ≡ states_offset l
   unfolding states_offset
-  second_offset_read r e = rw is-k at e
+  second_offset_read r e = rw is_k at e
 
 -- ---- where the states lie
 
-module _ (l : List ℕ) (k : FileLayout) (n : ℕ) (is-k : k ≡ layout_of l) (is-n : n ≡ actions_of l) where
+module _ (l : List ℕ) (k : FileLayout) (n : ℕ) (is_k : k ≡ layout_of l) (is-n : n ≡ actions_of l) where
   -- Where the states begin, from the number of actions.
   pub states_place : k.header + 2 * n ≡ states_at l
   unfolding states_at
-  states_place = rw (is-k, is-n)
+  states_place = rw (is_k, is-n)
 
   pub states_place_fits : Counted l → Fits w64 (k.header + 2 * n)
-  states_place_fits h = omega (arith, (fits l k is-k).short_header, h.ranges.actions_most)
+  states_place_fits h = omega (arith, (fits l k is_k).short_header, h.ranges.actions_most)
 
   targets_few : Counted l → k.width * n ≤ 2 * 16
-  targets_few h = let few : n ≤ 16 = omega (arith, h.ranges.actions_most) in mul-le-mul (fits l k is-k).few_bytes few
+  targets_few h = let few : n ≤ 16 = omega (arith, h.ranges.actions_most) in mul-le-mul (fits l k is_k).few_bytes few
 
   -- The bytes of a state, from the number of actions.
   pub targets_size_fits : Counted l → Fits w64 (k.width * n)
@@ -89,7 +89,7 @@ module _ (l : List ℕ) (k : FileLayout) (n : ℕ) (is-k : k ≡ layout_of l) (i
 
   pub size_of_state : 2 + k.width * n ≡ state_size l
   unfolding state_size
-  size_of_state = rw (is-k, is-n)
+  size_of_state = rw (is_k, is-n)
 
 -- A state is 34 bytes at most.
 state_small : (l : List ℕ) → Counted l → state_size l ≤ 34
@@ -125,10 +125,10 @@ state_whole l x h k = omega (arith, piece_inside (state_size l) (states_of l) x 
 
 -- ---- the fields of an action
 
-module _ (l : List ℕ) (k : FileLayout) (a : ℕ) (is-k : k ≡ layout_of l) where
+module _ (l : List ℕ) (k : FileLayout) (a : ℕ) (is_k : k ≡ layout_of l) where
   module _ (h : Sized l) (low : a < actions_of l) where
     actions_there : k.header + 2 * actions_of l ≤ length l
-    actions_there = rw is-k h.actions
+    actions_there = rw is_k h.actions
 
     -- Its two bytes are there.
     pub length_there : k.header + 2 * a < length l
@@ -147,12 +147,12 @@ module _ (l : List ℕ) (k : FileLayout) (a : ℕ) (is-k : k ≡ layout_of l) wh
   -- The byte read is the action's length.
   pub length_read : (r : ℕ) → r ≡ get_or l (k.header + 2 * a) 0 → r ≡ length_of l a
   unfolding length_of
-  length_read r e = rw is-k at e
+  length_read r e = rw is_k at e
 
   -- The byte read is the action's kind.
   pub kind_read : (r : ℕ) → r ≡ get_or l (k.header + 2 * a + 1) 0 → r ≡ kind_of l a
   unfolding kind_of
-  kind_read r e = rw is-k at e
+  kind_read r e = rw is_k at e
 
 -- ---- the fields of a state
 
@@ -166,18 +166,18 @@ pub mask_read : (l : List ℕ) (x p r : ℕ) → p ≡ state_at l x → r ≡ nu
 unfolding mask_of
 mask_read l x p r e f = f ∙ ap (number_at 2 l) e
 
-module _ (l : List ℕ) (x p : ℕ) (h : Sized l) (low : x < states_of l) (is-p : p ≡ state_at l x) where
+module _ (l : List ℕ) (x p : ℕ) (h : Sized l) (low : x < states_of l) (is_p : p ≡ state_at l x) where
   -- The place of the first target fits.
   pub targets_fit : length l < 2 ^ 64 → Fits w64 (p + 2)
   unfolding state_size
   targets_fit f = omega (arith, state_whole l x h low)
 
-  module _ (k : FileLayout) (a : ℕ) (is-k : k ≡ layout_of l) (action : a < actions_of l) where
+  module _ (k : FileLayout) (a : ℕ) (is_k : k ≡ layout_of l) (action : a < actions_of l) where
     -- A target is there.
     pub target_there : p + 2 + k.width * a + k.width ≤ length l
     unfolding state_size
     target_there =
-        let size : state_size l ≡ 2 + k.width * actions_of l = rw is-k in
+        let size : state_size l ≡ 2 + k.width * actions_of l = rw is_k in
         omega (arith, state_whole l x h low, piece_inside k.width (actions_of l) a action)
 
     -- Its place fits.
@@ -191,4 +191,4 @@ module _ (l : List ℕ) (x p : ℕ) (h : Sized l) (low : x < states_of l) (is-p 
 pub target_read_at : (l : List ℕ) (x p a r : ℕ) (k : FileLayout) → p ≡ state_at l x → k ≡ layout_of l
     → r ≡ number_at k.width l (p + 2 + k.width * a) → r ≡ target_of l x a
 unfolding target_of
-target_read_at l x p a r k e is-k f = rw (e, is-k) at f
+target_read_at l x p a r k e is_k f = rw (e, is_k) at f

@@ -39,58 +39,58 @@ at_least a b = go (ltb b a) refl
     go true e = lt-leb a b (ltb-true b a e)
     go false e = le-leb a b (ltb-false b a e)
 
-module _ (bytes : List ℕ) (k : FileLayout) (s : ℕ) (r : Bool) (is-k : k ≡ layout_of bytes) (at-s : s ≡ states_of bytes)
-    (is-r : r ≡ in_range k.most s) where
+module _ (bytes : List ℕ) (k : FileLayout) (s : ℕ) (r : Bool) (is_k : k ≡ layout_of bytes) (at_s : s ≡ states_of bytes)
+    (is_r : r ≡ in_range k.most s) where
   states_in : in_range (layout_of bytes).most (states_of bytes) ≡ r
-  states_in = sym (rw (at-s, is-k) at is-r)
+  states_in = sym (rw (at_s, is_k) at is_r)
 
   -- The states are out of range.
   pub counts_states : r ≡ false → true ≡ bad_counts bytes
   unfolding bad_counts
   counts_states f = rw (states_in, f)
 
-  module _ (a : ℕ) (q : Bool) (good-r : r ≡ true) (at_a : a ≡ actions_of bytes) (is-q : q ≡ in_range 16 a) where
+  module _ (a : ℕ) (q : Bool) (good_r : r ≡ true) (at_a : a ≡ actions_of bytes) (is_q : q ≡ in_range 16 a) where
     actions_in : in_range 16 (actions_of bytes) ≡ q
     actions_in = cc
 
     -- The states are in range, the actions are not.
     pub counts_actions : q ≡ false → true ≡ bad_counts bytes
     unfolding bad_counts most_actions
-    counts_actions f = rw (states_in, good-r, actions_in, f)
+    counts_actions f = rw (states_in, good_r, actions_in, f)
 
-    module _ (p : ℕ) (good-q : q ≡ true) (at_p : p ≡ marks_of bytes) where
+    module _ (p : ℕ) (good_q : q ≡ true) (at_p : p ≡ marks_of bytes) where
       -- Too many marks.
       pub counts_marks : 16 < p → true ≡ bad_counts bytes
       unfolding bad_counts most_actions most_marks
       counts_marks l =
           let m : leb (marks_of bytes) 16 ≡ false = lt-leb (marks_of bytes) 16 (omega arith) in
-          rw (states_in, good-r, actions_in, good-q, m)
+          rw (states_in, good_r, actions_in, good_q, m)
 
       -- The counts are in range: the start decides.
       pub counts_start : (x : ℕ) → p ≤ 16 → x ≡ start_of bytes → leb s x ≡ bad_counts bytes
       unfolding bad_counts most_actions most_marks
       counts_start x l at_x =
           let m : leb (marks_of bytes) 16 ≡ true = le-leb (marks_of bytes) 16 (omega arith) in
-          rw (states_in, good-r, actions_in, good-q, m, at-s, at_x) (at_least (states_of bytes) (start_of bytes))
+          rw (states_in, good_r, actions_in, good_q, m, at_s, at_x) (at_least (states_of bytes) (start_of bytes))
 
 -- ---- size
 
-module _ (bytes : List ℕ) (k : FileLayout) (i : ℕ) (is-k : k ≡ layout_of bytes) (at_i : i ≡ actions_offset bytes) where
+module _ (bytes : List ℕ) (k : FileLayout) (i : ℕ) (is_k : k ≡ layout_of bytes) (at_i : i ≡ actions_offset bytes) where
   -- The first offset is wrong.
   pub offset_actions : (i ≡ k.header → ⊥) → true ≡ bad_offsets bytes
   unfolding bad_offsets
   offset_actions f =
       let h : eqb (actions_offset bytes) (layout_of bytes).header ≡ false =
-      rw (← at_i, ← is-k) (ne_eqb i k.header f) in
+      rw (← at_i, ← is_k) (ne_eqb i k.header f) in
       rw h
 
   -- The first is right: the second decides.
   pub offset_states : (j m : ℕ) → i ≡ k.header → j ≡ states_offset bytes → m ≡ states_at bytes → not (eqb j m) ≡ bad_offsets bytes
   unfolding bad_offsets
-  offset_states j m e at_j at-m =
+  offset_states j m e at_j at_m =
       let h : eqb (actions_offset bytes) (layout_of bytes).header ≡ true =
-      rw (← at_i, ← is-k) (eq-eqb i k.header e) in
-      rw (h, at_j, at-m)
+      rw (← at_i, ← is_k) (eq-eqb i k.header e) in
+      rw (h, at_j, at_m)
 
 -- An offset is wrong.
 pub size_offsets : (bytes : List ℕ) (r : Bool) → r ≡ bad_offsets bytes → r ≡ true → true ≡ bad_size bytes
@@ -101,7 +101,7 @@ size_offsets bytes r e f = let h : bad_offsets bytes ≡ true = sym e ∙ f in r
 pub size_end : (bytes : List ℕ) (r : Bool) (s n : ℕ) → r ≡ bad_offsets bytes → r ≡ false → s ≡ states_of bytes → n ≡ state_at bytes s
     → not (eqb (length bytes) n) ≡ bad_size bytes
 unfolding bad_size bad_offsets
-size_end bytes r s n e f at-s at_n = let h : bad_offsets bytes ≡ false = sym e ∙ f in rw (h, at_n, at-s)
+size_end bytes r s n e f at_s at_n = let h : bad_offsets bytes ≡ false = sym e ∙ f in rw (h, at_n, at_s)
 
 -- ---- one action, one target, one mask
 
@@ -118,7 +118,7 @@ action_kind bytes a d k r e f g u =
     let h : eqb (length_of bytes a) 0 ≡ false = ne_eqb (length_of bytes a) 0 (λ z. f (e ∙ z)) in
     rw (h, u, g)
 
-module _ (bytes : List ℕ) (x a y s : ℕ) (at_y : y ≡ target_of bytes x a) (at-s : s ≡ states_of bytes) where
+module _ (bytes : List ℕ) (x a y s : ℕ) (at_y : y ≡ target_of bytes x a) (at_s : s ≡ states_of bytes) where
   -- The target is a state.
   pub target_state : y < s → false ≡ bad_target bytes x a
   unfolding bad_target
@@ -129,9 +129,9 @@ module _ (bytes : List ℕ) (x a y s : ℕ) (at_y : y ≡ target_of bytes x a) (
   -- It is no state: only 'not enabled' is left.
   pub target_other : (k : FileLayout) → s ≤ y → k ≡ layout_of bytes → not (eqb y k.disabled) ≡ bad_target bytes x a
   unfolding bad_target not_enabled
-  target_other k l is-k =
+  target_other k l is_k =
       let h : ltb (target_of bytes x a) (states_of bytes) ≡ false = le-ltb (target_of bytes x a) (states_of bytes) (omega arith) in
-      rw (h, at_y, is-k)
+      rw (h, at_y, is_k)
 
 -- The first bit above the marks is one that a number has.
 pub marks_shift : (bytes : List ℕ) (p : ℕ) → Sized bytes → p ≡ marks_of bytes → p < 64
@@ -163,17 +163,17 @@ pub step_read : (bytes : List ℕ) (x a d : ℕ) → d ≡ length_of bytes a →
 unfolding tower_of
 step_read bytes x a d e = ap ticks e
 
-module _ (bytes : List ℕ) (x a y : ℕ) (k : FileLayout) (at_y : y ≡ target_of bytes x a) (is-k : k ≡ layout_of bytes) where
+module _ (bytes : List ℕ) (x a y : ℕ) (k : FileLayout) (at_y : y ≡ target_of bytes x a) (is_k : k ≡ layout_of bytes) where
   -- What is written says 'not enabled'.
   pub target_none : y ≡ k.disabled → NotEnabled ≡ target_read ((tower_of bytes).target x a)
   unfolding target_read tower_of not_enabled
-  target_none f = sym (rw (← at_y, ← is-k, eq-eqb y k.disabled f, and-false))
+  target_none f = sym (rw (← at_y, ← is_k, eq-eqb y k.disabled f, and-false))
 
   -- What is written is a state.
   pub target_some : x < states_of bytes → a < actions_of bytes → (y ≡ k.disabled → ⊥) → State y ≡ target_read ((tower_of bytes).target x a)
   unfolding target_read tower_of not_enabled
   target_some state action f =
-      sym (rw (← at_y, ← is-k, lt-ltb x (states_of bytes) state, lt-ltb a (actions_of bytes) action, ne_eqb y k.disabled f))
+      sym (rw (← at_y, ← is_k, lt-ltb x (states_of bytes) state, lt-ltb a (actions_of bytes) action, ne_eqb y k.disabled f))
 
 -- The bit of a mask is the mark.
 pub mark_bit : (bytes : List ℕ) (x k m : ℕ) → m ≡ mask_of bytes x → eqb (m / 2 ^ k % 2) 1 ≡ (tower_of bytes).marked x k

@@ -12,7 +12,7 @@ use native.Mathlib.Nat.{eq-or-lt_of_le}
 use lib.ListN.{length}
 use Rattle.base.specs.Choice.{pick}
 use Rattle.base.specs.Lists.{below, count_from, joined}
-use Rattle.base.proofs.Lists.{never_both, none-some, some_one, whether-there, mem_along, mem_count_from, below_mem, joined_in, joined_out}
+use Rattle.base.proofs.Lists.{never_both, none-some, some_one, whether_there, mem_along, mem_count_from, below_mem, joined_in, joined_out}
 use Rattle.logic.specs.Runs.{leads}
 use Rattle.logic.specs.Why.{Lower, Sooner, Soonest}
 use Rattle.logic.proofs.Leads.{leads_nil, leads_in, leads_out}
@@ -257,6 +257,6 @@ module _ {X : Type 0} (move : X → ℕ → Option X) (actions : ℕ) where
     pub first_run_is : (lengths : ℕ) (w : List ℕ) → Soonest (Passing move x test) w → length w < lengths
         → first_run move actions x test lengths 0 ≡ some w
     first_run_is lengths w s l =
-        whether-there (first_run move actions x test lengths 0)
+        whether_there (first_run move actions x test lengths 0)
         (λ e. absurd (first_run_none lengths e w s.is l))
         (λ v e. rw (soonest_one (Passing move x test) w v s (first_run_right lengths v e)) e)

@@ -38,13 +38,13 @@ module _ (a b : Bool) {P Q : Type 0} where
 
 -- a test that is asked only if another holds
 if_so : (a b : Bool) {Q : Type 0} → Decides b Q → Decides (pick a (λ _. b) (λ _. true)) (a ≡ true → Q)
-if_so true b q = (λ e yes-it-is. q.0 e, λ h. q.1 (h refl))
-if_so false b q = (λ e it-is-not. never_both it-is-not refl, λ h. refl)
+if_so true b q = (λ e yes_it_is. q.0 e, λ h. q.1 (h refl))
+if_so false b q = (λ e it_is_not. never_both it_is_not refl, λ h. refl)
 
 -- a test turned round, and what it says where it fails
 module _ (b : Bool) {P : Type 0} (p : Decides b P) where
   not_so : Decides (not b) (P → ⊥)
-  not_so = (λ e h. never_both (p.1 h) (not-true b e), λ no-p. not_in (false_by b (λ e. no-p (p.0 e))))
+  not_so = (λ e h. never_both (p.1 h) (not-true b e), λ no_p. not_in (false_by b (λ e. no_p (p.0 e))))
 
   so : (not b ≡ false) ↔ P
   so = (λ e. p.0 (not-false b e), λ h. ap not (p.1 h))

@@ -29,18 +29,18 @@ course_append tower table line course (x ∷ xs) ys =
     course_append tower table (after line) (next_course tower table line course x) xs ys
     ∙ ap (λ n. course_along tower table (position n) (course_along tower table (after line) (next_course tower table line course x) xs) ys) e
 
-module _ (tower table a b : List ℕ) (first : Position) (course : Course) (f : Followed) (of-a : LinesFollowed f tower table a first course) where
+module _ (tower table a b : List ℕ) (first : Position) (course : Course) (f : Followed) (of_a : LinesFollowed f tower table a first course) where
   -- One part, and then what is left of it with more behind it, is all of it.
   pub in_parts : (g : Followed) → LinesFollowed g tower table (drop f.next a ++ b) f.line f.course
       → LinesFollowed (record { next = f.next + g.next; line = g.line; course = g.course }) tower table (a ++ b) first course
-  in_parts g of-rest =
+  in_parts g of_rest =
       let of_b : LinesFollowed g tower table (drop (log_from a 0).next a ++ b) (position (first.0 + length xs)) (course_along (tower_of tower) (table_of table) first course xs) =
-      rw (of-a.next, of-a.line, of-a.answer) at of-rest in
+      rw (of_a.next, of_a.line, of_a.answer) at of_rest in
       record {
-        next = rw (of_b.next, of-a.next) (sym (in_pieces_next a b));
+        next = rw (of_b.next, of_a.next) (sym (in_pieces_next a b));
         line = of_b.line ∙ ap position (omega (arith, ap length both, length-append xs ys));
         answer = of_b.answer ∙ sym (ap (course_along (tower_of tower) (table_of table) first course) both ∙ course_append (tower_of tower) (table_of table) first course xs ys);
-        on_row = of-rest.on_row;
+        on_row = of_rest.on_row;
       }
     where
       -- the lines of the part, and those behind it
@@ -56,5 +56,5 @@ module _ (tower table a b : List ℕ) (first : Position) (course : Course) (f : 
   -- Where 14 bytes or more are left of a part, the line there is not of the form, whatever comes behind.
   pub whatever_follows : f.next + 14 ≤ length a → LinesFollowed f tower table (a ++ b) first course
   whatever_follows long =
-      let same : log_from (a ++ b) 0 ≡ log_from a 0 = ends_early a b (rw of-a.next at long) in
-      record { next = rw same of-a.next; line = rw same of-a.line; answer = rw same of-a.answer; on_row = of-a.on_row }
+      let same : log_from (a ++ b) 0 ≡ log_from a 0 = ends_early a b (rw of_a.next at long) in
+      record { next = rw same of_a.next; line = rw same of_a.line; answer = rw same of_a.answer; on_row = of_a.on_row }

@@ -65,11 +65,11 @@ module _ (table : List ℕ) (row action : ℕ) (laid : laid_out table ≡ true) 
   cell_there known noted few = omega (arith, row_few, noted.room)
 
   -- A target row is one of the table's, so that its note fits.
-  module _ (t : Target) (next : ℕ) (is-t : t ≡ target_read (move (table_of table) row action)) (to : t ≡ Row next) where
+  module _ (t : Target) (next : ℕ) (is_t : t ≡ target_read (move (table_of table) row action)) (to : t ≡ Row next) where
     next_few : next < 1000
     unfolding most_rows
     next_few =
-        let moves = target_row (move (table_of table) row action) t next is-t to in
+        let moves = target_row (move (table_of table) row action) t next is_t to in
         let fits = laid_out_fits table laid in
         let row_there = subst (λ n. row < n) (sym (length_table_of table)) inside in
         omega (arith, fits.is_table.targets row action next row_there moves, length_table_of table, (laid_out_known table laid).header.few_rows)
@@ -99,7 +99,7 @@ module _ (table known : List ℕ) (row action : ℕ) (so_far : Noted table known
   -- A move that was looked up may be noted.
   pub noting : (t : Target) (next at : ℕ) → at ≡ 16 * row + action → t ≡ target_read (move (table_of table) row action) → t ≡ Row next
       → 16 * row + action < length known → Noted table (set known at (next + 1))
-  noting t next at is_at is-t to there-is =
+  noting t next at is_at is_t to there_is =
       record {
         room = length-set known at (next + 1) ∙ so_far.room;
         moves = λ r a n l m e. elim (ℕ_discrete at (16 * r + a)) [
@@ -114,7 +114,7 @@ module _ (table known : List ℕ) (row action : ℕ) (so_far : Noted table known
           let action_same : action ≡ a = omega arith in
           let there : get_or (set known at (next + 1)) (16 * r + a) 0 ≡ next + 1 = rw (← same) (get_or-set_same known at (next + 1) 0 (omega arith)) in
           let next_same : next ≡ n = omega arith in
-          rw (← row_same, ← action_same, ← next_same) (target_row (move (table_of table) row action) t next is-t to)
+          rw (← row_same, ← action_same, ← next_same) (target_row (move (table_of table) row action) t next is_t to)
 
 -- ---- the tick
 
@@ -142,9 +142,9 @@ module _ (tower table : List ℕ) (ok : RowsJudgeable tower table) where
   pub state_inside : (r x : ℕ) → r < rows_of table → x ≡ row_state table r → x < (tower_of tower).states
   state_inside r x l e = omega (arith, ok.states, ((laid_out_known table ok.layout).row r l).state)
 
-  module _ (r a q : ℕ) (t : Target) (inside : r < rows_of table) (is-t : t ≡ target_read (move (table_of table) r a)) (to : t ≡ Row q) where
+  module _ (r a q : ℕ) (t : Target) (inside : r < rows_of table) (is_t : t ≡ target_read (move (table_of table) r a)) (to : t ≡ Row q) where
     abbrev moves : move (table_of table) r a ≡ some q
-    moves = target_row (move (table_of table) r a) t q is-t to
+    moves = target_row (move (table_of table) r a) t q is_t to
 
     -- An allowed action is one of the tower's,
     pub action_inside : a < (tower_of tower).actions
@@ -171,18 +171,18 @@ fails_on_row : (table : List ℕ) (line : Position) (here : LogPlace) (s : Strok
 fails_on_row table line here s = record { inside = λ place e. let z : ◌≡◌ {A = ℕ} 0 1 = cc in absurd (omega arith) }
 
 module _ (tower table : List ℕ) (line : Position) (here : LogPlace) (s : Stroke) (t : Target)
-    (is-t : t ≡ target_read (move (table_of table) here.row s.action)) where
+    (is_t : t ≡ target_read (move (table_of table) here.row s.action)) where
   pub not_allowed : t ≡ Nothing → PlaceFollowed (Course.Fails line here s) tower table line here s
   unfolding next_place only_if bind fits_or_fails
   not_allowed e =
-      record { answer = rw (target_nothing (move (table_of table) here.row s.action) t is-t e); on_row = fails_on_row table line here s }
+      record { answer = rw (target_nothing (move (table_of table) here.row s.action) t is_t e); on_row = fails_on_row table line here s }
 
   module _ (q : ℕ) (to : t ≡ Row q) (b : Bool) (is_b : b ≡ on_time here.due s.tick) where
     pub not_on_time : b ≡ false → PlaceFollowed (Course.Fails line here s) tower table line here s
     unfolding next_place only_if bind fits_or_fails
     not_on_time e =
         record {
-          answer = rw (target_row (move (table_of table) here.row s.action) t q is-t to, ← is_b, e);
+          answer = rw (target_row (move (table_of table) here.row s.action) t q is_t to, ← is_b, e);
           on_row = fails_on_row table line here s;
         }
 
@@ -190,10 +190,10 @@ module _ (tower table : List ℕ) (line : Position) (here : LogPlace) (s : Strok
         → d ≡ (tower_of tower).step_length x s.action
         → PlaceFollowed (Course.Fits (record { row = q; due = At (ticks (s.tick.0 + d.0)) })) tower table line here s
     unfolding next_place only_if bind fits_or_fails plus row_of_table
-    line_fits e ok inside x d at_x is-d =
+    line_fits e ok inside x d at_x is_d =
         record {
-          answer = rw (target_row (move (table_of table) here.row s.action) t q is-t to, ← is_b, e, row_of_table_at table here.row inside, ← at_x, ← is-d);
-          on_row = record { inside = λ place f. let g : q ≡ place.row = cc in omega (arith, target_inside tower table ok here.row s.action q t inside is-t to) };
+          answer = rw (target_row (move (table_of table) here.row s.action) t q is_t to, ← is_b, e, row_of_table_at table here.row inside, ← at_x, ← is_d);
+          on_row = record { inside = λ place f. let g : q ≡ place.row = cc in omega (arith, target_inside tower table ok here.row s.action q t inside is_t to) };
         }
 
 -- ---- one line more
@@ -274,25 +274,25 @@ module _ (tower table log noted_first : List ℕ) (first : ℕ) (course : Course
     pub room_there : length known ≡ length noted_first
     room_there = left.same_room
 
-    module _ (r : LogLine) (is-r : r ≡ line_told (stroke_at log at)) (s : Stroke) (q : ℕ) (read : r ≡ Line.Read s q) where
+    module _ (r : LogLine) (is_r : r ≡ line_told (stroke_at log at)) (s : Stroke) (q : ℕ) (read : r ≡ Line.Read s q) where
       abbrev line_there : stroke_at log at ≡ some (record { said = s; next = q })
-      line_there = told_line (stroke_at log at) r s q is-r read
+      line_there = told_line (stroke_at log at) r s q is_r read
 
       pub tick_small : s.tick.0 ≤ most_tick
       tick_small =
           let (n, tick, small, (a, action, same)) = stroke_parts log at line_there in subst (λ (t : Token Stroke). t.said.tick.0 ≤ most_tick) same small
 
       pub line_fits_word : first + length log < 18446744073709551616 → Fits w64 (line + 1)
-      line_fits_word few = let (far, in-log) = stroke_ahead log at _ line_there in omega (arith, left.few)
+      line_fits_word few = let (far, in_log) = stroke_ahead log at _ line_there in omega (arith, left.few)
 
       pub at_falls : (n : ℕ) → n ≡ length log - at → length log - q < n
-      at_falls n e = let (far, in-log) = stroke_ahead log at _ line_there in omega arith
+      at_falls n e = let (far, in_log) = stroke_ahead log at _ line_there in omega arith
 
-      pub lines_more : (after-it : Course) (known-now : List ℕ) → LineFollowed after-it tower table (position line) so_far s → Noted table known-now
-          → length known-now ≡ length known → LinesLeft tower table log noted_first first course known-now q (line + 1) after-it
+      pub lines_more : (after_it : Course) (known_now : List ℕ) → LineFollowed after_it tower table (position line) so_far s → Noted table known_now
+          → length known_now ≡ length known → LinesLeft tower table log noted_first first course known_now q (line + 1) after_it
       unfolding course_along with_line after
-      lines_more after-it known-now followed noted room =
-          let (far, in-log) = stroke_ahead log at _ line_there in
+      lines_more after_it known_now followed noted room =
+          let (far, in_log) = stroke_ahead log at _ line_there in
           let more : log_from log at ≡ with_line s (log_from log q) = log_line log at _ (omega arith) line_there in
           record {
             same_room = room ∙ left.same_room;
@@ -331,4 +331,4 @@ module _ (tower table log noted_first : List ℕ) (first : Position) (course : C
 
   pub lines_stop : (r : LogLine) → r ≡ line_told (stroke_at log at) → r ≡ Line.Malformed
       → LinesFollowed (record { next = at; line = position line; course = so_far }) tower table log first course
-  lines_stop r is-r e = stopped (told_none (stroke_at log at) r is-r e)
+  lines_stop r is_r e = stopped (told_none (stroke_at log at) r is_r e)

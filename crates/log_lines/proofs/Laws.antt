@@ -7,7 +7,7 @@ use mathlib.Core.Option.{none, some}
 use mathlib.Core.List.{List}
 use borrow.Author.Tests.{eqb-true}
 use Rattle.base.specs.Bytes.{byte_at}
-use Rattle.base.proofs.Lists.{whether-there}
+use Rattle.base.proofs.Lists.{whether_there}
 use Rattle.reading.specs.Tokens.{stands, Token}
 use Rattle.reading.specs.LogReading.{stroke_at}
 use Rattle.reading.specs.declared.Stroke.{Stroke}
@@ -24,10 +24,10 @@ stroke_ends : (s : List ℕ) (p : ℕ) {t : Token Stroke} → stroke_at s p ≡ 
 stroke_ends s p e =
     let (n, tick, small, (a, action, same)) = stroke_parts s p e in
     let (far, inside) = field_ahead 10 32 (omega arith) s p tick in
-    let (further, in-log) = field_ahead 2 10 (omega arith) s n.next action in
+    let (further, in_log) = field_ahead 2 10 (omega arith) s n.next action in
     let (m, number, there, ends) = field_parts 2 10 s n.next action in
     let behind : m.next + 1 ≡ a.next = ap (λ t. t.next) ends in
     record { last = m.next; ahead = omega arith; inside = omega arith; such = stands_there s m.next 10 there }
 
 pub no_line : (s : List ℕ) (p : ℕ) → (LineEnds s p → ⊥) → stroke_at s p ≡ none
-no_line s p none_ahead = whether-there (stroke_at s p) (λ e. e) (λ t e. absurd (none_ahead (stroke_ends s p e)))
+no_line s p none_ahead = whether_there (stroke_at s p) (λ e. e) (λ t e. absurd (none_ahead (stroke_ends s p e)))

@@ -77,13 +77,13 @@ module _ (s : List ℕ) (at : ℕ) (f : Number) (is_f : f ≡ numeral_told (fiel
     unfolding stroke_at bind only_if line_told
     tick_over over = rw (numeral_read (field_at 10 32 s at) f t q is_f read, lt-leb t 4294967295 over)
 
-    module _ (small : t ≤ 4294967295) (g : Number) (is-g : g ≡ numeral_told (field_at 2 10 s q)) where
+    module _ (small : t ≤ 4294967295) (g : Number) (is_g : g ≡ numeral_told (field_at 2 10 s q)) where
       pub action_missing : g ≡ N.Missing → Malformed ≡ line_told (stroke_at s at)
       unfolding stroke_at bind only_if line_told
       action_missing e =
-          rw (numeral_read (field_at 10 32 s at) f t q is_f read, le-leb t 4294967295 small, numeral_missing (field_at 2 10 s q) g is-g e)
+          rw (numeral_read (field_at 10 32 s at) f t q is_f read, le-leb t 4294967295 small, numeral_missing (field_at 2 10 s q) g is_g e)
 
       pub line_read : (a e : ℕ) → g ≡ N.Read a e → Read (record { tick = ticks t; action = a }) e ≡ line_told (stroke_at s at)
       unfolding stroke_at bind only_if line_told
       line_read a e r =
-          rw (numeral_read (field_at 10 32 s at) f t q is_f read, le-leb t 4294967295 small, numeral_read (field_at 2 10 s q) g a e is-g r)
+          rw (numeral_read (field_at 10 32 s at) f t q is_f read, le-leb t 4294967295 small, numeral_read (field_at 2 10 s q) g a e is_g r)

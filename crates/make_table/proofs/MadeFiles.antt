@@ -39,17 +39,17 @@ pub record KnownFile (file : List ℕ) : Type 0 where
 pub made_known : (tower text file : List ℕ) → made_file tower text ≡ give file → KnownFile file
 unfolding made_file
 made_known tower text file e =
-    let (t, is-tower, e₁) = then_gives (read_tower tower) (λ t. read_book t.marks text then λ book. table_for t book then λ table. give (table_file (layout_of tower) t.states t.actions table)) e in
-    let (book, is-book, e₂) = then_gives (read_book t.marks text) (λ book. table_for t book then λ table. give (table_file (layout_of tower) t.states t.actions table)) e₁ in
+    let (t, is_tower, e₁) = then_gives (read_tower tower) (λ t. read_book t.marks text then λ book. table_for t book then λ table. give (table_file (layout_of tower) t.states t.actions table)) e in
+    let (book, is_book, e₂) = then_gives (read_book t.marks text) (λ book. table_for t book then λ table. give (table_file (layout_of tower) t.states t.actions table)) e₁ in
     let (table, is_table, e₃) = then_gives (table_for t book) (λ table. give (table_file (layout_of tower) t.states t.actions table)) e₂ in
-    known t book table is-tower is-book is_table e₃
+    known t book table is_tower is_book is_table e₃
   where
     known : (t : Tower) (book : Book) (table : Table) → read_tower tower ≡ give t → read_book t.marks text ≡ give book
         → table_for t book ≡ give table → give (table_file (layout_of tower) t.states t.actions table) ≡ give file → KnownFile file
-    known t book table is-tower is-book is_table same =
-        let fit : FitFiles tower text t book = record { tower_read = is-tower; book_read = is-book } in
+    known t book table is_tower is_book is_table same =
+        let fit : FitFiles tower text t book = record { tower_read = is_tower; book_read = is_book } in
         let given = given_table t book (makeable tower text t book fit) table is_table in
-        let fits = made_fits (layout_of tower) t book table (tower_fits tower t is-tower) given.made given.few_rows in
+        let fits = made_fits (layout_of tower) t book table (tower_fits tower t is_tower) given.made given.few_rows in
         let is : table_file (layout_of tower) t.states t.actions table ≡ file = cc in
         subst KnownFile is
         (record { short = file_short (layout_of tower) t.states t.actions table fits; laid = file_laid_out (layout_of tower) t.states t.actions table fits })

@@ -103,10 +103,10 @@ module _ (tower table nodes graph : List ℕ) (r : Found)
 -- Refused with the tower's refusal.
 pub tower_refused : (tower text out : List ℕ) (t : TowerRead) (why : Refusal) → t ≡ tower_read (read_tower tower) → t ≡ Fits.Refused why
     → Ends (made_file tower text) out (Make.Refused why) out
-tower_refused tower text out t why is-t e =
-    refused_ends (made_file tower text) why out (unfold made_file ◌then◌ in (rw (refused_of tower t why is-t e)))
+tower_refused tower text out t why is_t e =
+    refused_ends (made_file tower text) why out (unfold made_file ◌then◌ in (rw (refused_of tower t why is_t e)))
 
-module _ (tower text nodes out : List ℕ) (marks : ℕ) (fit : FitTower tower) (at-marks : marks ≡ (tower_of tower).marks) where
+module _ (tower text nodes out : List ℕ) (marks : ℕ) (fit : FitTower tower) (at_marks : marks ≡ (tower_of tower).marks) where
   -- Where the tower is fit, the book comes next.
   book_next : made_file tower text ≡ (read_book (tower_of tower).marks text then λ book. made_table_file tower book)
   unfolding made_file made_table_file ◌then◌
@@ -119,7 +119,7 @@ module _ (tower text nodes out : List ℕ) (marks : ℕ) (fit : FitTower tower) 
       refused_ends (made_file tower text) why out (book_next ∙ go (read_book (tower_of tower).marks text) told)
     where
       told : Reads.Refused why ≡ book_answer (read_book (tower_of tower).marks text)
-      told = sym e ∙ answers.answer ∙ ap (λ z. book_answer (read_book z text)) at-marks
+      told = sym e ∙ answers.answer ∙ ap (λ z. book_answer (read_book z text)) at_marks
 
       go : (o : Answer Book) → Reads.Refused why ≡ book_answer o → (o then λ book. made_table_file tower book) ≡ refuse why
       go (refuse q) f = unfold ◌then◌ in (let same : why ≡ q = unfold book_answer in cc in ap refuse (sym same))
@@ -131,7 +131,7 @@ module _ (tower text nodes out : List ℕ) (marks : ℕ) (fit : FitTower tower) 
   unfolding ◌then◌
   book_good r after made here =
       let book = here.held.book in
-      let read : read_book (tower_of tower).marks text ≡ give book = ap (λ z. read_book z text) (sym at-marks) ∙ here.read in
+      let read : read_book (tower_of tower).marks text ≡ give book = ap (λ z. read_book z text) (sym at_marks) ∙ here.read in
       ends_along (made_table_file tower book) (made_file tower text) out r after (book_next ∙ rw read) (made.says here.held)
 
 -- ---- make

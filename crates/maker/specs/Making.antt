@@ -11,9 +11,9 @@ pub record TableMade (r : MakeAnswer) (tower nodes out after : List ℕ) : Type 
   pub says : (h : IsHeld nodes) → Ends (made_table_file tower h.book) out r after
 
 -- The whole outcome: the answer, and what the output and the eight areas hold at the end.
-pub record Makes (r : MakeAnswer) (tower text out nodes pairs index graph sets room flags classes out-after nodes_after pairs-after index-after graph-after sets-after Room-after flags-after classes-after : List ℕ) : Type 0 where
+pub record Makes (r : MakeAnswer) (tower text out nodes pairs index graph sets room flags classes out_after nodes_after pairs_after index_after graph_after sets_after room_after flags_after classes_after : List ℕ) : Type 0 where
   pub answer : r ≡ (make_outcome tower text out (nodes ∷ pairs ∷ index ∷ graph ∷ sets ∷ room ∷ flags ∷ classes ∷ [])).answer
   pub said : make_said r ≡ make_said (make_outcome tower text out (nodes ∷ pairs ∷ index ∷ graph ∷ sets ∷ room ∷ flags ∷ classes ∷ [])).answer
-  pub output : out-after ≡ (make_outcome tower text out (nodes ∷ pairs ∷ index ∷ graph ∷ sets ∷ room ∷ flags ∷ classes ∷ [])).output
-  pub areas : nodes_after ∷ pairs-after ∷ index-after ∷ graph-after ∷ sets-after ∷ Room-after ∷ flags-after ∷ classes-after ∷ []
+  pub output : out_after ≡ (make_outcome tower text out (nodes ∷ pairs ∷ index ∷ graph ∷ sets ∷ room ∷ flags ∷ classes ∷ [])).output
+  pub areas : nodes_after ∷ pairs_after ∷ index_after ∷ graph_after ∷ sets_after ∷ room_after ∷ flags_after ∷ classes_after ∷ []
       ≡ (make_outcome tower text out (nodes ∷ pairs ∷ index ∷ graph ∷ sets ∷ room ∷ flags ∷ classes ∷ [])).areas

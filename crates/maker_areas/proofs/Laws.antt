@@ -42,10 +42,10 @@ room_there nodes pairs index graph sets room flags classes b is_b e =
     let f = leb flags_area (length flags) && c in
     let six = long_enough check_areas (nodes ∷ pairs ∷ index ∷ graph ∷ sets ∷ room ∷ []) in
     let all = sym (eight_areas nodes pairs index graph sets room flags classes) ∙ sym is_b ∙ e in
-    let from-f = and_right six f all in
-    let from-c = and_right (leb flags_area (length flags)) c from-f in
+    let from_f = and_right six f all in
+    let from_c = and_right (leb flags_area (length flags)) c from_f in
     record {
       lent = Lent.room_there nodes pairs index graph sets room six refl (and_left six f all);
-      flags_room = leb-true flags_area (length flags) (and_left (leb flags_area (length flags)) c from-f);
-      classes_room = leb-true classes_area (length classes) (and_left (leb classes_area (length classes)) true from-c);
+      flags_room = leb-true flags_area (length flags) (and_left (leb flags_area (length flags)) c from_f);
+      classes_room = leb-true classes_area (length classes) (and_left (leb classes_area (length classes)) true from_c);
     }

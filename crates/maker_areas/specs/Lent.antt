@@ -11,7 +11,7 @@ pub record Room (nodes pairs index graph sets room flags classes : List ℕ) : T
   pub classes_room : classes_area ≤ length classes
 
 -- Every area is zero over its whole length.
-pub record AllCleared (nodes pairs index graph sets room flags classes nodes_after pairs-after index-after graph-after sets-after Room-after flags-after classes-after : List ℕ) : Type 0 where
-  pub lent : LentCleared nodes pairs index graph sets room nodes_after pairs-after index-after graph-after sets-after Room-after
-  pub flags_zero : flags-after ≡ replicate (length flags) 0
-  pub classes_zero : classes-after ≡ replicate (length classes) 0
+pub record AllCleared (nodes pairs index graph sets room flags classes nodes_after pairs_after index_after graph_after sets_after room_after flags_after classes_after : List ℕ) : Type 0 where
+  pub lent : LentCleared nodes pairs index graph sets room nodes_after pairs_after index_after graph_after sets_after room_after
+  pub flags_zero : flags_after ≡ replicate (length flags) 0
+  pub classes_zero : classes_after ≡ replicate (length classes) 0

@@ -125,11 +125,11 @@ pub record Refining (graph flags : List ℕ) (actions n made separated : ℕ) (a
   pub last_none : (kind : ℕ → ℕ) (m : ℕ) → made ≡ suc m → separated ≡ 0 → separates (graph_with n actions kind graph) (safe_in flags) m ≡ false
 
 -- At first all are of class 0.
-pub refining_start : (graph flags : List ℕ) (actions n : ℕ) (first first_Marks area marks : List ℕ)
-    → ReadyForPass graph flags actions n first first_Marks → Begun n flags area marks → length area ≡ length first → length marks ≡ length first_Marks
+pub refining_start : (graph flags : List ℕ) (actions n : ℕ) (first first_marks area marks : List ℕ)
+    → ReadyForPass graph flags actions n first first_marks → Begun n flags area marks → length area ≡ length first → length marks ≡ length first_marks
     → Refining graph flags actions n 0 0 area marks
 unfolding number_at partition
-refining_start graph flags actions n first first_Marks area marks ready begun long marks_long =
+refining_start graph flags actions n first first_marks area marks ready begun long marks_long =
     record {
       ready =
           record {
@@ -161,8 +161,8 @@ refining_start graph flags actions n first first_Marks area marks ready begun lo
     zeros : (k : ℕ) → k < n → class_in (take 2000 area) k ≡ 0
     zeros k l = class_front area k (omega (arith, ready.given.held.graph.pairs_most)) ∙ zero (2 * k)
 
-module _ (graph flags : List ℕ) (actions n made separated : ℕ) (first first_Marks area marks : List ℕ)
-    (given : ReadyForPass graph flags actions n first first_Marks) (so_far : Refining graph flags actions n made separated area marks)
+module _ (graph flags : List ℕ) (actions n made separated : ℕ) (first first_marks area marks : List ℕ)
+    (given : ReadyForPass graph flags actions n first first_marks) (so_far : Refining graph flags actions n made separated area marks)
     (b : Bool) (goes : FurtherPass made separated b) where
   first_pair : (kind : ℕ → ℕ) → SafePair (graph_with n actions kind graph) (safe_in flags) 0
   first_pair kind = record { there = given.least; is_safe = given.first_safe }
@@ -204,7 +204,7 @@ module _ (graph flags : List ℕ) (actions n made separated : ℕ) (first first_
               let same : m ≡ made = omega arith in
               subst (λ k. separates (graph_with n actions kind graph) (safe_in flags) k ≡ false) (sym same)
               (false_by (separates (graph_with n actions kind graph) (safe_in flags) made)
-              (λ yes-it-does. none_left kind unchanged (separates_out (graph_with n actions kind graph) (safe_in flags) made yes-it-does)));
+              (λ yes_it_does. none_left kind unchanged (separates_out (graph_with n actions kind graph) (safe_in flags) made yes_it_does)));
         }
       where
         one : made + 1 ≡ suc made

@@ -70,7 +70,7 @@ pub record Seeking (v : View) (i h at : ℕ) : Type 0 where
 
 module _ (graph flags : List ℕ) (actions n : ℕ) (area marks : List ℕ) (i h separated : ℕ)
     (passed : Passed graph flags actions n i area marks separated) (leaving : Leaving graph flags actions n area i)
-    (in-h : IsBucket (view_of graph flags actions (take 2000 area)) i h) where
+    (in_h : IsBucket (view_of graph flags actions (take 2000 area)) i h) where
   -- the view, and what stands in a bucket of it
   abbrev here : View
   here = view_of graph flags actions (take 2000 area)
@@ -81,40 +81,40 @@ module _ (graph flags : List ℕ) (actions n : ℕ) (area marks : List ℕ) (i h
       record {
         is_safe = p;
         leaves = λ b. leaving.apart (subst (AlikePairs here i) a.class (alike_trans here (alike_sym here a) b));
-        bucket = alike_bucket here a ∙ sym in-h.is;
+        bucket = alike_bucket here a ∙ sym in_h.is;
       }
 
   -- It begins at the head.
   pub seek_start : (at : ℕ) → at ≡ head_in 6000 area h → Seeking (view_of graph flags actions (take 2000 area)) i h at
   seek_start at e =
-      let begun = walk_start (InBucket here) buckets (head_in 6000 area) (link_in 4000 area) i h passed.chained in-h.within at e in
+      let begun = walk_start (InBucket here) buckets (head_in 6000 area) (link_in 4000 area) i h passed.chained in_h.within at e in
       record {
         walk = begun;
         most = walk_most (InBucket here) buckets i h at begun;
         rest =
             λ k l p a.
-            walk_first (InBucket here) buckets (head_in 6000 area) (link_in 4000 area) i h passed.chained in-h.within at e k l (same_bucket k p a);
+            walk_first (InBucket here) buckets (head_in 6000 area) (link_in 4000 area) i h passed.chained in_h.within at e k l (same_bucket k p a);
       }
 
   module _ (at : ℕ) (w : Seeking (view_of graph flags actions (take 2000 area)) i h at) (more : 0 < at) where
-    module _ (next : ℕ) (to-next : next ≡ link_in 4000 area (at - 1)) where
+    module _ (next : ℕ) (to_next : next ≡ link_in 4000 area (at - 1)) where
       -- It comes closer to the end.
       pub seek_falls : next < at
       seek_falls =
-          walk_falls (InBucket here) buckets (head_in 6000 area) (link_in 4000 area) i h passed.chained in-h.within at next w.walk more to-next
+          walk_falls (InBucket here) buckets (head_in 6000 area) (link_in 4000 area) i h passed.chained in_h.within at next w.walk more to_next
 
       -- It goes on where a pair looks different.
       pub seek_on : (r : Bool) → Tells (view_of graph flags actions (take 2000 area)) (at - 1) i r → r ≡ false
           → Seeking (view_of graph flags actions (take 2000 area)) i h next
       seek_on r tells e =
-          let on = walk_on (InBucket here) buckets (head_in 6000 area) (link_in 4000 area) i h passed.chained in-h.within at next w.walk more to-next in
+          let on = walk_on (InBucket here) buckets (head_in 6000 area) (link_in 4000 area) i h passed.chained in_h.within at next w.walk more to_next in
           record {
             walk = on;
             most = walk_most (InBucket here) buckets i h next on;
             rest =
                 λ k l p a.
-                walk_ahead (InBucket here) buckets (head_in 6000 area) (link_in 4000 area) i h passed.chained in-h.within at next w.walk more
-                to-next k (same_bucket k p a) (w.rest k l p a) (λ same. tells.other e (subst (λ x. AlikePairs here x i) same a));
+                walk_ahead (InBucket here) buckets (head_in 6000 area) (link_in 4000 area) i h passed.chained in_h.within at next w.walk more
+                to_next k (same_bucket k p a) (w.rest k l p a) (λ same. tells.other e (subst (λ x. AlikePairs here x i) same a));
           }
 
     -- The class of a pair that looks the same suits.
@@ -248,15 +248,15 @@ module _ (graph flags : List ℕ) (n actions i : ℕ) (area marks : List ℕ) (s
     note_there = less
 
     -- Pair i gets the class that was found, and stands in its bucket and on the list.
-    module _ (h c : ℕ) (mid after marks_after : List ℕ) (in-h : IsBucket (view_of graph flags actions (take 2000 area)) i h)
+    module _ (h c : ℕ) (mid after marks_after : List ℕ) (in_h : IsBucket (view_of graph flags actions (take 2000 area)) i h)
         (suits : Suits (view_of graph flags actions (take 2000 area)) (new_in area) i c)
-        (is-mid : mid ≡ sets area (2000 + 2 * i) (number_bytes 2 c)) (is-after : after ≡ added 6000 4000 mid h i)
-        (is-marks : marks_after ≡ sets marks (1000 + 2 * separated) (number_bytes 2 i)) where
+        (is_mid : mid ≡ sets area (2000 + 2 * i) (number_bytes 2 c)) (is_after : after ≡ added 6000 4000 mid h i)
+        (is_marks : marks_after ≡ sets marks (1000 + 2 * separated) (number_bytes 2 i)) where
       abbrev one : List ℕ
       one = stored area (2000 + 2 * i) c
 
       same : take 4000 after ≡ take 4000 one
-      same = ap (take 4000) is-after ∙ added_front 6000 4000 mid h i 4000 (omega arith) (omega arith) ∙ ap (take 4000) is-mid
+      same = ap (take 4000) is_after ∙ added_front 6000 4000 mid h i 4000 (omega arith) (omega arith) ∙ ap (take 4000) is_mid
 
       front : take 2000 after ≡ take 2000 area
       front =
@@ -282,8 +282,8 @@ module _ (graph flags : List ℕ) (n actions i : ℕ) (area marks : List ℕ) (s
 
       long : length after ≡ length area
       unfolding added
-      long = ap length is-after ∙ length_stored (stored mid (4000 + 2 * i) (head_in 6000 mid h)) (6000 + 2 * h) (i + 1)
-          ∙ length_stored mid (4000 + 2 * i) (head_in 6000 mid h) ∙ ap length is-mid ∙ length_stored area (2000 + 2 * i) c
+      long = ap length is_after ∙ length_stored (stored mid (4000 + 2 * i) (head_in 6000 mid h)) (6000 + 2 * h) (i + 1)
+          ∙ length_stored mid (4000 + 2 * i) (head_in 6000 mid h) ∙ ap length is_mid ∙ length_stored area (2000 + 2 * i) c
 
       kept : Chained (InBucket seen) buckets (head_in 6000 one) (link_in 4000 one) i
       unfolding head_in link_in
@@ -296,9 +296,9 @@ module _ (graph flags : List ℕ) (n actions i : ℕ) (area marks : List ℕ) (s
       unfolding view_of Apart
       chains =
           let size = length_stored area (2000 + 2 * i) c in
-          added_chains 6000 buckets 4000 1000 one h i (inr (omega arith)) (omega (arith, stands.area_room)) (omega (arith, stands.area_room)) in-h.within small (InBucket seen) after
-          (omega (arith, small)) kept (record { is_safe = leaving.is_safe; leaves = leaving.apart; bucket = sym in-h.is })
-          (λ k s. sym s.bucket ∙ sym in-h.is) (is-after ∙ ap (λ l. added 6000 4000 l h i) is-mid)
+          added_chains 6000 buckets 4000 1000 one h i (inr (omega arith)) (omega (arith, stands.area_room)) (omega (arith, stands.area_room)) in_h.within small (InBucket seen) after
+          (omega (arith, small)) kept (record { is_safe = leaving.is_safe; leaves = leaving.apart; bucket = sym in_h.is })
+          (λ k s. sym s.bucket ∙ sym in_h.is) (is_after ∙ ap (λ l. added 6000 4000 l h i) is_mid)
 
       lists : ListsLeaving flags (i + 1) after (stored marks (1000 + 2 * separated) i) (separated + 1)
       unfolding view_of
@@ -336,7 +336,7 @@ module _ (graph flags : List ℕ) (n actions i : ℕ) (area marks : List ℕ) (s
 
       pub left : PassedFrom graph flags actions n area (i + 1) after marks_after (separated + 1)
       left =
-          rw is-marks
+          rw is_marks
           (record {
             passed =
                 record {
@@ -361,7 +361,7 @@ abbrev emptied : List ℕ → List ℕ → List ℕ
 emptied area zeros = take 6000 area ++ (zeros ++ drop 2042 (drop 6000 area))
 
 module _ (graph flags : List ℕ) (actions n : ℕ) (area marks zeros : List ℕ) (ready : PassReady graph flags actions n area marks)
-    (is-zeros : zeros ≡ replicate (length (take 2042 (drop 6000 area))) 0) where
+    (is_zeros : zeros ≡ replicate (length (take 2042 (drop 6000 area))) 0) where
   room : 8042 ≤ length area
   room = ready.stands.area_room
 
@@ -383,7 +383,7 @@ module _ (graph flags : List ℕ) (actions n : ℕ) (area marks zeros : List ℕ
 
   still_long : 8042 ≤ length (emptied area zeros)
   still_long =
-      let size = ap length is-zeros ∙ length-replicate {A = ℕ} (length (take 2042 (drop 6000 area))) 0 in
+      let size = ap length is_zeros ∙ length-replicate {A = ℕ} (length (take 2042 (drop 6000 area))) 0 in
       omega (arith, length-append (take 6000 area) (zeros ++ drop 2042 (drop 6000 area)), length-append zeros (drop 2042 (drop 6000 area)), before, many, size)
 
   -- The pass begins with empty buckets and an empty list.
@@ -418,16 +418,16 @@ module _ (graph flags : List ℕ) (actions n : ℕ) (area marks zeros : List ℕ
 
       zero : (p : ℕ) → 6000 ≤ p → p < 8042 → byte_at (emptied area zeros) p ≡ 0
       zero p l m =
-          rw is-zeros
+          rw is_zeros
           (part_byte (take 6000 area) (drop 2042 (drop 6000 area)) (length (take 2042 (drop 6000 area))) p (omega (arith, before)) (omega (arith, before, many)))
 
   -- It has passed every pair, and the classes are as they were before the buckets were emptied.
-  pub pass_end : (i : ℕ) (last marks-last : List ℕ) (separated : ℕ) → PassedFrom graph flags actions n (emptied area zeros) i last marks-last separated
-      → i ≤ n → n ≤ i → PassedFrom graph flags actions n area n last marks-last separated
-  pass_end i last marks-last separated p le ge =
+  pub pass_end : (i : ℕ) (last marks_last : List ℕ) (separated : ℕ) → PassedFrom graph flags actions n (emptied area zeros) i last marks_last separated
+      → i ≤ n → n ≤ i → PassedFrom graph flags actions n area n last marks_last separated
+  pass_end i last marks_last separated p le ge =
       let all : i ≡ n = omega arith in
       record {
-        passed = subst (λ k. Passed graph flags actions n k last marks-last separated) all p.passed;
+        passed = subst (λ k. Passed graph flags actions n k last marks_last separated) all p.passed;
         front = p.front ∙ kept_front 2000 (omega arith);
       }
 
@@ -459,7 +459,7 @@ module _ (n p : ℕ) (first marks : List ℕ) (entries : ℕ) (area : List ℕ) 
   pub adopt_entry : p < 1000
   adopt_entry = omega (arith, to.few, to.fewer)
 
-  module _ (i : ℕ) (is-i : i ≡ noted_in marks p) where
+  module _ (i : ℕ) (is_i : i ≡ noted_in marks p) where
     pub adopt_fits : Fits w64 (2 * i)
     adopt_fits = omega (arith, to.there p l, to.few)
 
@@ -476,7 +476,7 @@ module _ (n p : ℕ) (first marks : List ℕ) (entries : ℕ) (area : List ℕ) 
     pub adopt_more : (new : ℕ) (after : List ℕ) → ((j : ℕ) → Fits w8 (get_or first j 0)) → new ≡ number_at 2 area (2000 + 2 * i)
         → after ≡ sets area (2 * i) (number_bytes 2 new) → Adopting n (p + 1) first marks entries after
     unfolding number_at
-    adopt_more new after bytes is-new e =
+    adopt_more new after bytes is_new e =
         rw e
         (record {
           adopted =
@@ -484,10 +484,10 @@ module _ (n p : ℕ) (first marks : List ℕ) (entries : ℕ) (area : List ℕ) 
                 here =
                     one_more (λ q. class_in z (noted_in marks q) ≡ new_in first (noted_in marks q)) p
                     (λ q m. at_entry (noted_in marks q) (λ _. a.adopted.here q m))
-                    (subst (λ k. class_in z k ≡ new_in first k) is-i own);
+                    (subst (λ k. class_in z k ≡ new_in first k) is_i own);
                 else =
                     λ k m none.
-                    beside k (λ s. none (record { place = p; within = omega arith; is = sym is-i ∙ sym s }))
+                    beside k (λ s. none (record { place = p; within = omega arith; is = sym is_i ∙ sym s }))
                     ∙ a.adopted.else k m (λ o. none (record { place = o.place; within = omega (arith, o.within); is = o.is }));
                 news = λ k. stored_beside area (2 * i) new (2000 + 2 * k) (inr (omega (arith, to.there p l, to.few))) ∙ a.adopted.news k;
               };
@@ -500,7 +500,7 @@ module _ (n p : ℕ) (first marks : List ℕ) (entries : ℕ) (area : List ℕ) 
 
         own : class_in z i ≡ new_in first i
         own =
-            stored_read area (2 * i) new adopt_class (omega (arith, is-new, a.adopted.news i, bytes (2000 + 2 * i), bytes (2000 + 2 * i + 1))) ∙ is-new ∙ a.adopted.news i
+            stored_read area (2 * i) new adopt_class (omega (arith, is_new, a.adopted.news i, bytes (2000 + 2 * i), bytes (2000 + 2 * i + 1))) ∙ is_new ∙ a.adopted.news i
 
         beside : (k : ℕ) → (k ≡ i → ⊥) → class_in z k ≡ class_in area k
         beside k other =

@@ -108,12 +108,12 @@ module _ (graph flags : List ℕ) (actions n : ℕ) (area mid marks : List ℕ) 
           let c = class_in (take 2000 after) k in
           let below = numbered.most k l in
           let quiet = again.quiet k l p e in
-          let first-quiet = again.quiet c (omega arith) (numbered.is_safe k l p) (again.first_too k l p e) in
+          let first_quiet = again.quiet c (omega arith) (numbered.is_safe k l p) (again.first_too k l p e) in
           let alike = numbered.alike k l p in
           record {
             state = alike.state;
             class = sym (firsts.itself k l p);
-            shows = λ a m. shows_still k a l m quiet ∙ alike.shows a m ∙ sym (shows_still c a (omega arith) m first-quiet);
+            shows = λ a m. shows_still k a l m quiet ∙ alike.shows a m ∙ sym (shows_still c a (omega arith) m first_quiet);
           }
 
       -- The pass is made.

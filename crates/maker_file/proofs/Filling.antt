@@ -112,13 +112,13 @@ module _ (graph flags area : List ℕ) (n actions rows : ℕ) (laid : Laid graph
   abbrev pairs : List ℕ → List Step
   pairs = packed graph flags (classes_part area) (order_of area rows) actions
 
-  module _ (i : ℕ) (l : r < rows) (is-i : i ≡ number_at 2 area (2000 + 2 * r)) where
+  module _ (i : ℕ) (l : r < rows) (is_i : i ≡ number_at 2 area (2000 + 2 * r)) where
     abbrev here : List Step
     here = steps_in graph flags (classes_part area) (order_of area rows) actions i
 
     next_steps : pairs (drop r (order_of area rows)) ≡ here ++ pairs (drop (r + 1) (order_of area rows))
     next_steps =
-        ap pairs (next_pair graph flags area n actions rows laid r l i is-i)
+        ap pairs (next_pair graph flags area n actions rows laid r l i is_i)
         ∙ packed_cons graph flags (classes_part area) (order_of area rows) actions i (drop (r + 1) (order_of area rows))
 
     -- There is room for the row's steps.
@@ -140,7 +140,7 @@ pub packing_more : (graph flags area : List ℕ) (n actions rows : ℕ) (first :
     → Packing graph flags area actions rows first start out p r
     → Wrote (steps_in graph flags (classes_part area) (order_of area rows) actions i) out p z q → i ≡ number_at 2 area (2000 + 2 * r) → r < rows
     → Laid graph flags area n actions rows → Packing graph flags area actions rows first start z q (r + 1)
-packing_more graph flags area n actions rows first start out p r i z q h w is-i l laid =
+packing_more graph flags area n actions rows first start out p r i z q h w is_i l laid =
     let pairs = packed graph flags (classes_part area) (order_of area rows) actions in
     record {
       done = omega arith;
@@ -148,7 +148,7 @@ packing_more graph flags area n actions rows first start out p r i z q h w is-i 
           filling_more (steps_in graph flags (classes_part area) (order_of area rows) actions i) (pairs (drop (r + 1) (order_of area rows)))
           (pairs (order_of area rows)) first start out p z q
           (subst (λ (ss : List Step). Filling ss (pairs (order_of area rows)) first start out p)
-          (next_steps graph flags area n actions rows laid first start out p r h i l is-i) h.filling) w;
+          (next_steps graph flags area n actions rows laid first start out p r h i l is_i) h.filling) w;
     }
 
 -- ---- the rows
@@ -224,21 +224,21 @@ module _ (layout : FileLayout) (graph flags area : List ℕ) (n actions rows : �
       → z ≡ sets out p (number_bytes layout.width s ++ (number_bytes 1 c ++ number_bytes 2 count))
       → ListingSteps layout graph flags area actions rows first z (count + c) (r + 1)
   unfolding row_in
-  listing_more i c s p z l is-i is_c is-s is-p is-z =
+  listing_more i c s p z l is_i is_c is-s is_p is_z =
       let part = classes_part area in
       let order = order_of area rows in
       let row = row_in graph flags part order actions in
       let others = map row (drop (r + 1) order) in
       let here : List ℕ = number_bytes layout.width s ++ (number_bytes 1 c ++ number_bytes 2 count) in
       let bytes : row_bytes layout count (map row (drop r order)) ≡ here ++ row_bytes layout (count + c) others =
-      ap (λ (is : List ℕ). row_bytes layout count (map row is)) (next_pair graph flags area n actions rows laid r l i is-i)
+      ap (λ (is : List ℕ). row_bytes layout count (map row is)) (next_pair graph flags area n actions rows laid r l i is_i)
       ∙ row_bytes_cons layout count s c (row i) others is-s (is_c ∙ sym (length_steps graph flags part order actions i)) in
       let place : steps_at layout (r + 1) ≡ steps_at layout r + length here =
       next_row layout r ∙ ap (λ (k : ℕ). steps_at layout r + k) (sym (row_length layout s c count)) in
-      let written : z ≡ sets out (steps_at layout r) here = is-z ∙ ap (λ (q : ℕ). sets out q here) is-p in
+      let written : z ≡ sets out (steps_at layout r) here = is_z ∙ ap (λ (q : ℕ). sets out q here) is_p in
       record {
         same_length = ap length written ∙ length-sets out (steps_at layout r) here ∙ h.same_length;
-        totalling = totalling_more graph flags area n actions rows laid count r i c h.totalling l is-i is_c;
+        totalling = totalling_more graph flags area n actions rows laid count r i c h.totalling l is_i is_c;
         left =
             ap₂ (λ (l : List ℕ) (k : ℕ). sets l k (row_bytes layout (count + c) others)) written place
             ∙ sym (sets_append out (steps_at layout r) here (row_bytes layout (count + c) others))
@@ -268,7 +268,7 @@ pub file_written : (layout : FileLayout) (graph flags area : List ℕ) (n states
     → WroteHeader layout rows total states actions out l₁ → WroteRows layout graph flags area actions rows l₁ l₂
     → Wrote (packed graph flags (classes_part area) (order_of area rows) actions (order_of area rows)) l₂ p z q
     → WroteFile layout graph flags area states actions rows out z q
-file_written layout graph flags area n states actions rows total p out l₁ l₂ z q laid is-total is-p w₁ w₂ w₃ =
+file_written layout graph flags area n states actions rows total p out l₁ l₂ z q laid is_total is_p w₁ w₂ w₃ =
     let part = classes_part area in
     let order = order_of area rows in
     let row = row_in graph flags part order actions in
@@ -278,11 +278,11 @@ file_written layout graph flags area n states actions rows total p out l₁ l₂
     let tail = bytes_of_steps (packed graph flags part order actions order) in
     let whole : table_file layout states actions (map row order) ≡ head ++ (lines ++ tail) =
     file_parts layout states actions graph flags part order order
-    ∙ ap₂ (λ (k : ℕ) (m : ℕ). header_bytes layout k m states actions ++ (lines ++ tail)) len (sym is-total) in
+    ∙ ap₂ (λ (k : ℕ) (m : ℕ). header_bytes layout k m states actions ++ (lines ++ tail)) len (sym is_total) in
     let rows_long : length (map row order) ≡ rows = length-map order row ∙ len in
-    let lines_end : p ≡ rows_at + length lines = is-p ∙ steps_behind layout rows (map row order) rows_long in
+    let lines_end : p ≡ rows_at + length lines = is_p ∙ steps_behind layout rows (map row order) rows_long in
     let head_end : rows_at ≡ 0 + length head = omega (arith, length_header layout rows total states actions) in
-    let packed-long = length_packed graph flags part order actions order in
+    let packed_long = length_packed graph flags part order actions order in
     let size = ap (λ (m : ℕ). steps_at layout m + 3 * steps_total graph flags actions order) len in
     record {
       left =
@@ -320,8 +320,8 @@ module _ (graph flags classes : List ℕ) (n actions : ℕ) (given : Writable gr
         (λ i l. classes_agree i l ∙ ap (λ (part : List ℕ). class_in part i) (sym ordered.same_classes))
         (order_of area rows) laid_out.order ordered.numbered.pairs_below
 
-    module _ (layout : FileLayout) (states total p : ℕ) (is-total : total ≡ steps_total graph flags actions (order_of area rows))
-        (is-p : p ≡ steps_at layout rows) where
+    module _ (layout : FileLayout) (states total p : ℕ) (is_total : total ≡ steps_total graph flags actions (order_of area rows))
+        (is_p : p ≡ steps_at layout rows) where
       file_length : length (table_file layout states actions (table_in graph flags classes n actions)) ≡ p + 3 * total
       file_length =
           let e = ap (λ t. length (table_file layout states actions t)) table_is in

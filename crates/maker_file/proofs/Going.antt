@@ -69,9 +69,9 @@ module _ (graph flags area : List ℕ) (n actions rows : ℕ) (laid : Laid graph
   laid_total = omega (arith, laid_few, total_few graph flags actions order laid.held.graph.actions_most, length_order area rows)
 
   module _ (r : ℕ) (l : r < rows) where
-    module _ (i : ℕ) (is-i : i ≡ number_at 2 area (2000 + 2 * r)) where
+    module _ (i : ℕ) (is_i : i ≡ number_at 2 area (2000 + 2 * r)) where
       pair_is : get_or order r 0 ≡ i
-      pair_is = order_read area rows r l ∙ sym is-i
+      pair_is = order_read area rows r l ∙ sym is_i
 
       -- It is one of the n.
       pub pair_below : i < n
@@ -109,11 +109,11 @@ pub totalling_start : (graph flags area : List ℕ) (actions rows : ℕ) → Tot
 totalling_start graph flags area actions rows = record { done = omega arith; whole = omega arith }
 
 module _ (graph flags area : List ℕ) (n actions rows : ℕ) (laid : Laid graph flags area n actions rows) (total r i c : ℕ)
-    (h : Totalling graph flags area actions rows total r) (l : r < rows) (is-i : i ≡ number_at 2 area (2000 + 2 * r))
+    (h : Totalling graph flags area actions rows total r) (l : r < rows) (is_i : i ≡ number_at 2 area (2000 + 2 * r))
     (is_c : c ≡ length (followers graph flags actions i)) where
   pub totalling_next : total + c + steps_total graph flags actions (drop (r + 1) (order_of area rows)) ≡ steps_total graph flags actions (order_of area rows)
   totalling_next =
-      let e = ap (steps_total graph flags actions) (next_pair graph flags area n actions rows laid r l i is-i)
+      let e = ap (steps_total graph flags actions) (next_pair graph flags area n actions rows laid r l i is_i)
       ∙ total_cons graph flags actions i (drop (r + 1) (order_of area rows)) in
       omega (arith, h.whole)
 

@@ -11,7 +11,7 @@ use lib.Dec.{eqb}
 use Rattle.base.specs.Choice.{pick}
 use Rattle.base.specs.Lists.{below, present, some_of, place_of}
 use Rattle.base.specs.Search.{new_ones, search_on, search_from, once}
-use Rattle.base.proofs.Lists.{mem_below, present-map-out}
+use Rattle.base.proofs.Lists.{mem_below, present_map_out}
 use Rattle.logic.specs.Tables.{Step}
 use Rattle.pair_graph.specs.GraphTable.{allowed, allowed_all, same_class, row_order, graph_step, graph_row, graph_table}
 use Rattle.pair_graph.specs.Steps.{class_in, safe_in, state_in, led_to, FlaggedGraph}
@@ -103,7 +103,7 @@ module _ (graph flags classes part : List ℕ) (n actions : ℕ) (moves : Flagge
   followers_below : (i : ℕ) → i < n → Below n (followers graph flags actions i)
   unfolding followers
   followers_below i l = λ y m.
-      let (a, at, e) = present-map-out (led_to graph flags i) (below actions) m in
+      let (a, at, e) = present_map_out (led_to graph flags i) (below actions) m in
       allowed_below graph flags n actions i a y moves l (mem_below actions at) e
 
   -- The order of the rows is what the search meets.
@@ -113,13 +113,13 @@ module _ (graph flags classes part : List ℕ) (n actions : ℕ) (moves : Flagge
       search_same n (same_in classes) (same_in part) same_agrees (followers graph flags actions) followers_below n (suc n) (0 ∷ []) (0 ∷ [])
       (below_one n 0 (omega arith)) (below_one n 0 (omega arith))
 
-  module _ (order : List ℕ) (is-order : order ≡ search_from (same_in part) (followers graph flags actions) once n 0) (rows_below : Below n order) where
+  module _ (order : List ℕ) (is_order : order ≡ search_from (same_in part) (followers graph flags actions) once n 0) (rows_below : Below n order) where
     step_same : (a : ℕ) (o : Option ℕ) → ((j : ℕ) → o ≡ some j → j < n)
         → graph_step (graph_in graph n actions) (safe_in flags) (class_in classes) a o ≡ step_in part order a o
     unfolding graph_step step_in same_class same_in
     step_same a none h = refl
     step_same a (some j) h =
-        let at = rows_met ∙ sym is-order in
+        let at = rows_met ∙ sym is_order in
         let place = place_same n (same_in classes) (same_in part) same_agrees j order (h j refl) rows_below in
         ap (λ (t : ℕ). some (record { action = a; target = t })) (ap (place_of (same_in classes j)) at ∙ place)
 
@@ -139,6 +139,6 @@ module _ (graph flags classes part : List ℕ) (n actions : ℕ) (moves : Flagge
     pub table_same : table_in graph flags classes n actions ≡ map (row_in graph flags part order actions) order
     unfolding table_in graph_table
     table_same =
-        ap (map (graph_row (graph_in graph n actions) (safe_in flags) (class_in classes))) (rows_met ∙ sym is-order)
+        ap (map (graph_row (graph_in graph n actions) (safe_in flags) (class_in classes))) (rows_met ∙ sym is_order)
         ∙ map_same (graph_row (graph_in graph n actions) (safe_in flags) (class_in classes)) (row_in graph flags part order actions)
         order (λ y m. row_same y (rows_below y m))

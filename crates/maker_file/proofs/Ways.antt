@@ -12,7 +12,7 @@ use mir.Val.{Fits}
 use Rattle.base.specs.Lists.{below, present, joined, some_of, place_of}
 use Rattle.base.specs.Bytes.{number_at, number_bytes}
 use Rattle.base.proofs.Bytes.{length_number_bytes}
-use Rattle.base.proofs.Lists.{mem_along, present-map-in, below_mem, some_of_mem}
+use Rattle.base.proofs.Lists.{mem_along, present_map_in, below_mem, some_of_mem}
 use Rattle.base.specs.Search.{search_from, once}
 use Rattle.base.proofs.Search.{few_once, search_closed}
 use Rattle.logic.specs.Tables.{Step}
@@ -58,9 +58,9 @@ row_read area n j c m h e f =
     omega (arith, mark_least area n j c m h e f)
 
 module _ (graph flags area : List ℕ) (n actions rows i a j : ℕ) (r : Led) (laid : Laid graph flags area n actions rows) (row : IsRow area rows i)
-    (l : a < actions) (is-r : r ≡ led_of (led_to graph flags i a)) (is-to : r ≡ To j) where
+    (l : a < actions) (is_r : r ≡ led_of (led_to graph flags i a)) (is_to : r ≡ To j) where
   led_is : led_to graph flags i a ≡ some j
-  led_is = led_some (led_to graph flags i a) r j is-r is-to
+  led_is = led_some (led_to graph flags i a) r j is_r is_to
 
   target_below : j < n
   target_below = allowed_below graph flags n actions i a j laid.held (row_pair_below graph flags area n actions rows i laid row) l led_is
@@ -79,7 +79,7 @@ module _ (graph flags area : List ℕ) (n actions rows i a j : ℕ) (r : Led) (l
       let few = laid.numbered.few in
       let long : length (search_from (same_in part) (followers graph flags actions) once n 0) ≤ n =
       omega (arith, ap length laid.order, length_order area rows) in
-      let follows = present-map-in (led_to graph flags i) (below actions) (below_mem actions a l) led_is in
+      let follows = present_map_in (led_to graph flags i) (below actions) (below_mem actions a l) led_is in
       let (z, m, e) = search_closed (same_in part) (followers graph flags actions) once n 0 (same_is part) (few_once n _ long) (mem_along laid.order row.listed) follows in
       some_of_mem (same_in part j) (mem_along (sym laid.order) m) e
 
@@ -126,11 +126,11 @@ module _ (graph flags area : List ℕ) (n actions rows i a j : ℕ) (r : Led) (l
       → z ≡ sets out p (number_bytes 1 a ++ number_bytes 2 t)
       → Wrote (present (step_from graph flags (classes_part area) (order_of area rows) i a ∷ [])) out p z (p + 3)
   unfolding step_bytes
-  wrote_one p t out z e is-z =
+  wrote_one p t out z e is_z =
       let s : Step = record { action = a; target = t } in
       rw (steps_one t e) (record {
-        same_length = ap length is-z ∙ length-sets out p (number_bytes 1 a ++ number_bytes 2 t);
-        left = is-z ∙ ap (sets out p) (sym (one_step s));
+        same_length = ap length is_z ∙ length-sets out p (number_bytes 1 a ++ number_bytes 2 t);
+        left = is_z ∙ ap (sets out p) (sym (one_step s));
         behind = omega arith;
       })
 
@@ -138,8 +138,8 @@ module _ (graph flags area : List ℕ) (n actions rows i a j : ℕ) (r : Led) (l
 pub wrote_none : (graph flags area : List ℕ) (rows i a : ℕ) (r : Led) (p : ℕ) (out : List ℕ) → r ≡ led_of (led_to graph flags i a) → r ≡ Nowhere
     → Wrote (present (step_from graph flags (classes_part area) (order_of area rows) i a ∷ [])) out p out p
 unfolding step_from step_in present
-wrote_none graph flags area rows i a r p out is-r f =
-    let o = led_none (led_to graph flags i a) r is-r f in
+wrote_none graph flags area rows i a r p out is_r f =
+    let o = led_none (led_to graph flags i a) r is_r f in
     rw o (record { same_length = refl; left = ap (sets out p) (sym no_steps); behind = omega arith })
 
 -- ---- the pieces as bytes

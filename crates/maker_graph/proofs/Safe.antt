@@ -9,7 +9,7 @@ use native.Mathlib.Omega.{arith}
 use lib.ListN.{length}
 use borrow.Author.Tests.{not-true}
 use Rattle.base.specs.Lists.{every, some_of, below, is_there, there_with}
-use Rattle.base.proofs.Lists.{whether, never_both, same_truth, and_both, and_left, and_right, or_left, or_right, or_cases, not_in, below_every, below_some, every_below, some_below, is_there_in, there_not, there_with_in, there_with_out, whether-there, none-some, some_one, mem_get_or}
+use Rattle.base.proofs.Lists.{whether, never_both, same_truth, and_both, and_left, and_right, or_left, or_right, or_cases, not_in, below_every, below_some, every_below, some_below, is_there_in, there_not, there_with_in, there_with_out, whether_there, none-some, some_one, mem_get_or}
 use Rattle.logic.specs.Tower.{Tower, controllable, goes_on, Listed}
 use Rattle.logic.specs.Book.{Book}
 use Rattle.alternatives.specs.Pairs.{Pair, first_pair, pair_step, pairs, over_pairs}
@@ -27,7 +27,7 @@ led_out staying m (led j k) = (j, refl, k)
 pub not_enabled_none : (tower : Tower) (book : Book) (i a : ℕ) → tower.target (numbered tower book i).state a ≡ none
     → pair_step tower book (numbered tower book i) a ≡ none
 not_enabled_none tower book i a e =
-    whether-there (pair_step tower book (numbered tower book i) a) (λ f. f)
+    whether_there (pair_step tower book (numbered tower book i) a) (λ f. f)
     (λ w f. none-some e (pair_step_out tower book (numbered tower book i) w a f).0)
 
 -- a broken step leads to none

@@ -13,7 +13,7 @@ use lib.Dec.{ltb}
 use Rattle.base.specs.Choice.{pick}
 use Rattle.base.specs.Lists.{some_of, below, present, place_of, total}
 use Rattle.base.specs.Search.{new_ones, search_on, search_from, once}
-use Rattle.base.proofs.Lists.{mem_below, never_both, present-map-out}
+use Rattle.base.proofs.Lists.{mem_below, never_both, present_map_out}
 use Rattle.base.proofs.Search.{search_first, total_once}
 use Rattle.logic.specs.Tower.{Tower}
 use Rattle.logic.specs.Book.{Book}
@@ -221,7 +221,7 @@ module _ (tower : Tower) (book : Book) (graph : Graph) (staying : ℕ → Bool) 
   stay : (i : ℕ) → SafePair graph staying i → (j : ℕ) → Memᴰ j (allowed_all graph staying class i) → SafePair graph staying j
   unfolding allowed_all allowed
   stay i k j m =
-      let (a, here, e) = present-map-out (λ a. allowed_to staying (graph.move i a)) (below graph.actions) m in
+      let (a, here, e) = present_map_out (λ a. allowed_to staying (graph.move i a)) (below graph.actions) m in
       allowed_safe tower book graph staying g i a j k.there (mem_below graph.actions here) e
 
   -- the rows' numbers stand for the rows' pairs

@@ -98,15 +98,15 @@ module _ (n actions : ℕ) (graph flags classes marks : List ℕ) (entries : ℕ
     again_end after m =
         record {
           only_safe = λ i l. m.only_safe i (omega (arith, given.given.held.graph.pairs_most));
-          quiet = λ i l safe e. record { none = λ a j p k leads o is-j. never_both (reached i a j p l k safe leads o is-j) e };
+          quiet = λ i l safe e. record { none = λ a j p k leads o is_j. never_both (reached i a j p l k safe leads o is_j) e };
           first_too = m.first_too;
         }
       where
         reached : (i a j p : ℕ) → i < n → a < actions → safe_in flags i ≡ true → led_to graph flags i a ≡ some j → p < entries
             → noted_in marks p ≡ j → marked_in after i ≡ true
-        reached i a j p l k safe leads o is-j =
+        reached i a j p l k safe leads o is_j =
             let move = (allowed_out (safe_in flags) (move_at graph i a) j leads).0 in
-            let to_entry : to j ≡ to (noted_in bare p) = ap to (sym (bare_noted p o ∙ is-j)) in
+            let to_entry : to j ≡ to (noted_in bare p) = ap to (sym (bare_noted p o ∙ is_j)) in
             m.still i (omega (arith, given.given.held.graph.pairs_most)) ((b.all p o).each i a l k safe (move ∙ to_entry))
 
 -- ---- no marks
@@ -115,10 +115,10 @@ module _ (n actions : ℕ) (graph flags classes marks : List ℕ) (entries : ℕ
 pub marks_long : (marks : List ℕ) → 3001 ≤ length marks → length (take 1000 marks) ≡ 1000
 marks_long marks room = length-take-le 1000 marks (omega arith)
 
-module _ (marks zeros : List ℕ) (room : 3001 ≤ length marks) (is-zeros : zeros ≡ replicate (length (take 1000 marks)) 0) where
+module _ (marks zeros : List ℕ) (room : 3001 ≤ length marks) (is_zeros : zeros ≡ replicate (length (take 1000 marks)) 0) where
   -- So are the zeros,
   zeros_long : length zeros ≡ 1000
-  zeros_long = ap length is-zeros ∙ length-replicate {A = ℕ} (length (take 1000 marks)) 0 ∙ marks_long marks room
+  zeros_long = ap length is_zeros ∙ length-replicate {A = ℕ} (length (take 1000 marks)) 0 ∙ marks_long marks room
 
   -- and the whole.
   pub cleared_long : length (zeros ++ drop 1000 marks) ≡ length marks
@@ -140,7 +140,7 @@ module _ (marks zeros : List ℕ) (room : 3001 ≤ length marks) (is-zeros : zer
       none : (i : ℕ) → i < 1000 → marked_in (set (zeros ++ drop 1000 marks) 3000 0) i ≡ false
       none i l =
           zero_unmarked (set (zeros ++ drop 1000 marks) 3000 0) i
-          (other i (omega arith) ∙ get_or-append zeros (drop 1000 marks) 0 i (omega (arith, zeros_long)) ∙ ap (λ x. byte_at x i) is-zeros
+          (other i (omega arith) ∙ get_or-append zeros (drop 1000 marks) 0 i (omega (arith, zeros_long)) ∙ ap (λ x. byte_at x i) is_zeros
           ∙ cleared_byte (length (take 1000 marks)) i)
 
       list : (q : ℕ) → 1000 ≤ q → q < 3000 → byte_at (set (zeros ++ drop 1000 marks) 3000 0) q ≡ byte_at marks q
@@ -157,11 +157,11 @@ pub all_start : (n actions : ℕ) (graph flags classes marks : List ℕ) (p : �
 all_start n actions graph flags classes marks p e = record { more = more_none flags classes marks; all = λ p l. absurd (omega arith) }
 
 module _ (n actions : ℕ) (graph flags classes old : List ℕ) (entries p : ℕ) (marks : List ℕ) (j : ℕ)
-    (h : MarkedBeforeAll n actions graph flags classes old p marks) (is-j : j ≡ noted_in marks p) (l : p < entries)
+    (h : MarkedBeforeAll n actions graph flags classes old p marks) (is_j : j ≡ noted_in marks p) (l : p < entries)
     (given : ReadyToMark n actions graph flags classes old entries) where
   -- The entry is as it was,
   entry_same : j ≡ noted_in old p
-  entry_same = is-j ∙ noted_same old marks p h.more.list (omega (arith, given.few, given.given.held.graph.pairs_most))
+  entry_same = is_j ∙ noted_same old marks p h.more.list (omega (arith, given.few, given.given.held.graph.pairs_most))
 
   -- and one of the pairs.
   pub entry_there : j < n
@@ -223,22 +223,22 @@ module _ (n actions : ℕ) (graph flags classes : List ℕ) (j : ℕ) (old : Lis
   pub before_pair : (i : ℕ) → 0 < at → i ≡ (at - 1) / 16 → i < 1000
   before_pair i l e = omega (arith, (walk_node (CellTo actions graph) n (16 * n) j at h.walk l).there, given.held.graph.pairs_most)
 
-  module _ (next : ℕ) (l : 0 < at) (k : j < n) (to-next : next ≡ link_in 3000 flags (at - 1)) where
+  module _ (next : ℕ) (l : 0 < at) (k : j < n) (to_next : next ≡ link_in 3000 flags (at - 1)) where
     -- The walk comes closer to its end.
     pub before_falls : next < at
     before_falls =
         walk_falls (CellTo actions graph) n (head_in 1000 flags) (link_in 3000 flags) (16 * n) j given.listed.chained k at next h.walk l
-        to-next
+        to_next
 
     -- The pair of the cell was marked.
     pub before_more : (i : ℕ) (after : List ℕ) → i ≡ (at - 1) / 16 → PairMarked flags classes i marks after → length after ≡ length marks
         → MarkingBefore n actions graph flags classes j old next after
-    before_more i after is-i p long =
+    before_more i after is_i p long =
         record {
           more = more_yet flags classes old marks after h.more p.more;
           walk =
               walk_on (CellTo actions graph) n (head_in 1000 flags) (link_in 3000 flags) (16 * n) j given.listed.chained k at next h.walk l
-              to-next;
+              to_next;
           behind = behind;
           long = long ∙ h.long;
         }
@@ -247,7 +247,7 @@ module _ (n actions : ℕ) (graph flags classes : List ℕ) (j : ℕ) (old : Lis
         nearer : (x a : ℕ) → a < actions → move_at graph x a ≡ to j → 16 * x + a < at → (x ≡ i → ⊥) → 16 * x + a < next
         nearer x a o leads ahead other =
             walk_ahead (CellTo actions graph) n (head_in 1000 flags) (link_in 3000 flags) (16 * n) j given.listed.chained k at next h.walk l
-            to-next (16 * x + a) (cell_in graph actions x a j given.held.graph.actions_most o leads) ahead
+            to_next (16 * x + a) (cell_in graph actions x a j given.held.graph.actions_most o leads) ahead
             (λ e. other (omega (arith, given.held.graph.actions_most)))
 
         behind : (x a : ℕ) → x < n → a < actions → next ≤ 16 * x + a → safe_in flags x ≡ true → move_at graph x a ≡ to j

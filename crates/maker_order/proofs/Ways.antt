@@ -91,18 +91,18 @@ module _ (n : ℕ) (area : List ℕ) (rows j : ℕ) (h : RowsNumbered n area row
             omega (arith, length-append seen (j ∷ []), length_order area rows)
 
         module _ (y : List ℕ) (is_y : y ≡ stored area (2000 + 2 * rows) j) where
-          module _ (z : List ℕ) (is-z : z ≡ stored y (2000 + 2 * n + 2 * c) (rows + 1)) where
+          module _ (z : List ℕ) (is_z : z ≡ stored y (2000 + 2 * n + 2 * c) (rows + 1)) where
             abbrev mark : ℕ
             mark = 2000 + 2 * n + 2 * c
 
             same_part : classes_part z ≡ part
             same_part =
-                ap (take order_at) is-z ∙ take_stored order_at y mark (rows + 1) (omega arith)
+                ap (take order_at) is_z ∙ take_stored order_at y mark (rows + 1) (omega arith)
                 ∙ ap (take order_at) is_y ∙ take_stored order_at area (2000 + 2 * rows) j (omega arith)
 
             long : length z ≡ length area
             long =
-                ap length is-z ∙ length_stored y mark (rows + 1) ∙ ap length is_y ∙ length_stored area (2000 + 2 * rows) j
+                ap length is_z ∙ length_stored y mark (rows + 1) ∙ ap length is_y ∙ length_stored area (2000 + 2 * rows) j
 
             -- what was seen is as it was
             old_rows : order_of z rows ≡ seen
@@ -110,7 +110,7 @@ module _ (n : ℕ) (area : List ℕ) (rows j : ℕ) (h : RowsNumbered n area row
               where
                 old : (k : ℕ) → k < rows → number_at 2 z (order_at + 2 * k) ≡ number_at 2 area (order_at + 2 * k)
                 old k b =
-                    ap (λ (l : List ℕ). number_at 2 l (order_at + 2 * k)) is-z
+                    ap (λ (l : List ℕ). number_at 2 l (order_at + 2 * k)) is_z
                     ∙ stored_beside y mark (rows + 1) (order_at + 2 * k) (inl (omega (arith, row_left)))
                     ∙ ap (λ (l : List ℕ). number_at 2 l (order_at + 2 * k)) is_y
                     ∙ stored_beside area (2000 + 2 * rows) j (order_at + 2 * k) (inl (omega arith))
@@ -118,7 +118,7 @@ module _ (n : ℕ) (area : List ℕ) (rows j : ℕ) (h : RowsNumbered n area row
             -- and j is the next
             new_row : number_at 2 z (order_at + 2 * rows) ≡ j
             new_row =
-                ap (λ (l : List ℕ). number_at 2 l (order_at + 2 * rows)) is-z
+                ap (λ (l : List ℕ). number_at 2 l (order_at + 2 * rows)) is_z
                 ∙ stored_beside y mark (rows + 1) (order_at + 2 * rows) (inl (omega (arith, row_left)))
                 ∙ ap (λ (l : List ℕ). number_at 2 l (order_at + 2 * rows)) is_y
                 ∙ stored_read area (2000 + 2 * rows) j (omega (arith, row_left)) (omega arith)
@@ -133,13 +133,13 @@ module _ (n : ℕ) (area : List ℕ) (rows j : ℕ) (h : RowsNumbered n area row
                 go : Dec (c ≡ d) → number_at 2 z (marks_at n + 2 * d) ≡ mark_in part (seen ++ (j ∷ [])) d
                 go (yes e) =
                     let k : mark + 1 < length y = omega (arith, mark_there, ap length is_y, length_stored area (2000 + 2 * rows) j) in
-                    let new-mark = stored_read y mark (rows + 1) k (omega (arith, row_left)) in
+                    let new_mark = stored_read y mark (rows + 1) k (omega (arith, row_left)) in
                     let here : marks_at n + 2 * d ≡ mark = omega arith in
                     let f = mark_new part seen c j class_is none_of_class in
-                    rw (here, is-z, ← e) (new-mark ∙ sym (f ∙ omega (arith, length_order area rows)))
+                    rw (here, is_z, ← e) (new_mark ∙ sym (f ∙ omega (arith, length_order area rows)))
                 go (no e) =
                     let f = mark_other part seen d j (λ p. e (sym class_is ∙ p)) in
-                    ap (λ (l : List ℕ). number_at 2 l (marks_at n + 2 * d)) is-z
+                    ap (λ (l : List ℕ). number_at 2 l (marks_at n + 2 * d)) is_z
                     ∙ stored_beside y mark (rows + 1) (marks_at n + 2 * d) (beside (dec_lt c d))
                     ∙ ap (λ (l : List ℕ). number_at 2 l (marks_at n + 2 * d)) is_y
                     ∙ stored_beside area (2000 + 2 * rows) j (marks_at n + 2 * d) (inr (omega (arith, row_left)))
@@ -194,12 +194,12 @@ meets_led graph flags n area rows i a j r z s e f g =
 -- ---- expanding a row
 
 -- From so many rows in the area at first, the actions below a are done.
-pub record Expanding (graph flags : List ℕ) (n actions i : ℕ) (first : List ℕ) (rows-first : ℕ) (area : List ℕ) (rows a : ℕ) : Type 0 where
+pub record Expanding (graph flags : List ℕ) (n actions i : ℕ) (first : List ℕ) (rows_first : ℕ) (area : List ℕ) (rows a : ℕ) : Type 0 where
   pub same_length : length area ≡ length first
   pub same_classes : classes_part area ≡ classes_part first
   pub numbered : RowsNumbered n area rows
   pub left : grown (classes_part first) (order_of area rows) (rest (led_to graph flags i) actions a)
-      ≡ grown (classes_part first) (order_of first rows-first) (followers graph flags actions i)
+      ≡ grown (classes_part first) (order_of first rows_first) (followers graph flags actions i)
 
 -- At first none is done.
 pub expand_start : (graph flags : List ℕ) (n actions i : ℕ) (area : List ℕ) (rows : ℕ) → RowsNumbered n area rows
@@ -209,10 +209,10 @@ expand_start graph flags n actions i area rows h =
     record { same_length = refl; same_classes = refl; numbered = h; left = rw (rest_all (led_to graph flags i) actions) }
 
 -- One more is done.
-pub expand_more : (graph flags : List ℕ) (n actions i : ℕ) (first : List ℕ) (rows-first : ℕ) (area : List ℕ) (rows a : ℕ) (z : List ℕ) (s : ℕ)
-    → Expanding graph flags n actions i first rows-first area rows a → a < actions
-    → Grows n area rows (present (led_to graph flags i a ∷ [])) z s → Expanding graph flags n actions i first rows-first z s (a + 1)
-expand_more graph flags n actions i first rows-first area rows a z s h l g =
+pub expand_more : (graph flags : List ℕ) (n actions i : ℕ) (first : List ℕ) (rows_first : ℕ) (area : List ℕ) (rows a : ℕ) (z : List ℕ) (s : ℕ)
+    → Expanding graph flags n actions i first rows_first area rows a → a < actions
+    → Grows n area rows (present (led_to graph flags i a ∷ [])) z s → Expanding graph flags n actions i first rows_first z s (a + 1)
+expand_more graph flags n actions i first rows_first area rows a z s h l g =
     let f = led_to graph flags i in
     let part = classes_part first in
     let step : order_of z s ≡ grown part (order_of area rows) (present (f a ∷ [])) =
@@ -228,10 +228,10 @@ expand_more graph flags n actions i first rows-first area rows a z s h l g =
     }
 
 -- All are done.
-pub expand_end : (graph flags : List ℕ) (n actions i : ℕ) (first : List ℕ) (rows-first : ℕ) (area : List ℕ) (rows a : ℕ)
-    → Expanding graph flags n actions i first rows-first area rows a → actions ≤ a
-    → Grows n first rows-first (followers graph flags actions i) area rows
-expand_end graph flags n actions i first rows-first area rows a h l =
+pub expand_end : (graph flags : List ℕ) (n actions i : ℕ) (first : List ℕ) (rows_first : ℕ) (area : List ℕ) (rows a : ℕ)
+    → Expanding graph flags n actions i first rows_first area rows a → actions ≤ a
+    → Grows n first rows_first (followers graph flags actions i) area rows
+expand_end graph flags n actions i first rows_first area rows a h l =
     let part = classes_part first in
     record {
       same_length = h.same_length;
@@ -309,12 +309,12 @@ searching_start graph flags n actions area rows h e =
 pub searching_more : (graph flags : List ℕ) (n actions : ℕ) (first area : List ℕ) (rows r i : ℕ) (z : List ℕ) (s : ℕ)
     → SearchingRows graph flags n actions first area rows r → r < rows → i ≡ number_at 2 area (2000 + 2 * r)
     → Grows n area rows (followers graph flags actions i) z s → SearchingRows graph flags n actions first z s (r + 1)
-searching_more graph flags n actions first area rows r i z s h l is-i g =
+searching_more graph flags n actions first area rows r i z s h l is_i g =
     let part = classes_part first in
     let follow = followers graph flags actions in
     let seen = order_of area rows in
     let len = length_order area rows in
-    let at : get_or seen r 0 ≡ i = order_read area rows r l ∙ sym is-i in
+    let at : get_or seen r 0 ≡ i = order_read area rows r l ∙ sym is_i in
     let grow : grown part seen (follow (get_or seen r 0)) ≡ order_of z s =
     ap (λ (j : ℕ). grown part seen (follow j)) at ∙ ap (λ (p : List ℕ). grown p seen (follow i)) (sym h.same_classes) ∙ sym g.order in
     let turn = search_turn part follow n seen r (n - r) (omega arith) (omega arith) in

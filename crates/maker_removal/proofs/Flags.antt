@@ -180,19 +180,19 @@ module _ (n i height : ℕ) (area after : List ℕ) (most : n ≤ 1000) (l : i <
           record { place = o.place; within = omega (arith, o.within); is = p.below o.place o.within ∙ o.is }
 
       waiting : (k : ℕ) → k < n → live_in after k ≡ true → safe_in after k ≡ false → OnList after (height + 1) k
-      waiting k m live not-safe =
+      waiting k m live not_safe =
           elim (ℕ_discrete k i) [
             | yes same ↦ record { place = height; within = omega arith; is = p.entry ∙ sym same }
-            | no other ↦ still k (w.waiting k m (sym (pushed_live e k m) ∙ live) (sym (pushed_safe k m other) ∙ not-safe))
+            | no other ↦ still k (w.waiting k m (sym (pushed_live e k m) ∙ live) (sym (pushed_safe k m other) ∙ not_safe))
           ]
 
 -- ---- a pair taken from the worklist
 
 module _ (n height : ℕ) (area : List ℕ) (j : ℕ) (w : Worklist n area height) (some : 0 < height)
-    (is-j : j ≡ number_at 2 area (35000 + 2 * (height - 1))) where
+    (is_j : j ≡ number_at 2 area (35000 + 2 * (height - 1))) where
   last : entry_in area (height - 1) ≡ j
   unfolding entry_in
-  last = sym is-j
+  last = sym is_j
 
   -- The last entry is a pair,
   pub taken_there : j < n
@@ -250,9 +250,9 @@ module _ (n height : ℕ) (area : List ℕ) (j : ℕ) (w : Worklist n area heigh
 
         waiting : (k : ℕ) → k < n → live_in (set area j 0) k ≡ true → safe_in (set area j 0) k ≡ false
             → OnList (set area j 0) (height - 1) k
-        waiting k m live not-safe =
+        waiting k m live not_safe =
             elim (ℕ_discrete k j) [
               | yes same ↦ never_both live
                   (subst (λ x. live_in (set area j 0) x ≡ false) (sym same) (zero_gone (set area j 0) j taken_flag))
-              | no other ↦ shorter k other (w.waiting k m (sym (taken_live k other) ∙ live) (sym (taken_safe k) ∙ not-safe))
+              | no other ↦ shorter k other (w.waiting k m (sym (taken_live k other) ∙ live) (sym (taken_safe k) ∙ not_safe))
             ]

@@ -21,7 +21,7 @@ use Rattle.maker_removal.specs.Removal.{leads_inside, stays_inside, not_forced_a
 -- one that leads to a safe pair is allowed
 allowed_inside : (safe : ℕ → Bool) (m : Move) (j : ℕ) → allowed_to safe m ≡ some j → true ≡ leads_inside safe m
 unfolding leads_inside
-allowed_inside safe m j e = let (is-to, is_safe) = allowed_out safe m j e in sym (ap (leads_inside safe) is-to ∙ is_safe)
+allowed_inside safe m j e = let (is_to, is_safe) = allowed_out safe m j e in sym (ap (leads_inside safe) is_to ∙ is_safe)
 
 -- any other is not
 not_allowed : (safe : ℕ → Bool) (m : Move) → allowed_to safe m ≡ none → false ≡ leads_inside safe m
@@ -34,16 +34,16 @@ not_allowed safe (to k) e = go (safe k) e
     go true e = let z : ◌≡◌ {A = ℕ} 0 1 = cc in absurd (omega arith)
     go false e = refl
 
-module _ (graph flags : List ℕ) (i a : ℕ) (r : Led) (is-r : r ≡ led_of (led_to graph flags i a)) where
+module _ (graph flags : List ℕ) (i a : ℕ) (r : Led) (is_r : r ≡ led_of (led_to graph flags i a)) where
   -- It leads to a safe pair.
   pub led_inside : (j : ℕ) → r ≡ To j → true ≡ leads_inside (safe_in flags) (move_at graph i a)
   unfolding led_to
-  led_inside j e = allowed_inside (safe_in flags) (move_at graph i a) j (led_some (led_to graph flags i a) r j is-r e)
+  led_inside j e = allowed_inside (safe_in flags) (move_at graph i a) j (led_some (led_to graph flags i a) r j is_r e)
 
   -- It does not.
   pub led_outside : r ≡ Nowhere → false ≡ leads_inside (safe_in flags) (move_at graph i a)
   unfolding led_to
-  led_outside e = not_allowed (safe_in flags) (move_at graph i a) (led_none (led_to graph flags i a) r is-r e)
+  led_outside e = not_allowed (safe_in flags) (move_at graph i a) (led_none (led_to graph flags i a) r is_r e)
 
 -- a move that is enabled stays inside if it leads inside
 stays_leads : (safe : ℕ → Bool) (m : Move) → is_enabled m ≡ true → leads_inside safe m ≡ stays_inside safe m
@@ -68,7 +68,7 @@ judged_graph tower n graph flags i given m e = rw e given.flagged
 
 -- ---- what an action does
 
-module _ (tower : Tower) (graph : List ℕ) (safe : ℕ → Bool) (i a k : ℕ) (r : Bool) (is-k : k ≡ tower.kind a) where
+module _ (tower : Tower) (graph : List ℕ) (safe : ℕ → Bool) (i a k : ℕ) (r : Bool) (is_k : k ≡ tower.kind a) where
   -- It may be withheld.
   pub may_withhold : r ≡ controllable k → r ≡ true → true ≡ not_forced_at tower graph safe i a
   unfolding not_forced_at
@@ -115,7 +115,7 @@ pub scan_goes : (tower : Tower) (graph : List ℕ) (safe : ℕ → Bool) (i : �
 unfolding some_goes below
 scan_goes tower graph safe i = refl
 
-module _ (tower : Tower) (graph : List ℕ) (safe : ℕ → Bool) (i : ℕ) (r : Bool) (is-r : r ≡ none_forced tower graph safe i) where
+module _ (tower : Tower) (graph : List ℕ) (safe : ℕ → Bool) (i : ℕ) (r : Bool) (is_r : r ≡ none_forced tower graph safe i) where
   -- A way out can be forced: the pair is not fine.
   pub not_fine : r ≡ false → false ≡ fine_at tower graph safe i
   unfolding fine_at

@@ -84,21 +84,21 @@ module _ (tower : Tower) (graph area : List ℕ) (i : ℕ) where
   unfolding has_to_go
   visit_removed r height e f = let h : safe_in area i ≡ false = sym e ∙ f in stays_so height (rw h)
 
-  module _ (r q : Bool) (height : ℕ) (is-r : r ≡ safe_in area i) (safe : r ≡ true) (is-q : q ≡ fine_at tower graph (safe_in area) i) where
+  module _ (r q : Bool) (height : ℕ) (is_r : r ≡ safe_in area i) (safe : r ≡ true) (is_q : q ≡ fine_at tower graph (safe_in area) i) where
     -- It is safe and fine.
     pub visit_fine : q ≡ true → Visited tower graph i height area area height
     unfolding has_to_go
     visit_fine f =
-        let h : safe_in area i ≡ true = sym is-r ∙ safe in
-        let g : fine_at tower graph (safe_in area) i ≡ true = sym is-q ∙ f in
+        let h : safe_in area i ≡ true = sym is_r ∙ safe in
+        let g : fine_at tower graph (safe_in area) i ≡ true = sym is_q ∙ f in
         stays_so height (rw (h, g))
 
     -- It is safe and not fine.
     pub visit_pushed : (after : List ℕ) → q ≡ false → Pushed i height area after → Visited tower graph i height area after (height + 1)
     unfolding has_to_go
     visit_pushed after f p =
-        let h : safe_in area i ≡ true = sym is-r ∙ safe in
-        let g : fine_at tower graph (safe_in area) i ≡ false = sym is-q ∙ f in
+        let h : safe_in area i ≡ true = sym is_r ∙ safe in
+        let g : fine_at tower graph (safe_in area) i ≡ false = sym is_q ∙ f in
         record {
           goes = true;
           answer = rw (h, g);
@@ -207,8 +207,8 @@ graph_read tower n m graph e held = rw e held
 pub begun : (tower : Tower) (n m : ℕ) (graph area after : List ℕ) → m ≡ tower.actions → HoldsGraph n tower.actions graph
     → Listed n m graph (16 * n) area → AllSafe n area after → Removing tower n graph (from 0) after 0
 unfolding from
-begun tower n m graph area after read held listed-so h =
-    let listed : Listed n tower.actions graph (16 * n) area = subst (λ x. Listed n x graph (16 * n) area) read listed-so in
+begun tower n m graph area after read held listed_so h =
+    let listed : Listed n tower.actions graph (16 * n) area = subst (λ x. Listed n x graph (16 * n) area) read listed_so in
     record {
       listed =
           listed_same n tower.actions graph area after held.pairs_most
@@ -293,31 +293,31 @@ module _ (tower : List ℕ) (n : ℕ) (graph : List ℕ) (j most : ℕ) (old : L
   pub follow_pair : (i : ℕ) → 0 < at → i ≡ (at - 1) / 16 → i < n
   follow_pair i l e = omega (arith, (walk_node (CellTo (tower_of tower).actions graph) n (16 * n) j at h.walk l).there)
 
-  module _ (next : ℕ) (l : 0 < at) (k : j < n) (to-next : next ≡ link_in 3000 area (at - 1)) where
+  module _ (next : ℕ) (l : 0 < at) (k : j < n) (to_next : next ≡ link_in 3000 area (at - 1)) where
     -- The walk comes closer to its end.
     pub follow_falls : next < at
     follow_falls =
         walk_falls (CellTo (tower_of tower).actions graph) n (head_in 1000 area) (link_in 3000 area) (16 * n) j h.state.listed.chained k
-        at next h.walk l to-next
+        at next h.walk l to_next
 
     onward : Walking (CellTo (tower_of tower).actions graph) n (16 * n) j next
     onward =
         walk_on (CellTo (tower_of tower).actions graph) n (head_in 1000 area) (link_in 3000 area) (16 * n) j h.state.listed.chained k
-        at next h.walk l to-next
+        at next h.walk l to_next
 
     -- The pair of the cell was looked at.
     pub follow_more : (i : ℕ) (after : List ℕ) (r : ℕ) → i ≡ (at - 1) / 16 → Visited (tower_of tower) graph i height area after r
         → length after ≡ length area → Following (tower_of tower) n graph j most old next after r
-    follow_more i after r is-i v long =
+    follow_more i after r is_i v long =
         record {
           state =
-              visited (tower_of tower) n graph i height area after given.held (follow_pair i l is-i)
+              visited (tower_of tower) n graph i height area after given.held (follow_pair i l is_i)
               (CellAhead (tower_of tower).actions graph j at) (CellAhead (tower_of tower).actions graph j next) nearer h.state r v;
           walk = onward;
           less =
               omega (
                 arith,
-                visited_less (tower_of tower) n graph i height area after given.held (follow_pair i l is-i) r v,
+                visited_less (tower_of tower) n graph i height area after given.held (follow_pair i l is_i) r v,
                 h.less,
               );
           long = long ∙ h.long;
@@ -332,7 +332,7 @@ module _ (tower : List ℕ) (n : ℕ) (graph : List ℕ) (j most : ℕ) (old : L
               listed = ahead.listed;
               below =
                   walk_ahead (CellTo (tower_of tower).actions graph) n (head_in 1000 area) (link_in 3000 area) (16 * n) j
-                  h.state.listed.chained k at next h.walk l to-next (16 * x + ahead.action)
+                  h.state.listed.chained k at next h.walk l to_next (16 * x + ahead.action)
                   (cell_in graph (tower_of tower).actions x ahead.action j given.held.actions_most ahead.listed ahead.leads)
                   ahead.below
                   (λ e. other (omega (arith, ahead.listed, given.held.actions_most)));
@@ -362,10 +362,10 @@ take_ready tower n graph area j v given = ready_after area (set area j v) given 
 
 module _ (tower : List ℕ) (n : ℕ) (graph area : List ℕ) (height j : ℕ) (given : RemovalInput tower n graph area)
     (s : Removing (tower_of tower) n graph none_ahead area height) (some : 0 < height)
-    (is-j : j ≡ number_at 2 area (35000 + 2 * (height - 1))) where
+    (is_j : j ≡ number_at 2 area (35000 + 2 * (height - 1))) where
   -- The pair on top is one of the pairs.
   pub take_there : j < n
-  take_there = taken_there n height area j s.worklist some is-j
+  take_there = taken_there n height area j s.worklist some is_j
 
   -- It has a flag.
   pub take_flag : j < length area
@@ -384,11 +384,11 @@ module _ (tower : List ℕ) (n : ℕ) (graph area : List ℕ) (height j : ℕ) (
   take_removing =
       record {
         listed = still_listed;
-        worklist = taken_list n height area j s.worklist some is-j given.held.pairs_most given.room;
+        worklist = taken_list n height area j s.worklist some is_j given.held.pairs_most given.room;
         holds =
             record {
               all = λ other fine k m e.
-                  taken_safe n height area j s.worklist some is-j given.held.pairs_most given.room k ∙ s.holds.all other fine k m e;
+                  taken_safe n height area j s.worklist some is_j given.held.pairs_most given.room k ∙ s.holds.all other fine k m e;
             };
         fine = fine;
       }
@@ -398,7 +398,7 @@ module _ (tower : List ℕ) (n : ℕ) (graph area : List ℕ) (height j : ℕ) (
           → fine_at (tower_of tower) graph (live_in (set area j 0)) k ≡ true
       fine k m safe none =
           fine_along (tower_of tower) graph (live_in area) (live_in (set area j 0)) k along
-          (s.fine k m (sym (taken_safe n height area j s.worklist some is-j given.held.pairs_most given.room k) ∙ safe) (λ z. z))
+          (s.fine k m (sym (taken_safe n height area j s.worklist some is_j given.held.pairs_most given.room k) ∙ safe) (λ z. z))
         where
           along : (a x : ℕ) → a < (tower_of tower).actions → move_at graph k a ≡ to x → live_in area x ≡ true
               → live_in (set area j 0) x ≡ true
@@ -414,7 +414,7 @@ module _ (tower : List ℕ) (n : ℕ) (graph area : List ℕ) (height j : ℕ) (
                       (cell_in graph (tower_of tower).actions k a j given.held.actions_most o (t ∙ ap to same));
                   leads = t ∙ ap to same;
                 }))
-                | no other ↦ taken_live n height area j s.worklist some is-j given.held.pairs_most given.room x other ∙ live
+                | no other ↦ taken_live n height area j s.worklist some is_j given.held.pairs_most given.room x other ∙ live
               ]
 
   -- As many pairs are safe as before.
@@ -425,7 +425,7 @@ module _ (tower : List ℕ) (n : ℕ) (graph area : List ℕ) (height j : ℕ) (
       record {
         state = w.state;
         less =
-            omega (arith, w.less, taken_count n height area j s.worklist some is-j given.held.pairs_most given.room);
+            omega (arith, w.less, taken_count n height area j s.worklist some is_j given.held.pairs_most given.room);
       }
 
 -- The worklist has come to this height.

@@ -54,14 +54,14 @@ short_numbers tower layout e =
     rw e (record { least = (file_layout_fits tower).a_byte; most = (file_layout_fits tower).few_bytes })
 
 module _ (tower graph flags classes marks : List ℕ) (n actions : ℕ) (safe : PairsSafe tower graph flags classes marks n)
-    (is-actions : actions ≡ (tower_of tower).actions) where
+    (is_actions : actions ≡ (tower_of tower).actions) where
   met : PairsMet tower graph flags classes marks n
   met = safe.met
 
   flagged : FlaggedGraph n actions graph flags
   flagged =
       record {
-        graph = subst (λ m. HoldsGraph n m graph) (sym is-actions) met.holds;
+        graph = subst (λ m. HoldsGraph n m graph) (sym is_actions) met.holds;
         flagged = omega (arith, met.flags_room, met.holds.pairs_most);
       }
 
@@ -71,7 +71,7 @@ module _ (tower graph flags classes marks : List ℕ) (n actions : ℕ) (safe : 
         given =
             record {
               held = flagged;
-              listed = subst (λ m. Listed n m graph (action_room * n) flags) (sym is-actions) safe.listed;
+              listed = subst (λ m. Listed n m graph (action_room * n) flags) (sym is_actions) safe.listed;
               lists_room = omega (arith, met.flags_room);
             };
         least = met.least;
@@ -90,42 +90,42 @@ module _ (tower graph flags classes marks : List ℕ) (n actions : ℕ) (safe : 
           class_numbers = λ i l. omega (arith, classified.most i l, met.holds.pairs_most);
         }
 
-    module _ (states : ℕ) (out out-after : List ℕ) (w : Written) (is-states : states ≡ (tower_of tower).states)
-        (layout : FileLayout) (is-layout : layout ≡ layout_of tower)
-        (writes : WritesTable (table_file layout states actions (table_in graph flags after n actions)) out w out-after) where
+    module _ (states : ℕ) (out out_after : List ℕ) (w : Written) (is_states : states ≡ (tower_of tower).states)
+        (layout : FileLayout) (is_layout : layout ≡ layout_of tower)
+        (writes : WritesTable (table_file layout states actions (table_in graph flags after n actions)) out w out_after) where
       abbrev file : List ℕ
       file = table_file (layout_of tower) (tower_of tower).states (tower_of tower).actions (graph_table (graph_in tower graph n) (safe_in flags) (class_in after))
 
       same_file : table_file layout states actions (table_in graph flags after n actions) ≡ file
-      same_file = rw (is-layout, is-states, is-actions) (ap (table_file (layout_of tower) (tower_of tower).states (tower_of tower).actions) (table_of_tower (tower_of tower) graph flags after n))
+      same_file = rw (is_layout, is_states, is_actions) (ap (table_file (layout_of tower) (tower_of tower).states (tower_of tower).actions) (table_of_tower (tower_of tower) graph flags after n))
 
-      right : WritesTable file out w out-after
-      right = subst (λ f. WritesTable f out w out-after) same_file writes
+      right : WritesTable file out w out_after
+      right = subst (λ f. WritesTable f out w out_after) same_file writes
 
       safe_classes : Classes (graph_in tower graph n) (safe_in flags) (class_in after)
       unfolding graph_of
       safe_classes =
-          subst (λ m. Classes (graph_with n m (tower_of tower).kind graph) (safe_in flags) (class_in after)) is-actions
+          subst (λ m. Classes (graph_with n m (tower_of tower).kind graph) (safe_in flags) (class_in after)) is_actions
           (classes_right graph flags actions n classes marks after made classifiable classified (tower_of tower).kind)
 
-      wrote : (r : MakeAnswer) → Ends (give file) out r out-after → SafeWritten r tower graph flags n out out-after
+      wrote : (r : MakeAnswer) → Ends (give file) out r out_after → SafeWritten r tower graph flags n out out_after
       wrote r ends = record { class = class_in after; classes = safe_classes; ends = ends }
 
       -- The table is written.
-      pub safe_made : (size : ℕ) → w ≡ Made size → SafeWritten (Make.Made size) tower graph flags n out out-after
+      pub safe_made : (size : ℕ) → w ≡ Made size → SafeWritten (Make.Made size) tower graph flags n out out_after
       safe_made size e = wrote (Make.Made size) (go (ltb (length out) (length file)) refl (sym e ∙ right.answered) right.left)
         where
           go : (b : Bool) → ltb (length out) (length file) ≡ b → Made size ≡ pick b (λ _. NoRoom) (λ _. Made (length file))
-              → out-after ≡ pick b (λ _. out) (λ _. sets out 0 file) → Ends (give file) out (Make.Made size) out-after
+              → out_after ≡ pick b (λ _. out) (λ _. sets out 0 file) → Ends (give file) out (Make.Made size) out_after
           go true p q s = absurd (let z : ◌≡◌ {A = ℕ} 0 1 = cc in omega arith)
           go false p q s = let same : size ≡ length file = cc in made_ends file out p same s
 
       -- There is no room for it.
-      pub safe_no_room : w ≡ NoRoom → SafeWritten (Make.Refused Output) tower graph flags n out out-after
+      pub safe_no_room : w ≡ NoRoom → SafeWritten (Make.Refused Output) tower graph flags n out out_after
       safe_no_room e = wrote (Make.Refused Output) (go (ltb (length out) (length file)) refl (sym e ∙ right.answered) right.left)
         where
           go : (b : Bool) → ltb (length out) (length file) ≡ b → NoRoom ≡ pick b (λ _. NoRoom) (λ _. Made (length file))
-              → out-after ≡ pick b (λ _. out) (λ _. sets out 0 file) → Ends (give file) out (Make.Refused Output) out-after
+              → out_after ≡ pick b (λ _. out) (λ _. sets out 0 file) → Ends (give file) out (Make.Refused Output) out_after
           go true p q s = no_room_ends file out p s
           go false p q s = absurd (let z : ◌≡◌ {A = ℕ} 0 1 = cc in omega arith)
 

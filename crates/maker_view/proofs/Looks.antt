@@ -28,25 +28,25 @@ pub more_fits : (l : List ℕ) (p r : ℕ) → r ≡ number_at 2 l p → ((j : �
 unfolding number_at
 more_fits l p r e h = omega (arith, h p, h (p + 1))
 
-module _ (graph flags classes : List ℕ) (i a : ℕ) (r : Led) (is-r : r ≡ led_of (led_to graph flags i a)) where
+module _ (graph flags classes : List ℕ) (i a : ℕ) (r : Led) (is_r : r ≡ led_of (led_to graph flags i a)) where
   -- An action that is not allowed shows 0.
   pub shows_none : r ≡ Nowhere → Seen 0 (shows_in graph flags classes i a)
   unfolding shows_in shown
-  shows_none e = record { is = rw (led_none (led_to graph flags i a) r is-r e); within = omega arith }
+  shows_none e = record { is = rw (led_none (led_to graph flags i a) r is_r e); within = omega arith }
 
-  module _ (j : ℕ) (is-to : r ≡ To j) where
+  module _ (j : ℕ) (is_to : r ≡ To j) where
     -- The pair that an allowed one leads to has its class there,
     pub target_there : (pairs actions : ℕ) → FlaggedGraph pairs actions graph flags → i < pairs → a < actions → 2000 ≤ length classes
         → 2 * j + 1 < length classes
     target_there pairs actions held l k room =
-        omega (arith, allowed_below graph flags pairs actions i a j held l k (led_some (led_to graph flags i a) r j is-r is-to), held.graph.pairs_most)
+        omega (arith, allowed_below graph flags pairs actions i a j held l k (led_some (led_to graph flags i a) r j is_r is_to), held.graph.pairs_most)
 
     -- and it shows that class plus 1.
     pub shows_class : (c : ℕ) → c ≡ class_in classes j → ((j : ℕ) → Fits w8 (get_or classes j 0)) → Seen (c + 1) (shows_in graph flags classes i a)
     unfolding shows_in shown number_at
     shows_class c e h =
         record {
-          is = rw (led_some (led_to graph flags i a) r j is-r is-to) (ap (λ x. x + 1) e);
+          is = rw (led_some (led_to graph flags i a) r j is_r is_to) (ap (λ x. x + 1) e);
           within = omega (arith, h (2 * j), h (2 * j + 1));
         }
 

@@ -9,7 +9,7 @@ use mathlib.Core.List.{List, [], ◌∷◌, map, Memᴰ}
 use borrow.Author.Tests.{eqb-true, eq-eqb}
 use native.Mathlib.Decide.{dec_lt}
 use Rattle.base.specs.Lists.{is_there, same_option}
-use Rattle.base.proofs.Lists.{IsSame, options_same, and_left, and_right, and_both, every_below, below_every, same_option_out, some_one, joined_in, joined_out, mem_along, same_truth, is_there_in, there_not, whether-there, only_if_out, never_both}
+use Rattle.base.proofs.Lists.{IsSame, options_same, and_left, and_right, and_both, every_below, below_every, same_option_out, some_one, joined_in, joined_out, mem_along, same_truth, is_there_in, there_not, whether_there, only_if_out, never_both}
 use Rattle.base.proofs.Rounds.{Falling, rest_round_rests}
 use Rattle.logic.specs.Tower.{Tower, Listed}
 use Rattle.logic.specs.Book.{Book}
@@ -102,7 +102,7 @@ module _ (tower : Tower) (book : Book) where
   pub mem_twos : {two : Two} {vs : List Pair} → Memᴰ two (twos vs) → Memᴰ two.one vs × Memᴰ two.other vs
   unfolding twos
   mem_twos {two} {vs} m =
-      let (twos-of, n, k) = joined_out (map (λ (x : Pair). map (λ (y : Pair). record { one = x; other = y }) vs) vs) m in
+      let (twos_of, n, k) = joined_out (map (λ (x : Pair). map (λ (y : Pair). record { one = x; other = y }) vs) vs) m in
       let (v, i, e) = Memᴰ.of_map (λ (x : Pair). map (λ (y : Pair). record { one = x; other = y }) vs) vs n in
       let (w, j, f) = Memᴰ.of_map (λ (y : Pair). record { one = v; other = y }) vs (mem_along (sym e) k) in
       (Memᴰ.cast (ap (λ (t : Two). t.one) (sym f)) i, Memᴰ.cast (ap (λ (t : Two). t.other) (sym f)) j)
@@ -171,7 +171,7 @@ module _ (tower : Tower) (book : Book) where
 
     -- No other action is allowed.
     pub unlisted_none : (v : Pair) (a : ℕ) → ¬ (a < tower.actions) → safe_step tower book v a ≡ none
-    unlisted_none v a l = whether-there (safe_step tower book v a) (λ e. e) (λ w e. absurd (l (safe_listed v a w e)))
+    unlisted_none v a l = whether_there (safe_step tower book v a) (λ e. e) (λ w e. absurd (l (safe_listed v a w e)))
 
     -- Where a round tells no two met pairs apart, the next tells none apart.
     splits_rest : (k : ℕ) → ((two : Two) → Memᴰ two (twos (pairs tower book))

@@ -104,24 +104,24 @@ module _ (tower : Tower) (book : Book) (table : Table) (known : Judgeable tower 
 
 -- ---- files
 
-module _ (tower-file text : List ℕ) (tower : Tower) (book : Book) (fit : FitFiles tower-file text tower book) (sided : OneSided book) where
+module _ (tower_file text : List ℕ) (tower : Tower) (book : Book) (fit : FitFiles tower_file text tower book) (sided : OneSided book) where
   for_files : (o : Answer Table) → (table_for tower book ≡ o) ↔ MadeBefore tower book o
-  for_files = made_before tower book (makeable tower-file text tower book fit) sided
+  for_files = made_before tower book (makeable tower_file text tower book fit) sided
 
   pub some_made_before : (o : Answer Table) × MadeBefore tower book o
   some_made_before = (table_for tower book, (for_files (table_for tower book)).0 refl)
 
   pub made_as_before : (o : Answer Table) → MadeBefore tower book o
-      → made_file tower-file text ≡ (o then λ table. give (table_file (layout_of tower-file) tower.states tower.actions table))
-  made_as_before o before = of_file tower-file text tower book fit o ((for_files o).1 before)
+      → made_file tower_file text ≡ (o then λ table. give (table_file (layout_of tower_file) tower.states tower.actions table))
+  made_as_before o before = of_file tower_file text tower book fit o ((for_files o).1 before)
 
-module _ (tower-file text file : List ℕ) (tower : Tower) (book : Book) (table : Table) (fit : FitFiles tower-file text tower book)
+module _ (tower_file text file : List ℕ) (tower : Tower) (book : Book) (table : Table) (fit : FitFiles tower_file text tower book)
     (laid : FitTable tower file table) (sided : OneSided book) where
   for_table : (o : Answer Finding) → (judge tower book table ≡ o) ↔ JudgedBefore tower book table o
-  for_table = judged_before tower book table (judgeable tower-file text file tower book table fit laid) sided
+  for_table = judged_before tower book table (judgeable tower_file text file tower book table fit laid) sided
 
   pub some_judged_before : (o : Answer Finding) × JudgedBefore tower book table o
   some_judged_before = (judge tower book table, (for_table (judge tower book table)).0 refl)
 
-  pub judged_as_before : (o : Answer Finding) → JudgedBefore tower book table o → checked_file tower-file text file ≡ o
-  judged_as_before o before = checks tower-file text file tower book table fit laid ∙ (for_table o).1 before
+  pub judged_as_before : (o : Answer Finding) → JudgedBefore tower book table o → checked_file tower_file text file ≡ o
+  judged_as_before o before = checks tower_file text file tower book table fit laid ∙ (for_table o).1 before

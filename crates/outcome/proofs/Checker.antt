@@ -40,7 +40,7 @@ module _ (tower : Tower) (book : Book) (table : Table) (known : Judgeable tower 
   behind =
       Pairs if over_items tower book table else
       (Alternatives if over_alternatives (rows_tower tower table) book else
-      (Broken found-if some_broken (rows_tower tower table) book else
+      (Broken found_if some_broken (rows_tower tower table) book else
       give good_table))
 
   passed : RightBelow tower table (length table) → rows_judged tower table behind ≡ behind
@@ -113,7 +113,7 @@ module _ (tower : Tower) (book : Book) (table : Table) (known : Judgeable tower 
             }
 
         walked : over_items tower book table ≡ false → over_alternatives (rows_tower tower table) book ≡ false
-            → FirstReason tower book table (Broken found-if some_broken (rows_tower tower table) book else give good_table)
+            → FirstReason tower book table (Broken found_if some_broken (rows_tower tower table) book else give good_table)
         walked few narrow =
             whether (some_broken (rows_tower tower table) book)
             (λ broken.
@@ -125,7 +125,7 @@ module _ (tower : Tower) (book : Book) (table : Table) (known : Judgeable tower 
         tried : over_items tower book table ≡ false
             → FirstReason tower book table
             (Alternatives if over_alternatives (rows_tower tower table) book else
-            (Broken found-if some_broken (rows_tower tower table) book else give good_table))
+            (Broken found_if some_broken (rows_tower tower table) book else give good_table))
         tried few =
             whether (over_alternatives (rows_tower tower table) book)
             (λ wide.

@@ -9,7 +9,7 @@ use mathlib.Core.List.{List, [], ◌∷◌, ◌++◌, map, Memᴰ}
 use native.Mathlib.Omega.{arith}
 use borrow.Author.Tests.{ltb-true}
 use Rattle.base.specs.Lists.{below, total}
-use Rattle.base.proofs.Lists.{true_by, present-map-in, present-map-out, below_mem, some_one, some_at, some_of_mem, some_none}
+use Rattle.base.proofs.Lists.{true_by, present_map_in, present_map_out, below_mem, some_one, some_at, some_of_mem, some_none}
 use Rattle.base.proofs.Search.{Reached, start, onward, search_reached, search_finds, search_at_most, search_distinct}
 use Rattle.logic.specs.Tower.{Tower, Listed}
 use Rattle.logic.specs.Book.{Book}
@@ -50,12 +50,12 @@ module _ (tower : Tower) (book : Book) (listed : Listed tower) where
   pair_reached v = (
     λ r.
         reached_led (pair_step tower book) (pair_followers tower book)
-        (λ x y m. let (a, _, e) = present-map-out (pair_step tower book x) (below tower.actions) m in (a, e))
+        (λ x y m. let (a, _, e) = present_map_out (pair_step tower book x) (below tower.actions) m in (a, e))
         (first_pair tower book) v r,
     λ (w, e).
         led_reached (pair_step tower book) (pair_followers tower book)
         (λ x y a e.
-        present-map-in (pair_step tower book x) (below tower.actions) (below_mem tower.actions a (pair_step_listed tower book listed x y a e)) e)
+        present_map_in (pair_step tower book x) (below tower.actions) (below_mem tower.actions a (pair_step_listed tower book listed x y a e)) e)
         (first_pair tower book) (first_pair tower book) v w start e,
   )
 

@@ -96,7 +96,7 @@ unfolding opened table_5
 check_11 = refl
 
 module _ (output : List ℕ) (areas lent : List (List ℕ)) (room : 50 ≤ length output) (enough : long_enough make_areas areas ≡ true)
-    (lent-enough : long_enough check_areas lent ≡ true) where
+    (lent_enough : long_enough check_areas lent ≡ true) where
   -- with areas that are long enough, the outcome is what the file, or its refusal, makes of the output
   ends : (book : String) (answer : Answer (List ℕ)) → file_for book ≡ answer
       → made output areas book ≡ written (answer then λ file. fitting (length output) file) output (cleared areas)
@@ -150,7 +150,7 @@ module _ (output : List ℕ) (areas lent : List (List ℕ)) (room : 50 ≤ lengt
   turned_down_so : (book : String) (file : List ℕ) → checked_file small_tower (ascii book) file ≡ give (not_good Broken)
       → TurnedDown file lent book (byte "e")
   unfolding checked check_outcome verdict verdict_said reason_said
-  turned_down_so book file e = record { said = rw (lent-enough, e); clear = rw lent-enough }
+  turned_down_so book file e = record { said = rw (lent_enough, e); clear = rw lent_enough }
 
   pub eleven_outcomes : SmallTowerTable output areas lent
   unfolding table_1 table_5 table_6 table_7 number_at

@@ -43,39 +43,39 @@ use Rattle.outcome.proofs.Refusals.{One, tower_only, book_only, make_enough, mak
 
 -- ---- what fit files give
 
-pub makeable : (tower-file text : List ℕ) (tower : Tower) (book : Book) → FitFiles tower-file text tower book → Makeable tower book
-makeable tower-file text tower book fit =
-    record { listed = (tower_fits tower-file tower fit.tower_read).listed; fit = book_fit tower.marks text book fit.book_read }
+pub makeable : (tower_file text : List ℕ) (tower : Tower) (book : Book) → FitFiles tower_file text tower book → Makeable tower book
+makeable tower_file text tower book fit =
+    record { listed = (tower_fits tower_file tower fit.tower_read).listed; fit = book_fit tower.marks text book fit.book_read }
 
 -- bytes that are read as a table hold one
 pub laid_table : (tower : Tower) (file : List ℕ) (table : Table) → FitTable tower file table → IsTable table
 unfolding FitTable
 laid_table tower file table laid =
-    let (is-laid, states, actions, same) = table_read tower file table laid in subst IsTable same (laid_out_fits file is-laid).is_table
+    let (is_laid, states, actions, same) = table_read tower file table laid in subst IsTable same (laid_out_fits file is_laid).is_table
 
-pub judgeable : (tower-file text file : List ℕ) (tower : Tower) (book : Book) (table : Table) → FitFiles tower-file text tower book
+pub judgeable : (tower_file text file : List ℕ) (tower : Tower) (book : Book) (table : Table) → FitFiles tower_file text tower book
     → FitTable tower file table → Judgeable tower book table
-judgeable tower-file text file tower book table fit laid =
-    let able = makeable tower-file text tower book fit in
+judgeable tower_file text file tower book table fit laid =
+    let able = makeable tower_file text tower book fit in
     record { listed = able.listed; fit = able.fit; is_table = laid_table tower file table laid }
 
 -- ---- what a call shows
 
 -- files from which a table file is made are fit
-made_fit : (tower-file text file : List ℕ) → made_file tower-file text ≡ give file → Fit tower-file text
+made_fit : (tower_file text file : List ℕ) → made_file tower_file text ≡ give file → Fit tower_file text
 unfolding made_file
-made_fit tower-file text file e =
-    let (tower, a, e1) = then_gives (read_tower tower-file) _ e in
+made_fit tower_file text file e =
+    let (tower, a, e1) = then_gives (read_tower tower_file) _ e in
     let (book, b, e2) = then_gives (read_book tower.marks text) _ e1 in
     record { tower = tower; book = book; fit = record { tower_read = a; book_read = b } }
 
 -- From a made call.
-pub call_fit : (tower-file text : List ℕ) (n : ℕ) (file : List ℕ) → MadeCall tower-file text n file → Fit tower-file text
-call_fit tower-file text n file call = made_fit tower-file text file (made_call tower-file text n file call).0
+pub call_fit : (tower_file text : List ℕ) (n : ℕ) (file : List ℕ) → MadeCall tower_file text n file → Fit tower_file text
+call_fit tower_file text n file call = made_fit tower_file text file (made_call tower_file text n file call).0
 
 -- one tower is in a file
-pub one_tower : (tower-file : List ℕ) (tower other : Tower) → read_tower tower-file ≡ give tower → read_tower tower-file ≡ give other → tower ≡ other
-one_tower tower-file tower other e f = give_one (sym e ∙ f)
+pub one_tower : (tower_file : List ℕ) (tower other : Tower) → read_tower tower_file ≡ give tower → read_tower tower_file ≡ give other → tower ≡ other
+one_tower tower_file tower other e f = give_one (sym e ∙ f)
   where
     give_one : give tower ≡ give other → tower ≡ other
     give_one g = cc
@@ -95,50 +95,50 @@ refuse_one : {q r : Refusal} → ◌≡◌ {A = Answer (List ℕ)} (refuse q) (r
 refuse_one e = cc
 
 -- a refusal with another number comes from files that are fit
-chain_fit : (tower-file text : List ℕ) (room : ℕ) (r : Refusal) → (One of_files r → ⊥)
-    → (made_file tower-file text then λ file. fitting room file) ≡ refuse r → Fit tower-file text
+chain_fit : (tower_file text : List ℕ) (room : ℕ) (r : Refusal) → (One of_files r → ⊥)
+    → (made_file tower_file text then λ file. fitting room file) ≡ refuse r → Fit tower_file text
 unfolding One some_of made_file
-chain_fit tower-file text room r not-of-files e = by_tower (read_tower tower-file) refl
+chain_fit tower_file text room r not_of_files e = by_tower (read_tower tower_file) refl
   where
-    bad_tower : (q : Refusal) → read_tower tower-file ≡ refuse q → q ≡ r
+    bad_tower : (q : Refusal) → read_tower tower_file ≡ refuse q → q ≡ r
     bad_tower q f = refuse_one (sym (then_stays _ (then_stays _ f)) ∙ e)
 
-    bad_book : (tower : Tower) (q : Refusal) → read_tower tower-file ≡ give tower → read_book tower.marks text ≡ refuse q → q ≡ r
+    bad_book : (tower : Tower) (q : Refusal) → read_tower tower_file ≡ give tower → read_book tower.marks text ≡ refuse q → q ≡ r
     bad_book tower q f g = refuse_one (sym (then_stays _ (then_on _ f ∙ then_stays _ g)) ∙ e)
 
-    by_book : (tower : Tower) → read_tower tower-file ≡ give tower → (o : Answer Book) → read_book tower.marks text ≡ o → Fit tower-file text
+    by_book : (tower : Tower) → read_tower tower_file ≡ give tower → (o : Answer Book) → read_book tower.marks text ≡ o → Fit tower_file text
     by_book tower f (refuse q) g =
-        absurd (not-of-files (subst (One of_files) (bad_book tower q f g)
+        absurd (not_of_files (subst (One of_files) (bad_book tower q f g)
         ((book_only (One of_files) (λ l. refl) (λ l. refl) (λ l. refl) (λ l. refl) (λ l. refl) tower.marks text).only q g)))
     by_book tower f (give book) g = record { tower = tower; book = book; fit = record { tower_read = f; book_read = g } }
 
-    by_tower : (o : Answer Tower) → read_tower tower-file ≡ o → Fit tower-file text
+    by_tower : (o : Answer Tower) → read_tower tower_file ≡ o → Fit tower_file text
     by_tower (refuse q) f =
-        absurd (not-of-files (subst (One of_files) (bad_tower q f) ((tower_only (One of_files) refl refl refl refl refl tower-file).only q f)))
+        absurd (not_of_files (subst (One of_files) (bad_tower q f) ((tower_only (One of_files) refl refl refl refl refl tower_file).only q f)))
     by_tower (give tower) f = by_book tower f (read_book tower.marks text) refl
 
 -- From a refusal whose number is not about the files, such as 11, 20 and 12.
-pub refused_fit : (tower-file text output : List ℕ) (areas : List (List ℕ)) (r : Refusal) → (One of_files r → ⊥)
-    → (make_outcome tower-file text output areas).answer ≡ Make.Refused r → Fit tower-file text
+pub refused_fit : (tower_file text output : List ℕ) (areas : List (List ℕ)) (r : Refusal) → (One of_files r → ⊥)
+    → (make_outcome tower_file text output areas).answer ≡ Make.Refused r → Fit tower_file text
 unfolding One some_of
-refused_fit tower-file text output areas r not-of-files e =
+refused_fit tower_file text output areas r not_of_files e =
     whether (long_enough make_areas areas)
     (λ enough.
-    chain_fit tower-file text (length output) r not-of-files
-    (written_refused _ output [] r (sym (make_enough tower-file text output areas enough).0 ∙ e)))
+    chain_fit tower_file text (length output) r not_of_files
+    (written_refused _ output [] r (sym (make_enough tower_file text output areas enough).0 ∙ e)))
     (λ short.
-    let f : Make.Refused Area ≡ Make.Refused r = sym (make_short tower-file text output areas short).0 ∙ e in
+    let f : Make.Refused Area ≡ Make.Refused r = sym (make_short tower_file text output areas short).0 ∙ e in
     let g : Area ≡ r = cc in
-    absurd (not-of-files (subst (One of_files) g refl)))
+    absurd (not_of_files (subst (One of_files) g refl)))
 
 -- ---- what a call that made a table wrote: the file of a table that is given
 
-pub record CallWrote (tower-file : List ℕ) (n : ℕ) (file : List ℕ) (tower : Tower) (book : Book) : Type 0 where
+pub record CallWrote (tower_file : List ℕ) (n : ℕ) (file : List ℕ) (tower : Tower) (book : Book) : Type 0 where
   pub table : Table
   pub given : GivenTable tower book table
   pub few : MoreThan most_pairs (ReachedPair tower book) → ⊥
   pub narrow : GivesOver tower book → ⊥
-  pub same : table_file (layout_of tower-file) tower.states tower.actions table ≡ file
+  pub same : table_file (layout_of tower_file) tower.states tower.actions table ≡ file
   pub size : length file ≡ n
 
 -- a table is given only where there are not too many pairs
@@ -153,12 +153,12 @@ table_narrow tower book able table is wide =
     let made = table_made tower book able table is in
     never_both ((over_alternatives_iff tower book able.listed made.few).1 wide) made.narrow
 
-pub wrote : (tower-file text file : List ℕ) (n : ℕ) (tower : Tower) (book : Book) → FitFiles tower-file text tower book
-    → MadeCall tower-file text n file → CallWrote tower-file n file tower book
-wrote tower-file text file n tower book fit call =
-    let (gives, size) = made_call tower-file text n file call in
-    let (table, is, same) = file_of tower-file text file tower book fit gives in
-    let able = makeable tower-file text tower book fit in
+pub wrote : (tower_file text file : List ℕ) (n : ℕ) (tower : Tower) (book : Book) → FitFiles tower_file text tower book
+    → MadeCall tower_file text n file → CallWrote tower_file n file tower book
+wrote tower_file text file n tower book fit call =
+    let (gives, size) = made_call tower_file text n file call in
+    let (table, is, same) = file_of tower_file text file tower book fit gives in
+    let able = makeable tower_file text tower book fit in
     record {
       table = table;
       given = given_table tower book able table is;
@@ -192,57 +192,57 @@ module _ (file output : List ℕ) where
   )
 
 -- a file that is made and fits is answered by its length
-pub file_answered : (tower-file text output : List ℕ) (areas : List (List ℕ)) (file : List ℕ) → long_enough make_areas areas ≡ true
-    → made_file tower-file text ≡ give file → length file ≤ length output
-    → (make_outcome tower-file text output areas).answer ≡ Make.Made (length file)
-file_answered tower-file text output areas file enough e le =
-    (make_enough tower-file text output areas enough).0
+pub file_answered : (tower_file text output : List ℕ) (areas : List (List ℕ)) (file : List ℕ) → long_enough make_areas areas ≡ true
+    → made_file tower_file text ≡ give file → length file ≤ length output
+    → (make_outcome tower_file text output areas).answer ≡ Make.Made (length file)
+file_answered tower_file text output areas file enough e le =
+    (make_enough tower_file text output areas enough).0
     ∙ ap (λ o. (written o output []).answer) (then_on (λ f. fitting (length output) f) e) ∙ (fits_in file output le).0
 
-pub file_no_room : (tower-file text output : List ℕ) (areas : List (List ℕ)) (file : List ℕ) → long_enough make_areas areas ≡ true
-    → made_file tower-file text ≡ give file → length output < length file
-    → (make_outcome tower-file text output areas).answer ≡ Make.Refused Output
-file_no_room tower-file text output areas file enough e lt =
-    (make_enough tower-file text output areas enough).0
+pub file_no_room : (tower_file text output : List ℕ) (areas : List (List ℕ)) (file : List ℕ) → long_enough make_areas areas ≡ true
+    → made_file tower_file text ≡ give file → length output < length file
+    → (make_outcome tower_file text output areas).answer ≡ Make.Refused Output
+file_no_room tower_file text output areas file enough e lt =
+    (make_enough tower_file text output areas enough).0
     ∙ ap (λ o. (written o output []).answer) (then_on (λ f. fitting (length output) f) e) ∙ (no_room file output).1 lt
 
 -- a table for the tower and the book of fit files is the answer
-module _ (tower-file text : List ℕ) (tower : Tower) (book : Book) (fit : FitFiles tower-file text tower book) (table : Table)
+module _ (tower_file text : List ℕ) (tower : Tower) (book : Book) (fit : FitFiles tower_file text tower book) (table : Table)
     (gives : table_for tower book ≡ give table) (output : List ℕ) (areas : List (List ℕ)) (enough : long_enough make_areas areas ≡ true) where
   abbrev its_bytes : List ℕ
-  its_bytes = table_file (layout_of tower-file) tower.states tower.actions table
+  its_bytes = table_file (layout_of tower_file) tower.states tower.actions table
 
-  chain : (made_file tower-file text then λ f. fitting (length output) f) ≡ fitting (length output) its_bytes
-  chain = then_on _ (of_file tower-file text tower book fit (give table) gives ∙ then_on _ refl)
+  chain : (made_file tower_file text then λ f. fitting (length output) f) ≡ fitting (length output) its_bytes
+  chain = then_on _ (of_file tower_file text tower book fit (give table) gives ∙ then_on _ refl)
 
-  said : (make_outcome tower-file text output areas).answer ≡ (written (fitting (length output) its_bytes) output []).answer
-  said = (make_enough tower-file text output areas enough).0 ∙ ap (λ o. (written o output []).answer) chain
+  said : (make_outcome tower_file text output areas).answer ≡ (written (fitting (length output) its_bytes) output []).answer
+  said = (make_enough tower_file text output areas enough).0 ∙ ap (λ o. (written o output []).answer) chain
 
-  pub table_answered : length its_bytes ≤ length output → (make_outcome tower-file text output areas).answer ≡ Make.Made (length its_bytes)
+  pub table_answered : length its_bytes ≤ length output → (make_outcome tower_file text output areas).answer ≡ Make.Made (length its_bytes)
   table_answered le = said ∙ (fits_in its_bytes output le).0
 
-  table_written : length its_bytes ≤ length output → (make_outcome tower-file text output areas).output ≡ its_bytes ++ drop (length its_bytes) output
+  table_written : length its_bytes ≤ length output → (make_outcome tower_file text output areas).output ≡ its_bytes ++ drop (length its_bytes) output
   table_written le =
-      make_output tower-file text output areas enough ∙ ap (λ o. (written o output []).output) chain ∙ (fits_in its_bytes output le).1
+      make_output tower_file text output areas enough ∙ ap (λ o. (written o output []).output) chain ∙ (fits_in its_bytes output le).1
 
-  pub table_no_room : length output < length its_bytes → (make_outcome tower-file text output areas).answer ≡ Make.Refused Output
+  pub table_no_room : length output < length its_bytes → (make_outcome tower_file text output areas).answer ≡ Make.Refused Output
   table_no_room lt = said ∙ (no_room its_bytes output).1 lt
 
-  table_room : (make_outcome tower-file text output areas).answer ≡ Make.Refused Output → length output < length its_bytes
+  table_room : (make_outcome tower_file text output areas).answer ≡ Make.Refused Output → length output < length its_bytes
   table_room e = (no_room its_bytes output).0 (sym said ∙ e)
 
-pub makes_table : (tower-file text : List ℕ) (tower : Tower) (book : Book) → FitFiles tower-file text tower book
-    → (table : Table) → IsMade tower book table → table_for tower book ≡ give table → MakesTable tower-file text tower book
-makes_table tower-file text tower book fit table is gives =
+pub makes_table : (tower_file text : List ℕ) (tower : Tower) (book : Book) → FitFiles tower_file text tower book
+    → (table : Table) → IsMade tower book table → table_for tower book ≡ give table → MakesTable tower_file text tower book
+makes_table tower_file text tower book fit table is gives =
     record {
       table = table;
-      file = table_file (layout_of tower-file) tower.states tower.actions table;
+      file = table_file (layout_of tower_file) tower.states tower.actions table;
       made = is;
       its_file = refl;
-      answered = λ output areas enough le. table_answered tower-file text tower book fit table gives output areas enough le;
-      written = λ output areas enough le. table_written tower-file text tower book fit table gives output areas enough le;
+      answered = λ output areas enough le. table_answered tower_file text tower book fit table gives output areas enough le;
+      written = λ output areas enough le. table_written tower_file text tower book fit table gives output areas enough le;
       no_room = λ output areas enough. (
-        λ e. table_room tower-file text tower book fit table gives output areas enough e,
-        λ lt. table_no_room tower-file text tower book fit table gives output areas enough lt,
+        λ e. table_room tower_file text tower book fit table gives output areas enough e,
+        λ lt. table_no_room tower_file text tower book fit table gives output areas enough lt,
       );
     }

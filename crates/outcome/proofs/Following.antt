@@ -13,7 +13,7 @@ use Rattle.base.specs.Answers.{Answer, refuse, give}
 use Rattle.base.specs.declared.Refusal.TheVariants.{Layout, Outside, NotAllowed}
 use Rattle.base.specs.declared.FollowAnswer.{FollowAnswer}
 use Rattle.base.specs.declared.FollowAnswer.TheVariants.{Row, Refused}
-use Rattle.base.proofs.Lists.{whether, whether-there, or_fails_left, or_fails_right, or_neither, or_left, or_right, not_in, some_one}
+use Rattle.base.proofs.Lists.{whether, whether_there, or_fails_left, or_fails_right, or_neither, or_left, or_right, not_in, some_one}
 use Rattle.base.proofs.Answers.{gives_not_refuses, if_gives, if_on, if_refuses}
 use Rattle.logic.specs.Tables.{move, AllowsFrom, Allows}
 use Rattle.logic.specs.Runs.{leads}
@@ -97,12 +97,12 @@ module _ (file : List ℕ) (row action : ℕ) where
       (λ close.
       let r = leb-false (rows_of file) row near in
       let a = leb-false (table_actions file) action close in
-      whether-there (move (table_of file) row action)
+      whether_there (move (table_of file) row action)
       (λ nothing. subst (RightFollow file row action) (sym (says_not_allowed laid r a nothing)) (follow_not laid r a nothing))
       (λ s e.
       let to : FollowsTo file row action s = record { laid = laid; row_inside = r; action_inside = a; moves = e } in
       subst (RightFollow file row action) (sym (follows_in s to)) (follow_row s to)))))
-      (λ not-laid. subst (RightFollow file row action) (sym (says_layout not-laid)) (follow_layout not-laid))
+      (λ not_laid. subst (RightFollow file row action) (sym (says_layout not_laid)) (follow_layout not_laid))
     where
       outside_right : laid_out file ≡ true → (rows_of file ≤ row) ⊎ (table_actions file ≤ action)
           → RightFollow file row action (follow_outcome file row action)

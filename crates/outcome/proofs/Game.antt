@@ -7,7 +7,7 @@ use mathlib.Core.Option.{Option, none, some}
 use mathlib.Core.List.{List, [], ◌∷◌, ◌++◌, Memᴰ}
 use lib.ListN.{length}
 use Rattle.base.specs.Lists.{every, some_of, below, is_there, there_with}
-use Rattle.base.proofs.Lists.{whether, and_both, and_left, and_right, or_left, or_right, not_in, below_every, below_some, there_not, there_with_in, whether-there, some_one, present-map-in, below_mem}
+use Rattle.base.proofs.Lists.{whether, and_both, and_left, and_right, or_left, or_right, not_in, below_every, below_some, there_not, there_with_in, whether_there, some_one, present_map_in, below_mem}
 use Rattle.base.proofs.Search.{search_reached, search_finds}
 use Rattle.base.proofs.Search as Search
 use Rattle.base.proofs.Rounds.{Falling, rest_round_rests}
@@ -66,9 +66,9 @@ module _ (tower : Tower) (book : Book) (listed : Listed tower) (exact : Exact to
   unfolding forced_right NoneWithheld AllowsAction
   forced staying w r v at all a =
       whether (controllable (tower.kind a))
-      (λ yes-ours. or_left _ (or_left _ yes-ours))
+      (λ yes_ours. or_left _ (or_left _ yes_ours))
       (λ not_ours.
-      whether-there (tower.target v.state a)
+      whether_there (tower.target v.state a)
       (λ nowhere. or_left _ (or_right (controllable (tower.kind a)) (not_in (there_not nowhere))))
       (λ y e.
       let allowed = good.b r (inside w r v at) a y (ap (λ x. tower.target x a) (same_state w r v at) ∙ e) not_ours in
@@ -108,7 +108,7 @@ module _ (tower : Tower) (book : Book) (listed : Listed tower) (few : over_pairs
       (pairs_few tower book few)
       (Search.onward
       (search_reached same_pair (pair_followers tower book) pair_weight most_pairs (first_pair tower book) m)
-      (present-map-in (pair_step tower book v) (below tower.actions) (below_mem tower.actions a (pair_step_listed tower book listed v w a e)) e))
+      (present_map_in (pair_step tower book v) (below tower.actions) (below_mem tower.actions a (pair_step_listed tower book listed v w a e)) e))
 
   -- a pair is fine among the staying, whichever of two tests that agree on its steps says what stays
   fine_along : (staying other : Pair → Bool) (v : Pair) → ((a : ℕ) (w : Pair) → pair_step tower book v a ≡ some w → staying w ≡ other w)

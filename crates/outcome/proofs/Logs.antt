@@ -10,7 +10,7 @@ use native.Mathlib.Omega.{arith}
 use lib.ListN.{length, take, drop, take-append-drop}
 use Rattle.base.specs.Lists.{only_if}
 use Rattle.base.specs.Answers.{Answer, refuse, give}
-use Rattle.base.proofs.Lists.{whether-there, none-some, some_one, only_if_out, only_if_in}
+use Rattle.base.proofs.Lists.{whether_there, none-some, some_one, only_if_out, only_if_in}
 use Rattle.base.proofs.Answers.{then_on, then_stays}
 use Rattle.base.specs.declared.Reason.{Reason}
 use Rattle.base.specs.declared.Refusal.{Refusal}
@@ -188,7 +188,7 @@ module _ (tower : Tower) (table : Table) (right : RightBelow tower table (length
         before = (here.row, from_nil here);
         with_it = λ r from. let (row, f, timely, rest) = from_out here s [] r from in none-some e (next_in here s row f timely);
       },
-      λ misfit. whether-there (next_place tower table here s) (λ e. e)
+      λ misfit. whether_there (next_place tower table here s) (λ e. e)
           (λ next e. let (row, f, timely, same) = next_out here s next e in
           absurd (misfit.with_it row (from_in here s [] row row f timely (from_nil (led here s row))))),
     )
@@ -224,7 +224,7 @@ module _ (tower : Tower) (table : Table) (right : RightBelow tower table (length
   unfolding course_along after
   comes [] line here = from_nil here
   comes (s ∷ strokes) line here =
-      whether-there (next_place tower table here s)
+      whether_there (next_place tower table here s)
       (λ e.
       subst (Comes here line.0 (s ∷ strokes)) (sym (course_fails here s strokes line e)) (0, omega arith, (misfit_here here s strokes).0 e))
       (λ next e. on next e (comes strokes (after line) next))
@@ -316,56 +316,56 @@ module _ (tower : Tower) (table : Table) (right : RightBelow tower table (length
 
 -- ---- the answer in every case
 
-module _ (tower-file file log : List ℕ) where
-  tower_said : (r : Refusal) → read_tower tower-file ≡ refuse r → log_outcome tower-file file log ≡ Logged.Refused r
+module _ (tower_file file log : List ℕ) where
+  tower_said : (r : Refusal) → read_tower tower_file ≡ refuse r → log_outcome tower_file file log ≡ Logged.Refused r
   unfolding log_outcome logged_file log_answer
   tower_said r e = ap log_answer (then_stays _ e)
 
-  layout_said : (tower : Tower) → read_tower tower-file ≡ give tower → read_table tower file ≡ refuse Layout
-      → log_outcome tower-file file log ≡ Logged.Refused Layout
+  layout_said : (tower : Tower) → read_tower tower_file ≡ give tower → read_table tower file ≡ refuse Layout
+      → log_outcome tower_file file log ≡ Logged.Refused Layout
   unfolding log_outcome logged_file log_answer
   layout_said tower e f = ap log_answer (then_on _ e ∙ then_stays _ f)
 
   -- behind tower and table it is what the rows say, and the log if they are right
-  rows_said : (tower : Tower) (table : Table) → read_tower tower-file ≡ give tower → FitTable tower file table → (x : Finding)
-      → rows_judged tower table (give good_table) ≡ give x → log_outcome tower-file file log ≡ log_answer (log_after tower table log x)
+  rows_said : (tower : Tower) (table : Table) → read_tower tower_file ≡ give tower → FitTable tower file table → (x : Finding)
+      → rows_judged tower table (give good_table) ≡ give x → log_outcome tower_file file log ≡ log_answer (log_after tower table log x)
   unfolding log_outcome logged_file FitTable
   rows_said tower table e f x g = ap log_answer (then_on _ e ∙ then_on _ f ∙ then_on _ g)
 
-  reason_said : (tower : Tower) (table : Table) → read_tower tower-file ≡ give tower → FitTable tower file table → (q : Reason)
-      → FirstOfRows tower table q → log_outcome tower-file file log ≡ Logged.NotGood q
+  reason_said : (tower : Tower) (table : Table) → read_tower tower_file ≡ give tower → FitTable tower file table → (q : Reason)
+      → FirstOfRows tower table q → log_outcome tower_file file log ≡ Logged.NotGood q
   unfolding log_after log_answer
   reason_said tower table e laid q first =
       rows_said tower table e laid (not_good q)
-      (rows_say tower table (tower_fits tower-file tower e).listed (laid_table tower file table laid) q first (give good_table))
+      (rows_say tower table (tower_fits tower_file tower e).listed (laid_table tower file table laid) q first (give good_table))
 
   -- with a sound table it is what the lines come to
-  module _ (tower : Tower) (table : Table) (sound : SoundTable tower-file file tower table) where
-    passed : log_outcome tower-file file log ≡ log_answer (log_after tower table log good_table)
+  module _ (tower : Tower) (table : Table) (sound : SoundTable tower_file file tower table) where
+    passed : log_outcome tower_file file log ≡ log_answer (log_after tower table log good_table)
     passed =
         rows_said tower table sound.tower_read sound.laid good_table
-        (rows_pass tower table (tower_fits tower-file tower sound.tower_read).listed (laid_table tower file table sound.laid) sound.right
+        (rows_pass tower table (tower_fits tower_file tower sound.tower_read).listed (laid_table tower file table sound.laid) sound.right
         (give good_table))
 
-    form_said : (r : Refusal) → read_log log ≡ refuse r → log_outcome tower-file file log ≡ Logged.Refused r
+    form_said : (r : Refusal) → read_log log ≡ refuse r → log_outcome tower_file file log ≡ Logged.Refused r
     unfolding log_after log_answer
     form_said r e = passed ∙ ap log_answer (then_stays _ e)
 
     lines_said : (strokes : List Stroke) (c : Course) → read_log log ≡ give strokes → followed tower table strokes ≡ c
-        → log_outcome tower-file file log ≡ log_answer (give (comes_to c))
+        → log_outcome tower_file file log ≡ log_answer (give (comes_to c))
     unfolding log_after
     lines_said strokes c e f = passed ∙ ap log_answer (then_on _ e ∙ ap (λ z. give (comes_to z)) f)
 
-  pub log_right : RightLogged tower-file file log (log_outcome tower-file file log)
+  pub log_right : RightLogged tower_file file log (log_outcome tower_file file log)
   unfolding log_answer
-  log_right = by_tower (read_tower tower-file) refl
+  log_right = by_tower (read_tower tower_file) refl
     where
-      answer_by : (x : LogAnswer) → log_outcome tower-file file log ≡ x → RightLogged tower-file file log x
-          → RightLogged tower-file file log (log_outcome tower-file file log)
-      answer_by x e right = subst (RightLogged tower-file file log) (sym e) right
+      answer_by : (x : LogAnswer) → log_outcome tower_file file log ≡ x → RightLogged tower_file file log x
+          → RightLogged tower_file file log (log_outcome tower_file file log)
+      answer_by x e right = subst (RightLogged tower_file file log) (sym e) right
 
-      by_course : (tower : Tower) (table : Table) → SoundTable tower-file file tower table → (strokes : List Stroke) → read_log log ≡ give strokes
-          → (c : Course) → followed tower table strokes ≡ c → RightLogged tower-file file log (log_outcome tower-file file log)
+      by_course : (tower : Tower) (table : Table) → SoundTable tower_file file tower table → (strokes : List Stroke) → read_log log ≡ give strokes
+          → (c : Course) → followed tower table strokes ≡ c → RightLogged tower_file file log (log_outcome tower_file file log)
       by_course tower table sound strokes e (Fits place) f =
           answer_by (Logged.Row place.row) (lines_said tower table sound strokes (Fits place) e f)
           (log_fits tower table sound strokes e place.row ((fits_iff tower table sound.right strokes place.row).0 (place.due, f)))
@@ -373,36 +373,36 @@ module _ (tower-file file log : List ℕ) where
           answer_by (Logged.Line n.0) (lines_said tower table sound strokes (Fails n place s) e f)
           (log_misfit tower table sound strokes e n ((fails_iff tower table sound.right strokes n).0 (place, (s, f))))
 
-      by_lines : (tower : Tower) (table : Table) → SoundTable tower-file file tower table → (o : Answer (List Stroke)) → read_log log ≡ o
-          → RightLogged tower-file file log (log_outcome tower-file file log)
+      by_lines : (tower : Tower) (table : Table) → SoundTable tower_file file tower table → (o : Answer (List Stroke)) → read_log log ≡ o
+          → RightLogged tower_file file log (log_outcome tower_file file log)
       by_lines tower table sound (refuse r) e =
           let (line, same) = (lines_only (λ q. (l : ℕ) × (Log l ≡ q)) (λ l. (l, refl)) log).only r e in
           let f : read_log log ≡ refuse (Log line) = e ∙ ap refuse (sym same) in
           answer_by (Logged.Refused (Log line)) (form_said tower table sound (Log line) f) (log_form tower table sound line f)
       by_lines tower table sound (give strokes) e = by_course tower table sound strokes e (followed tower table strokes) refl
 
-      by_rows : (tower : Tower) (table : Table) → read_tower tower-file ≡ give tower → FitTable tower file table
+      by_rows : (tower : Tower) (table : Table) → read_tower tower_file ≡ give tower → FitTable tower file table
           → ((q : Reason) × FirstOfRows tower table q) ⊎ RightBelow tower table (length table)
-          → RightLogged tower-file file log (log_outcome tower-file file log)
+          → RightLogged tower_file file log (log_outcome tower_file file log)
       by_rows tower table e laid (inl (q, first)) =
           answer_by (Logged.NotGood q) (reason_said tower table e laid q first) (log_reason tower table e laid q first)
       by_rows tower table e laid (inr right) =
           by_lines tower table (record { tower_read = e; laid = laid; right = right }) (read_log log) refl
 
-      by_table : (tower : Tower) → read_tower tower-file ≡ give tower → (o : Answer Table) → read_table tower file ≡ o
-          → RightLogged tower-file file log (log_outcome tower-file file log)
+      by_table : (tower : Tower) → read_tower tower_file ≡ give tower → (o : Answer Table) → read_table tower file ≡ o
+          → RightLogged tower_file file log (log_outcome tower_file file log)
       by_table tower e (refuse r) f =
           let layout : read_table tower file ≡ refuse Layout = f ∙ ap refuse (sym ((table_only (λ q. Layout ≡ q) refl tower file).only r f)) in
           answer_by (Logged.Refused Layout) (layout_said tower e layout) (log_layout tower e layout)
       by_table tower e (give table) f =
           let laid : FitTable tower file table = unfold FitTable in f in
-          by_rows tower table e laid (rows_decided tower table (tower_fits tower-file tower e).listed (laid_table tower file table laid))
+          by_rows tower table e laid (rows_decided tower table (tower_fits tower_file tower e).listed (laid_table tower file table laid))
 
-      by_tower : (o : Answer Tower) → read_tower tower-file ≡ o → RightLogged tower-file file log (log_outcome tower-file file log)
+      by_tower : (o : Answer Tower) → read_tower tower_file ≡ o → RightLogged tower_file file log (log_outcome tower_file file log)
       by_tower (refuse r) e = answer_by (Logged.Refused r) (tower_said r e) (log_tower r e)
       by_tower (give tower) e = by_table tower e (read_table tower file) refl
 
-  pub log_only : (x : LogAnswer) → RightLogged tower-file file log x → log_outcome tower-file file log ≡ x
+  pub log_only : (x : LogAnswer) → RightLogged tower_file file log x → log_outcome tower_file file log ≡ x
   unfolding log_answer
   log_only _ (log_tower r e) = tower_said r e
   log_only _ (log_layout tower e f) = layout_said tower e f
@@ -416,12 +416,12 @@ module _ (tower-file file log : List ℕ) where
 
   -- what an answer without complaint of the files shows
   abbrev Shows : LogAnswer → Type 0
-  Shows (Logged.Row r) = FinalRow tower-file file log r
-  Shows (Logged.Line k) = NamedLine tower-file file log k
+  Shows (Logged.Row r) = FinalRow tower_file file log r
+  Shows (Logged.Line k) = NamedLine tower_file file log k
   Shows (Logged.NotGood q) = Unit {0}
   Shows (Logged.Refused r) = Unit {0}
 
-  shows : (x : LogAnswer) → RightLogged tower-file file log x → Shows x
+  shows : (x : LogAnswer) → RightLogged tower_file file log x → Shows x
   shows _ (log_tower r e) = tt
   shows _ (log_layout tower e f) = tt
   shows _ (log_reason tower table e laid q first) = tt
@@ -431,15 +431,15 @@ module _ (tower-file file log : List ℕ) where
   shows _ (log_fits tower table sound strokes e r run) =
       record { tower = tower; table = table; strokes = strokes; sound = sound; read = e; run = run }
 
-  pub final_row : (r : ℕ) → (log_outcome tower-file file log ≡ Logged.Row r) ↔ FinalRow tower-file file log r
+  pub final_row : (r : ℕ) → (log_outcome tower_file file log ≡ Logged.Row r) ↔ FinalRow tower_file file log r
   final_row r = (
-    λ e. subst Shows e (shows (log_outcome tower-file file log) log_right),
+    λ e. subst Shows e (shows (log_outcome tower_file file log) log_right),
     λ final. log_only (Logged.Row r) (log_fits final.tower final.table final.sound final.strokes final.read r final.run),
   )
 
-  pub named_line : (k : ℕ) → (log_outcome tower-file file log ≡ Logged.Line k) ↔ NamedLine tower-file file log k
+  pub named_line : (k : ℕ) → (log_outcome tower_file file log ≡ Logged.Line k) ↔ NamedLine tower_file file log k
   named_line k = (
-    λ e. subst Shows e (shows (log_outcome tower-file file log) log_right),
+    λ e. subst Shows e (shows (log_outcome tower_file file log) log_right),
     λ named.
         log_only (Logged.Line k)
         (log_misfit named.tower named.table named.sound named.strokes named.read (position k) named.misfit),
@@ -453,9 +453,9 @@ unfolding logged_actions
 logged_parts n strokes =
     ap (map (λ s. s.action)) (sym (take-append-drop n strokes)) ∙ map-append (λ s. s.action) (take n strokes) (drop n strokes)
 
-module _ (tower-file text file log : List ℕ) (holds : HoldsGood tower-file text file) where
+module _ (tower_file text file log : List ℕ) (holds : HoldsGood tower_file text file) where
   allowed_unbroken : (tower : Tower) (table : Table) → FitTable tower file table → (strokes : List Stroke) → read_log log ≡ give strokes
-      → (n : ℕ) → Allows table (logged_actions (take n strokes)) → LogUnbroken tower-file text log n
+      → (n : ℕ) → Allows table (logged_actions (take n strokes)) → LogUnbroken tower_file text log n
   unfolding FitTable NoneBroken
   allowed_unbroken tower table laid strokes e n allowed =
       record {
@@ -470,22 +470,22 @@ module _ (tower-file text file log : List ℕ) (holds : HoldsGood tower-file tex
       same : table ≡ holds.table
       same = sym (table_read tower file table laid).3 ∙ (table_read holds.tower file holds.table holds.laid).3
 
-  pub fits_unbroken : (r : ℕ) → log_outcome tower-file file log ≡ Logged.Row r → (n : ℕ) → LogUnbroken tower-file text log n
+  pub fits_unbroken : (r : ℕ) → log_outcome tower_file file log ≡ Logged.Row r → (n : ℕ) → LogUnbroken tower_file text log n
   unfolding Allows AllowsFrom
-  fits_unbroken r e n = go ((final_row tower-file file log r).0 e)
+  fits_unbroken r e n = go ((final_row tower_file file log r).0 e)
     where
-      go : FinalRow tower-file file log r → LogUnbroken tower-file text log n
+      go : FinalRow tower_file file log r → LogUnbroken tower_file text log n
       go final =
           let (q, f, g) =
           append_out (move final.table) 0 r (logged_actions (take n final.strokes)) (logged_actions (drop n final.strokes))
           (subst (λ w. leads (move final.table) 0 w ≡ some r) (logged_parts n final.strokes) final.run.run) in
           allowed_unbroken final.tower final.table final.sound.laid final.strokes final.read n (q, f)
 
-  pub before_unbroken : (k : ℕ) → log_outcome tower-file file log ≡ Logged.Line k → LogUnbroken tower-file text log k
+  pub before_unbroken : (k : ℕ) → log_outcome tower_file file log ≡ Logged.Line k → LogUnbroken tower_file text log k
   unfolding Allows AllowsFrom
-  before_unbroken k e = go ((named_line tower-file file log k).0 e)
+  before_unbroken k e = go ((named_line tower_file file log k).0 e)
     where
-      go : NamedLine tower-file file log k → LogUnbroken tower-file text log k
+      go : NamedLine tower_file file log k → LogUnbroken tower_file text log k
       go named =
           allowed_unbroken named.tower named.table named.sound.laid named.strokes named.read k
           (named.misfit.before.0, named.misfit.before.1.run)

@@ -10,7 +10,7 @@ use mathlib.Core.List.{List, [], ◌∷◌, map, Memᴰ}
 use lib.ListN.{length, get_or, length-map}
 use native.Mathlib.Omega.{arith}
 use Rattle.base.specs.Lists.{every, below, is_there, there_with, same_option}
-use Rattle.base.proofs.Lists.{Rising, same_truth, never_both, and_left, and_right, or_cases, is_there_in, is_there_out, whether-there, none-some, some_one, there_with_out, only_if_in, every_below, some_below, below_mem, mem_below, present-map-out, present-map-in, present_map_same, below_ascending}
+use Rattle.base.proofs.Lists.{Rising, same_truth, never_both, and_left, and_right, or_cases, is_there_in, is_there_out, whether_there, none-some, some_one, there_with_out, only_if_in, every_below, some_below, below_mem, mem_below, present_map_out, present_map_in, present_map_same, below_ascending}
 use borrow.Author.Tests.{not-true}
 use Rattle.base.proofs.Search.{MeetsAll, MetInOrder, few_once, search_order}
 use Rattle.base.specs.Search.{once}
@@ -89,7 +89,7 @@ module _ (tower : Tower) (book : Book) where
       × (s ≡ record { action = a; target = row_number tower book w })
   unfolding made_row
   made_step_out v s m =
-      let (a, n, e) = present-map-out (λ a. row_step tower book a (safe_step tower book v a)) (below tower.actions) m in
+      let (a, n, e) = present_map_out (λ a. row_step tower book a (safe_step tower book v a)) (below tower.actions) m in
       let (w, f, g) = row_step_out a (safe_step tower book v a) s e in
       (a, w, mem_below tower.actions n, f, g)
 
@@ -145,7 +145,7 @@ module _ (tower : Tower) (book : Book) where
         go : (o : Option Pair) → safe_step tower book v a ≡ o
             → step_to (made_row tower book v).steps a ≡ Option.map (row_number tower book) o
         go none e =
-            whether-there (step_to (made_row tower book v).steps a) (λ f. f)
+            whether_there (step_to (made_row tower book v).steps a) (λ f. f)
             (λ p f.
             let (s, m, g, _) = step_in (made_row tower book v).steps a p f in
             let (b, w, l, h, k) = made_step_out v s m in
@@ -153,7 +153,7 @@ module _ (tower : Tower) (book : Book) where
         go (some w) e =
             step_found (record { action = a; target = row_number tower book w }) (made_row tower book v).steps
             (ascending_once (made_row tower book v).steps (made_ascending v))
-            (present-map-in (λ a. row_step tower book a (safe_step tower book v a)) (below tower.actions)
+            (present_map_in (λ a. row_step tower book a (safe_step tower book v a)) (below tower.actions)
             (below_mem tower.actions a (safe_listed tower book known v a w e)) (ap (row_step tower book a) e))
 
     -- Row r moves as its pair does.

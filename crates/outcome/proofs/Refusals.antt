@@ -137,7 +137,7 @@ module _ (P : Refusal → Type 0) where
   fitting_only output room file = if_only Output (ltb room (length file)) _ output (give_only file)
 
   -- the checker: 11, 20
-  found_only : (q : Reason) (b : Bool) (o : Answer Finding) → Only P o → Only P (q found-if b else o)
+  found_only : (q : Reason) (b : Bool) (o : Answer Finding) → Only P o → Only P (q found_if b else o)
   unfolding ◌found-if◌else◌
   found_only q true o rest = give_only (not_good q)
   found_only q false o rest = rest
@@ -183,21 +183,21 @@ said_only say numbers refusals values (give x) only = values x
 
 -- ---- a call: 15 if an area is too short, and else what the files say
 
-module _ {X : Type 0} (say : X → Said) (numbers lengths : List ℕ) (areas after : List (List ℕ)) (inner answer at-15 : X)
-    (is-15 : say at-15 ≡ refused 15 0 []) (others : RefusesWith numbers (say inner))
+module _ {X : Type 0} (say : X → Said) (numbers lengths : List ℕ) (areas after : List (List ℕ)) (inner answer at_15 : X)
+    (is_15 : say at_15 ≡ refused 15 0 []) (others : RefusesWith numbers (say inner))
     (enough : long_enough lengths areas ≡ true → (answer ≡ inner) × (after ≡ cleared areas))
-    (short : long_enough lengths areas ≡ false → (answer ≡ at-15) × (after ≡ areas)) where
+    (short : long_enough lengths areas ≡ false → (answer ≡ at_15) × (after ≡ areas)) where
   call_refuses : RefusesWith (15 ∷ numbers) (say answer)
   unfolding RefusesWith some_of
   call_refuses number place inside e =
       whether (long_enough lengths areas)
-      (λ yes-it-is. or_right (eqb number 15) (others number place inside (ap say (sym (enough yes-it-is).0) ∙ e)))
-      (λ it-is-not.
-      let f : refused 15 0 [] ≡ refused number place inside = sym is-15 ∙ ap say (sym (short it-is-not).0) ∙ e in
+      (λ yes_it_is. or_right (eqb number 15) (others number place inside (ap say (sym (enough yes_it_is).0) ∙ e)))
+      (λ it_is_not.
+      let f : refused 15 0 [] ≡ refused number place inside = sym is_15 ∙ ap say (sym (short it_is_not).0) ∙ e in
       let g : 15 ≡ number = cc in
       subst (λ n. (eqb n 15 || some_of (eqb n) numbers) ≡ true) g refl)
 
-  call_areas : some_of (eqb 15) numbers ≡ false → AreasRight lengths areas (answer ≡ at-15) after
+  call_areas : some_of (eqb 15) numbers ≡ false → AreasRight lengths areas (answer ≡ at_15) after
   unfolding RefusesWith
   call_areas no_15 =
       record {
@@ -206,10 +206,10 @@ module _ {X : Type 0} (say : X → Said) (numbers lengths : List ℕ) (areas aft
         zero = λ other. whether (long_enough lengths areas) (λ s. (enough s).1) (λ s. absurd (other (short s).0));
       }
     where
-      too_short : answer ≡ at-15 → long_enough lengths areas ≡ false
+      too_short : answer ≡ at_15 → long_enough lengths areas ≡ false
       too_short e =
           whether (long_enough lengths areas)
-          (λ s. never_both (others 15 0 [] (ap say (sym (enough s).0 ∙ e) ∙ is-15)) no_15)
+          (λ s. never_both (others 15 0 [] (ap say (sym (enough s).0 ∙ e) ∙ is_15)) no_15)
           (λ s. s)
 
 -- ---- the book reader
@@ -249,15 +249,15 @@ module _ (marks : ℕ) (text : List ℕ) (areas : List (List ℕ)) where
 abbrev making : List ℕ
 making = 1 ∷ 2 ∷ 3 ∷ 4 ∷ 5 ∷ 6 ∷ 7 ∷ 8 ∷ 9 ∷ 10 ∷ 11 ∷ 20 ∷ 12 ∷ 16 ∷ []
 
-module _ (tower-file text output : List ℕ) where
+module _ (tower_file text output : List ℕ) where
   abbrev make_chain : Answer (List ℕ)
-  make_chain = made_file tower-file text then λ file. fitting (length output) file
+  make_chain = made_file tower_file text then λ file. fitting (length output) file
 
   make_only : Only (One making) make_chain
   unfolding One some_of made_file
   make_only =
-      then_only (One making) (made_file tower-file text) _
-      (then_only (One making) (read_tower tower-file) _ (tower_only (One making) refl refl refl refl refl tower-file)
+      then_only (One making) (made_file tower_file text) _
+      (then_only (One making) (read_tower tower_file) _ (tower_only (One making) refl refl refl refl refl tower_file)
       (λ tower.
       then_only (One making) (read_book tower.marks text) _
       (book_only (One making) (λ l. refl) (λ l. refl) (λ l. refl) (λ l. refl) (λ l. refl) tower.marks text)
@@ -292,37 +292,37 @@ module _ (tower-file text output : List ℕ) where
 
   module _ (areas : List (List ℕ)) where
     pub make_enough : long_enough make_areas areas ≡ true
-        → ((make_outcome tower-file text output areas).answer ≡ (written make_chain output []).answer)
-        × ((make_outcome tower-file text output areas).areas ≡ cleared areas)
+        → ((make_outcome tower_file text output areas).answer ≡ (written make_chain output []).answer)
+        × ((make_outcome tower_file text output areas).areas ≡ cleared areas)
     unfolding make_outcome
     make_enough e = (rw e (written_answer make_chain (cleared areas) []), rw e (written_areas make_chain (cleared areas)))
 
     pub make_output : long_enough make_areas areas ≡ true
-        → (make_outcome tower-file text output areas).output ≡ (written make_chain output []).output
+        → (make_outcome tower_file text output areas).output ≡ (written make_chain output []).output
     unfolding make_outcome
     make_output e = rw e (written_output make_chain (cleared areas) [])
 
     pub make_short : long_enough make_areas areas ≡ false
-        → ((make_outcome tower-file text output areas).answer ≡ Make.Refused Area) × ((make_outcome tower-file text output areas).areas ≡ areas)
+        → ((make_outcome tower_file text output areas).answer ≡ Make.Refused Area) × ((make_outcome tower_file text output areas).areas ≡ areas)
     unfolding make_outcome written
     make_short e = (rw e refl, rw e refl)
 
-    make_short_output : long_enough make_areas areas ≡ false → (make_outcome tower-file text output areas).output ≡ output
+    make_short_output : long_enough make_areas areas ≡ false → (make_outcome tower_file text output areas).output ≡ output
     unfolding make_outcome written
     make_short_output e = rw e refl
 
-    pub make_refuses : RefusesWith make_numbers (make_said (make_outcome tower-file text output areas).answer)
+    pub make_refuses : RefusesWith make_numbers (make_said (make_outcome tower_file text output areas).answer)
     unfolding make_numbers make_said refusal_said
     make_refuses =
-        call_refuses make_said making make_areas areas (make_outcome tower-file text output areas).areas (written make_chain output []).answer
-        (make_outcome tower-file text output areas).answer (Make.Refused Area) refl make_inner make_enough make_short
+        call_refuses make_said making make_areas areas (make_outcome tower_file text output areas).areas (written make_chain output []).answer
+        (make_outcome tower_file text output areas).answer (Make.Refused Area) refl make_inner make_enough make_short
 
-    pub make_areas_right : AreasRight make_areas areas ((make_outcome tower-file text output areas).answer ≡ Make.Refused Area)
-        (make_outcome tower-file text output areas).areas
+    pub make_areas_right : AreasRight make_areas areas ((make_outcome tower_file text output areas).answer ≡ Make.Refused Area)
+        (make_outcome tower_file text output areas).areas
     unfolding make_said refusal_said some_of
     make_areas_right =
-        call_areas make_said making make_areas areas (make_outcome tower-file text output areas).areas (written make_chain output []).answer
-        (make_outcome tower-file text output areas).answer (Make.Refused Area) refl make_inner make_enough make_short refl
+        call_areas make_said making make_areas areas (make_outcome tower_file text output areas).areas (written make_chain output []).answer
+        (make_outcome tower_file text output areas).answer (Make.Refused Area) refl make_inner make_enough make_short refl
 
     refused_written : (o : Answer (List ℕ)) (r : Refusal) → (written o output []).answer ≡ Make.Refused r → (written o output []).output ≡ output
     unfolding written
@@ -330,21 +330,21 @@ module _ (tower-file text output : List ℕ) where
     refused_written (give file) r e = let z : ◌≡◌ {A = ℕ} 0 1 = cc in absurd (omega arith)
 
     -- A refusal changes no byte of the output.
-    pub make_keeps_output : (r : Refusal) → (make_outcome tower-file text output areas).answer ≡ Make.Refused r
-        → (make_outcome tower-file text output areas).output ≡ output
+    pub make_keeps_output : (r : Refusal) → (make_outcome tower_file text output areas).answer ≡ Make.Refused r
+        → (make_outcome tower_file text output areas).output ≡ output
     make_keeps_output r e =
         whether (long_enough make_areas areas)
         (λ s. make_output s ∙ refused_written make_chain r (sym (make_enough s).0 ∙ e))
         (λ s. make_short_output s)
 
 -- The answer of the maker does not depend on what areas and output hold, only on how long they are.
-pub make_same_answer : (tower-file text output other : List ℕ) (areas lent : List (List ℕ)) → long_enough make_areas areas ≡ true
+pub make_same_answer : (tower_file text output other : List ℕ) (areas lent : List (List ℕ)) → long_enough make_areas areas ≡ true
     → long_enough make_areas lent ≡ true → length output ≡ length other
-    → (make_outcome tower-file text output areas).answer ≡ (make_outcome tower-file text other lent).answer
-make_same_answer tower-file text output other areas lent enough lent-enough same =
-    (make_enough tower-file text output areas enough).0 ∙ answers (made_file tower-file text then λ file. fitting (length output) file)
-    ∙ ap (λ n. (written (made_file tower-file text then λ file. fitting n file) other []).answer) same
-    ∙ sym (make_enough tower-file text other lent lent-enough).0
+    → (make_outcome tower_file text output areas).answer ≡ (make_outcome tower_file text other lent).answer
+make_same_answer tower_file text output other areas lent enough lent_enough same =
+    (make_enough tower_file text output areas enough).0 ∙ answers (made_file tower_file text then λ file. fitting (length output) file)
+    ∙ ap (λ n. (written (made_file tower_file text then λ file. fitting n file) other []).answer) same
+    ∙ sym (make_enough tower_file text other lent lent_enough).0
   where
     answers : (o : Answer (List ℕ)) → (written o output []).answer ≡ (written o other []).answer
     answers (refuse r) = unfold written in refl
@@ -361,11 +361,11 @@ unfolding verdict verdict_said reason_said some_of
 finding_with good_table = answered_with checking []
 finding_with (not_good q) = refused_with checking 14 (row_of q) (letter_of q ∷ []) refl
 
-module _ (tower-file text file : List ℕ) where
-  check_only : Only (One checking) (checked_file tower-file text file)
+module _ (tower_file text file : List ℕ) where
+  check_only : Only (One checking) (checked_file tower_file text file)
   unfolding One some_of checked_file
   check_only =
-      then_only (One checking) (read_tower tower-file) _ (tower_only (One checking) refl refl refl refl refl tower-file)
+      then_only (One checking) (read_tower tower_file) _ (tower_only (One checking) refl refl refl refl refl tower_file)
       (λ tower.
       then_only (One checking) (read_book tower.marks text) _
       (book_only (One checking) (λ l. refl) (λ l. refl) (λ l. refl) (λ l. refl) (λ l. refl) tower.marks text)
@@ -373,36 +373,36 @@ module _ (tower-file text file : List ℕ) where
       then_only (One checking) (read_table tower file) _ (table_only (One checking) refl tower file)
       (λ table. judge_only (One checking) tower table refl refl book)))
 
-  check_inner : RefusesWith checking (verdict_said (verdict (checked_file tower-file text file)))
+  check_inner : RefusesWith checking (verdict_said (verdict (checked_file tower_file text file)))
   unfolding verdict verdict_said
   check_inner =
-      said_only (λ o. verdict_said (verdict o)) checking (λ r. refl) finding_with (checked_file tower-file text file) check_only
+      said_only (λ o. verdict_said (verdict o)) checking (λ r. refl) finding_with (checked_file tower_file text file) check_only
 
   module _ (areas : List (List ℕ)) where
     pub check_enough : long_enough check_areas areas ≡ true
-        → ((check_outcome tower-file text file areas).answer ≡ verdict (checked_file tower-file text file))
-        × ((check_outcome tower-file text file areas).areas ≡ cleared areas)
+        → ((check_outcome tower_file text file areas).answer ≡ verdict (checked_file tower_file text file))
+        × ((check_outcome tower_file text file areas).areas ≡ cleared areas)
     unfolding check_outcome
     check_enough e = (rw e refl, rw e refl)
 
     pub check_short : long_enough check_areas areas ≡ false
-        → ((check_outcome tower-file text file areas).answer ≡ Check.Refused Area) × ((check_outcome tower-file text file areas).areas ≡ areas)
+        → ((check_outcome tower_file text file areas).answer ≡ Check.Refused Area) × ((check_outcome tower_file text file areas).areas ≡ areas)
     unfolding check_outcome verdict
     check_short e = (rw e refl, rw e refl)
 
-    pub check_refuses : RefusesWith check_numbers (verdict_said (check_outcome tower-file text file areas).answer)
+    pub check_refuses : RefusesWith check_numbers (verdict_said (check_outcome tower_file text file areas).answer)
     unfolding check_numbers verdict_said refusal_said
     check_refuses =
-        call_refuses verdict_said checking check_areas areas (check_outcome tower-file text file areas).areas
-        (verdict (checked_file tower-file text file)) (check_outcome tower-file text file areas).answer (Check.Refused Area) refl check_inner
+        call_refuses verdict_said checking check_areas areas (check_outcome tower_file text file areas).areas
+        (verdict (checked_file tower_file text file)) (check_outcome tower_file text file areas).answer (Check.Refused Area) refl check_inner
         check_enough check_short
 
-    pub check_areas_right : AreasRight check_areas areas ((check_outcome tower-file text file areas).answer ≡ Check.Refused Area)
-        (check_outcome tower-file text file areas).areas
+    pub check_areas_right : AreasRight check_areas areas ((check_outcome tower_file text file areas).answer ≡ Check.Refused Area)
+        (check_outcome tower_file text file areas).areas
     unfolding verdict_said refusal_said some_of
     check_areas_right =
-        call_areas verdict_said checking check_areas areas (check_outcome tower-file text file areas).areas
-        (verdict (checked_file tower-file text file)) (check_outcome tower-file text file areas).answer (Check.Refused Area) refl check_inner
+        call_areas verdict_said checking check_areas areas (check_outcome tower_file text file areas).areas
+        (verdict (checked_file tower_file text file)) (check_outcome tower_file text file areas).answer (Check.Refused Area) refl check_inner
         check_enough check_short refl
 
 -- ---- the follower
@@ -438,11 +438,11 @@ log_after_only tower table log (not_good q) = give_only (One logging) _
 log_after_only tower table log good_table =
     then_only (One logging) (read_log log) _ (lines_only (One logging) (λ l. refl) log) (λ strokes. give_only (One logging) _)
 
-pub log_refuses : (tower-file file log : List ℕ) → RefusesWith log_numbers (log_said (log_outcome tower-file file log))
+pub log_refuses : (tower_file file log : List ℕ) → RefusesWith log_numbers (log_said (log_outcome tower_file file log))
 unfolding One some_of log_numbers log_said log_answer log_outcome logged_file
-log_refuses tower-file file log =
-    said_only (λ o. log_said (log_answer o)) logging (λ r. refl) log_finding_with (logged_file tower-file file log)
-    (then_only (One logging) (read_tower tower-file) _ (tower_only (One logging) refl refl refl refl refl tower-file)
+log_refuses tower_file file log =
+    said_only (λ o. log_said (log_answer o)) logging (λ r. refl) log_finding_with (logged_file tower_file file log)
+    (then_only (One logging) (read_tower tower_file) _ (tower_only (One logging) refl refl refl refl refl tower_file)
     (λ tower.
     then_only (One logging) (read_table tower file) _ (table_only (One logging) refl tower file)
     (λ table.

@@ -8,7 +8,7 @@ use mathlib.Core.List.{List, [], ◌∷◌, ◌++◌, Memᴰ}
 use lib.ListN.{length, get_or}
 use native.Mathlib.Omega.{arith}
 use Rattle.base.specs.Lists.{some_of, below, place_of}
-use Rattle.base.proofs.Lists.{same_truth, same_option_out, none-some, some_one, some_of_mem, mem_get_or, mem_along, present-map-out, present-map-in, below_mem, place_of_some, place_of_at}
+use Rattle.base.proofs.Lists.{same_truth, same_option_out, none-some, some_one, some_of_mem, mem_get_or, mem_along, present_map_out, present_map_in, below_mem, place_of_some, place_of_at}
 use Rattle.base.specs.Search.{Apart, once}
 use Rattle.base.proofs.Search.{Reached, start, onward, Fitting, apart_at, apart_few, few_once, search_first, search_reached, search_apart, search_all}
 use Rattle.logic.specs.Tower.{Tower}
@@ -44,12 +44,12 @@ module _ (tower : Tower) (book : Book) where
   follower_in : (v : Pair) (a : ℕ) (w : Pair) → a < tower.actions → safe_step tower book v a ≡ some w
       → Memᴰ w (safe_followers tower book v)
   unfolding safe_followers
-  follower_in v a w l e = present-map-in (safe_step tower book v) (below tower.actions) (below_mem tower.actions a l) e
+  follower_in v a w l e = present_map_in (safe_step tower book v) (below tower.actions) (below_mem tower.actions a l) e
 
   -- A follower is what an allowed action leads to.
   follower_out : (v w : Pair) → Memᴰ w (safe_followers tower book v) → (a : ℕ) × (safe_step tower book v a ≡ some w)
   unfolding safe_followers
-  follower_out v w m = let (a, n, e) = present-map-out (safe_step tower book v) (below tower.actions) m in (a, e)
+  follower_out v w m = let (a, n, e) = present_map_out (safe_step tower book v) (below tower.actions) m in (a, e)
 
   -- The start is led to.
   pub led_first : Led tower book (first_pair tower book)

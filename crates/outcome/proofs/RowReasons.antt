@@ -20,11 +20,11 @@ use Rattle.outcome.specs.VerdictRight.{RowRight, RightBelow, FirstOfRows, reason
 use Rattle.outcome.proofs.Reasons.{start_right, none_withheld, steps_right, goes_right}
 
 -- a chain goes on where its test fails, and ends with its reason where the test holds
-pub found_on : (q : Reason) {b : Bool} (o : Answer Finding) → b ≡ false → (q found-if b else o) ≡ o
+pub found_on : (q : Reason) {b : Bool} (o : Answer Finding) → b ≡ false → (q found_if b else o) ≡ o
 unfolding ◌found-if◌else◌
 found_on q o e = rw e
 
-pub found_here : (q : Reason) {b : Bool} (o : Answer Finding) → b ≡ true → (q found-if b else o) ≡ give (not_good q)
+pub found_here : (q : Reason) {b : Bool} (o : Answer Finding) → b ≡ true → (q found_if b else o) ≡ give (not_good q)
 unfolding ◌found-if◌else◌
 found_here q o e = rw e
 

@@ -25,7 +25,7 @@ pub data Finding : Type 0 where
   not_good : Reason → Finding
 
 infixr 10 ◌found-if◌else◌
--- 'q found-if b else o': reason q is found if b holds, and else o
+-- 'q found_if b else o': reason q is found if b holds, and else o
 unfoldable pub ◌found-if◌else◌ : Reason → Bool → Answer Finding → Answer Finding
 ◌found-if◌else◌ q b o = pick b (λ _. give (not_good q)) (λ _. o)
 
@@ -52,9 +52,9 @@ stopped tower table r = every (λ s. not (goes_on (tower.kind s.action))) (row_a
 -- the first reason of a row, in the order b, c, d; or what comes after
 unfoldable pub judge_row : Tower → Table → ℕ → Answer Finding → Answer Finding
 judge_row tower table r after =
-    Withheld r found-if some_of (withheld tower table r) (below tower.actions) else
-    Why.WrongStep r found-if some_of (wrong_step tower table r) (row_at table r).steps else
-    Stopped r found-if stopped tower table r else
+    Withheld r found_if some_of (withheld tower table r) (below tower.actions) else
+    Why.WrongStep r found_if some_of (wrong_step tower table r) (row_at table r).steps else
+    Stopped r found_if stopped tower table r else
     after
 
 -- the rows in turn
@@ -64,7 +64,7 @@ judge_rows tower table (r ∷ rs) after = judge_row tower table r (judge_rows to
 
 -- 14 a; 14 b to d by row; or what comes after
 abbrev pub rows_judged : Tower → Table → Answer Finding → Answer Finding
-rows_judged tower table after = Start found-if wrong_start tower table else judge_rows tower table (below (length table)) after
+rows_judged tower table after = Start found_if wrong_start tower table else judge_rows tower table (below (length table)) after
 
 -- ---- 11, 20 and reason e: rows with what is pending, which are the pairs of the table as a tower
 
@@ -92,7 +92,7 @@ judge tower book table =
     rows_judged tower table
     (Pairs if over_items tower book table else
     Alternatives if over_alternatives (rows_tower tower table) book else
-    Broken found-if some_broken (rows_tower tower table) book else
+    Broken found_if some_broken (rows_tower tower table) book else
     give good_table)
 
 -- files of a tower, a book and a table

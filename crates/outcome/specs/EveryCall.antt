@@ -26,10 +26,10 @@ unfoldable pub RefusesWith : List ℕ → Said → Type 0
 RefusesWith numbers said = (number place : ℕ) (inside : List ℕ) → said ≡ refused number place inside → some_of (eqb number) numbers ≡ true
 
 -- The lent areas, of which these lengths are asked, before and after a call that may have been refused with 15.
-pub record AreasRight (lengths : List ℕ) (areas : List (List ℕ)) (Refused-15 : Type 0) (after : List (List ℕ)) : Type 0 where
+pub record AreasRight (lengths : List ℕ) (areas : List (List ℕ)) (Refused_15 : Type 0) (after : List (List ℕ)) : Type 0 where
   -- 15 is answered exactly if an area is too short,
-  pub exactly : Refused-15 ↔ (long_enough lengths areas ≡ false)
+  pub exactly : Refused_15 ↔ (long_enough lengths areas ≡ false)
   -- and then every area is as it was;
-  pub untouched : Refused-15 → after ≡ areas
+  pub untouched : Refused_15 → after ≡ areas
   -- in every other case every area is zero over its whole length.
-  pub zero : (Refused-15 → ⊥) → after ≡ cleared areas
+  pub zero : (Refused_15 → ⊥) → after ≡ cleared areas

@@ -46,39 +46,39 @@ pub data RightRead (marks : ℕ) (text : List ℕ) (areas : List (List ℕ)) : B
       → RightRead marks text areas (Book.Read (length book) (length (nodes book)))
 
 -- The maker: 15; the tower; the book; 11; 20; 12; 16; or the length of the made table's file.
-pub data RightMake (tower-file text output : List ℕ) (areas : List (List ℕ)) : MakeAnswer → Type 0 where
-  make_area : long_enough make_areas areas ≡ false → RightMake tower-file text output areas (Make.Refused Area)
-  make_tower : long_enough make_areas areas ≡ true → (r : Refusal) → read_tower tower-file ≡ refuse r
-      → RightMake tower-file text output areas (Make.Refused r)
-  make_book : long_enough make_areas areas ≡ true → (tower : Tower) (r : Refusal) → read_tower tower-file ≡ give tower
-      → read_book tower.marks text ≡ refuse r → RightMake tower-file text output areas (Make.Refused r)
-  make_pairs : long_enough make_areas areas ≡ true → (tower : Tower) (book : Book) → FitFiles tower-file text tower book
-      → MoreThan most_pairs (ReachedPair tower book) → RightMake tower-file text output areas (Make.Refused Pairs)
-  make_wide : long_enough make_areas areas ≡ true → (tower : Tower) (book : Book) → FitFiles tower-file text tower book
+pub data RightMake (tower_file text output : List ℕ) (areas : List (List ℕ)) : MakeAnswer → Type 0 where
+  make_area : long_enough make_areas areas ≡ false → RightMake tower_file text output areas (Make.Refused Area)
+  make_tower : long_enough make_areas areas ≡ true → (r : Refusal) → read_tower tower_file ≡ refuse r
+      → RightMake tower_file text output areas (Make.Refused r)
+  make_book : long_enough make_areas areas ≡ true → (tower : Tower) (r : Refusal) → read_tower tower_file ≡ give tower
+      → read_book tower.marks text ≡ refuse r → RightMake tower_file text output areas (Make.Refused r)
+  make_pairs : long_enough make_areas areas ≡ true → (tower : Tower) (book : Book) → FitFiles tower_file text tower book
+      → MoreThan most_pairs (ReachedPair tower book) → RightMake tower_file text output areas (Make.Refused Pairs)
+  make_wide : long_enough make_areas areas ≡ true → (tower : Tower) (book : Book) → FitFiles tower_file text tower book
       → (MoreThan most_pairs (ReachedPair tower book) → ⊥) → GivesOver tower book
-      → RightMake tower-file text output areas (Make.Refused Alternatives)
-  make_none : long_enough make_areas areas ≡ true → (tower : Tower) (book : Book) → FitFiles tower-file text tower book
+      → RightMake tower_file text output areas (Make.Refused Alternatives)
+  make_none : long_enough make_areas areas ≡ true → (tower : Tower) (book : Book) → FitFiles tower_file text tower book
       → (MoreThan most_pairs (ReachedPair tower book) → ⊥) → (GivesOver tower book → ⊥) → ((table : Table) → Good tower book table → ⊥)
-      → RightMake tower-file text output areas (Make.Refused NoTable)
-  make_room : long_enough make_areas areas ≡ true → (tower : Tower) (book : Book) → FitFiles tower-file text tower book
+      → RightMake tower_file text output areas (Make.Refused NoTable)
+  make_room : long_enough make_areas areas ≡ true → (tower : Tower) (book : Book) → FitFiles tower_file text tower book
       → (MoreThan most_pairs (ReachedPair tower book) → ⊥) → (GivesOver tower book → ⊥) → (table : Table) → IsMade tower book table
-      → length output < length (table_file (layout_of tower-file) tower.states tower.actions table) → RightMake tower-file text output areas (Make.Refused Output)
-  make_made : long_enough make_areas areas ≡ true → (tower : Tower) (book : Book) → FitFiles tower-file text tower book
+      → length output < length (table_file (layout_of tower_file) tower.states tower.actions table) → RightMake tower_file text output areas (Make.Refused Output)
+  make_made : long_enough make_areas areas ≡ true → (tower : Tower) (book : Book) → FitFiles tower_file text tower book
       → (MoreThan most_pairs (ReachedPair tower book) → ⊥) → (GivesOver tower book → ⊥) → (table : Table) → IsMade tower book table
-      → length (table_file (layout_of tower-file) tower.states tower.actions table) ≤ length output
-      → RightMake tower-file text output areas (Make.Made (length (table_file (layout_of tower-file) tower.states tower.actions table)))
+      → length (table_file (layout_of tower_file) tower.states tower.actions table) ≤ length output
+      → RightMake tower_file text output areas (Make.Made (length (table_file (layout_of tower_file) tower.states tower.actions table)))
 
 -- The checker: 15; the tower; the book; 13; and then the first reason a to e that holds, 11 and 20 before e, or good.
-pub data RightCheck (tower-file text file : List ℕ) (areas : List (List ℕ)) : Verdict → Type 0 where
-  check_area : long_enough check_areas areas ≡ false → RightCheck tower-file text file areas (Check.Refused Area)
-  check_tower : long_enough check_areas areas ≡ true → (r : Refusal) → read_tower tower-file ≡ refuse r
-      → RightCheck tower-file text file areas (Check.Refused r)
-  check_book : long_enough check_areas areas ≡ true → (tower : Tower) (r : Refusal) → read_tower tower-file ≡ give tower
-      → read_book tower.marks text ≡ refuse r → RightCheck tower-file text file areas (Check.Refused r)
-  check_layout : long_enough check_areas areas ≡ true → (tower : Tower) (book : Book) → FitFiles tower-file text tower book
-      → read_table tower file ≡ refuse Layout → RightCheck tower-file text file areas (Check.Refused Layout)
-  check_judged : long_enough check_areas areas ≡ true → (tower : Tower) (book : Book) (table : Table) → FitFiles tower-file text tower book
-      → FitTable tower file table → (o : Answer Finding) → FirstReason tower book table o → RightCheck tower-file text file areas (verdict o)
+pub data RightCheck (tower_file text file : List ℕ) (areas : List (List ℕ)) : Verdict → Type 0 where
+  check_area : long_enough check_areas areas ≡ false → RightCheck tower_file text file areas (Check.Refused Area)
+  check_tower : long_enough check_areas areas ≡ true → (r : Refusal) → read_tower tower_file ≡ refuse r
+      → RightCheck tower_file text file areas (Check.Refused r)
+  check_book : long_enough check_areas areas ≡ true → (tower : Tower) (r : Refusal) → read_tower tower_file ≡ give tower
+      → read_book tower.marks text ≡ refuse r → RightCheck tower_file text file areas (Check.Refused r)
+  check_layout : long_enough check_areas areas ≡ true → (tower : Tower) (book : Book) → FitFiles tower_file text tower book
+      → read_table tower file ≡ refuse Layout → RightCheck tower_file text file areas (Check.Refused Layout)
+  check_judged : long_enough check_areas areas ≡ true → (tower : Tower) (book : Book) (table : Table) → FitFiles tower_file text tower book
+      → FitTable tower file table → (o : Answer Finding) → FirstReason tower book table o → RightCheck tower_file text file areas (verdict o)
 
 -- The follower: 13, 17, 18, or the target row.
 pub data RightFollow (file : List ℕ) (row action : ℕ) : FollowAnswer → Type 0 where
@@ -89,21 +89,21 @@ pub data RightFollow (file : List ℕ) (row action : ℕ) : FollowAnswer → Typ
   follow_row : (s : ℕ) → FollowsTo file row action s → RightFollow file row action (Follow.Row s)
 
 -- The files of tower and table are fit, and no reason from a to d holds.
-pub record SoundTable (tower-file file : List ℕ) (tower : Tower) (table : Table) : Type 0 where
-  pub tower_read : read_tower tower-file ≡ give tower
+pub record SoundTable (tower_file file : List ℕ) (tower : Tower) (table : Table) : Type 0 where
+  pub tower_read : read_tower tower_file ≡ give tower
   pub laid : FitTable tower file table
   pub right : RightBelow tower table (length table)
 
 -- The log reader (02, item 2): the tower; 13; the first reason a to d; 19; and then the first line that does not fit, or the final row.
-pub data RightLogged (tower-file file log : List ℕ) : LogAnswer → Type 0 where
-  log_tower : (r : Refusal) → read_tower tower-file ≡ refuse r → RightLogged tower-file file log (Logged.Refused r)
-  log_layout : (tower : Tower) → read_tower tower-file ≡ give tower → read_table tower file ≡ refuse Layout
-      → RightLogged tower-file file log (Logged.Refused Layout)
-  log_reason : (tower : Tower) (table : Table) → read_tower tower-file ≡ give tower → FitTable tower file table → (q : Reason)
-      → FirstOfRows tower table q → RightLogged tower-file file log (Logged.NotGood q)
-  log_form : (tower : Tower) (table : Table) → SoundTable tower-file file tower table → (line : ℕ) → read_log log ≡ refuse (Log line)
-      → RightLogged tower-file file log (Logged.Refused (Log line))
-  log_misfit : (tower : Tower) (table : Table) → SoundTable tower-file file tower table → (strokes : List Stroke) → read_log log ≡ give strokes
-      → (n : Position) → FirstMisfit tower table strokes n → RightLogged tower-file file log (Logged.Line n.0)
-  log_fits : (tower : Tower) (table : Table) → SoundTable tower-file file tower table → (strokes : List Stroke) → read_log log ≡ give strokes
-      → (r : ℕ) → LoggedRun tower table strokes r → RightLogged tower-file file log (Logged.Row r)
+pub data RightLogged (tower_file file log : List ℕ) : LogAnswer → Type 0 where
+  log_tower : (r : Refusal) → read_tower tower_file ≡ refuse r → RightLogged tower_file file log (Logged.Refused r)
+  log_layout : (tower : Tower) → read_tower tower_file ≡ give tower → read_table tower file ≡ refuse Layout
+      → RightLogged tower_file file log (Logged.Refused Layout)
+  log_reason : (tower : Tower) (table : Table) → read_tower tower_file ≡ give tower → FitTable tower file table → (q : Reason)
+      → FirstOfRows tower table q → RightLogged tower_file file log (Logged.NotGood q)
+  log_form : (tower : Tower) (table : Table) → SoundTable tower_file file tower table → (line : ℕ) → read_log log ≡ refuse (Log line)
+      → RightLogged tower_file file log (Logged.Refused (Log line))
+  log_misfit : (tower : Tower) (table : Table) → SoundTable tower_file file tower table → (strokes : List Stroke) → read_log log ≡ give strokes
+      → (n : Position) → FirstMisfit tower table strokes n → RightLogged tower_file file log (Logged.Line n.0)
+  log_fits : (tower : Tower) (table : Table) → SoundTable tower_file file tower table → (strokes : List Stroke) → read_log log ≡ give strokes
+      → (r : ℕ) → LoggedRun tower table strokes r → RightLogged tower_file file log (Logged.Row r)

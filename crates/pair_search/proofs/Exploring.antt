@@ -89,8 +89,8 @@ module _ (tower : Tower) (nodes : List ℕ) (wide : Bool) (area index graph : Li
 
   -- ---- one turn
 
-  module _ (done : Round) (after later later-graph : List ℕ) (l : i < n)
-      (turn : Turned done over tower nodes wide area i n after later later-graph) where
+  module _ (done : Round) (after later later_graph : List ℕ) (l : i < n)
+      (turn : Turned done over tower nodes wide area i n after later later_graph) where
     -- The search goes on from the pairs that are met after this one.
     turned : (h : IsHeld nodes)
         → found_on tower h.book (1001 - (i + 1)) (with_new tower h.book (pairs_of nodes area n) (pair_in nodes area i))
@@ -112,7 +112,7 @@ module _ (tower : Tower) (nodes : List ℕ) (wide : Bool) (area index graph : Li
         (drop (i + 1) seen) heavy in
         ap (λ vs. ltb 1000 (total (map pair_weight vs))) all ∙ lt-ltb 1000 (total (map pair_weight seen)) heavy
 
-    pub explore_many : (x : ℕ) → x ≡ entry_first after done.met → 1000 < x → Explored TooMany tower nodes later-graph
+    pub explore_many : (x : ℕ) → x ≡ entry_first after done.met → 1000 < x → Explored TooMany tower nodes later_graph
     unfolding found
     explore_many x at_x many =
         record {
@@ -127,9 +127,9 @@ module _ (tower : Tower) (nodes : List ℕ) (wide : Bool) (area index graph : Li
     pub explore_size : entries_size ≤ length after
     explore_size = turn.grown.filled.size
 
-    pub explore_more : (x : ℕ) → x ≡ entry_first after done.met → x ≤ 1000 → length later ≡ length index → length later-graph ≡ length graph
-        → Exploring tower nodes wide after later later-graph (i + 1) done.met done.over
-    explore_more x at_x few kept kept-graph =
+    pub explore_more : (x : ℕ) → x ≡ entry_first after done.met → x ≤ 1000 → length later ≡ length index → length later_graph ≡ length graph
+        → Exploring tower nodes wide after later later_graph (i + 1) done.met done.over
+    explore_more x at_x few kept kept_graph =
         record {
           inside = omega (arith, turn.grown.least);
           least = omega (arith, turn.grown.least, exploring.least);

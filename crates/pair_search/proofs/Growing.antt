@@ -102,8 +102,8 @@ module _ (tower : Tower) (nodes : List ℕ) (wide : Bool) (first : List ℕ) (i 
       none_left : end - a ≡ 0
       none_left = omega arith
 
-  module _ (m : ℕ) (after later later-graph : List ℕ) (l : a < end)
-      (stepped : Stepped m tower nodes wide area i a n after later later-graph) where
+  module _ (m : ℕ) (after later later_graph : List ℕ) (l : a < end)
+      (stepped : Stepped m tower nodes wide area i a n after later later_graph) where
     kept_on : (j : ℕ) → j < met → entry_at after j ≡ entry_at first j
     kept_on j k = stepped.kept j (omega (arith, g.least)) ∙ g.kept j k
 
@@ -127,9 +127,9 @@ module _ (tower : Tower) (nodes : List ℕ) (wide : Bool) (first : List ℕ) (i 
         (sym (numbers_cons a end l))
         ∙ g.grown h
 
-    pub grow_more : (x : ℕ) → x ≡ entry_first after m → x ≤ 1000 → length later ≡ length index → length later-graph ≡ length graph
-        → Growing tower nodes wide first i met end (a + 1) after later later-graph m
-    grow_more x at_x few kept-index kept-graph =
+    pub grow_more : (x : ℕ) → x ≡ entry_first after m → x ≤ 1000 → length later ≡ length index → length later_graph ≡ length graph
+        → Growing tower nodes wide first i met end (a + 1) after later later_graph m
+    grow_more x at_x few kept_index kept_graph =
         record {
           low = g.low;
           last = g.last;
@@ -147,7 +147,7 @@ module _ (tower : Tower) (nodes : List ℕ) (wide : Bool) (first : List ℕ) (i 
         }
 
     -- They count too many.
-    pub grow_many : (x : ℕ) → x ≡ entry_first after m → 1000 < x → Grown m tower nodes wide first i met after later later-graph
+    pub grow_many : (x : ℕ) → x ≡ entry_first after m → 1000 < x → Grown m tower nodes wide first i met after later later_graph
     grow_many x at_x over =
         record {
           least = omega (arith, g.least, stepped.least);

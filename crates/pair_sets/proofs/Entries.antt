@@ -44,7 +44,7 @@ pub entries_equal : (nodes area : List ℕ) (i j : ℕ) → IsHeld nodes → Bla
     → entry_first area i ≤ entry_first area (i + 1) → entry_first area j ≤ entry_first area (j + 1)
     → entry_number area i ≡ entry_number area j → entry_set nodes area i ≡ entry_set nodes area j → entry_at area i ≡ entry_at area j
 unfolding entry_set
-entries_equal nodes area i j held blank room fits-i fits-j rising-i rising-j numbers sets =
+entries_equal nodes area i j held blank room fits_i fits_j rising_i rising_j numbers sets =
     entry_same area area i j numbers (go (entry_first area (i + 1) - entry_first area i) (entry_first area (j + 1) - entry_first area j)
     (omega arith) (omega arith) counts sets)
   where

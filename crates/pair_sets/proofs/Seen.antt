@@ -37,7 +37,7 @@ module _ {X : Type 0} (value : Entry → X) where
   -- ---- looking up entry n
 
   -- It is one of those before it, or one more, where what is equal has the same number and the same alternatives.
-  module _ (same : X → X → Bool) (same-eq : (x y : X) → same x y ≡ true → x ≡ y) (same_refl : (x : X) → same x x ≡ true) (nodes : List ℕ)
+  module _ (same : X → X → Bool) (same_eq : (x y : X) → same x y ≡ true → x ≡ y) (same_refl : (x : X) → same x x ≡ true) (nodes : List ℕ)
       (held : IsHeld nodes) (numbers : (x y : Entry) → value x ≡ value y → x.number ≡ y.number)
       (sets : (x y : Entry) → value x ≡ value y → held_set nodes x ≡ held_set nodes y) (area : List ℕ) (n : ℕ) (index : List ℕ) (out : Place)
       (blank : Blank nodes area) (noted : Noted out area n index) where
@@ -59,7 +59,7 @@ module _ {X : Type 0} (value : Entry → X) where
         other : (x : X) (j : ℕ) → j < n → value (entry_at area j) ≡ x → same (value (entry_at area n)) x ≡ false
         other x j low e =
             false_by (same (value (entry_at area n)) x) (λ t.
-            let equal = e ∙ sym (same-eq (value (entry_at area n)) x t) in
+            let equal = e ∙ sym (same_eq (value (entry_at area n)) x t) in
             noted.fresh l nodes held blank j low
             (sym (entry_number_is area j) ∙ numbers (entry_at area j) (entry_at area n) equal ∙ entry_number_is area n)
             (set_of_entry nodes area j held ∙ sets (entry_at area j) (entry_at area n) equal ∙ sym (set_of_entry nodes area n held)))

@@ -46,7 +46,7 @@ first_fits nodes area n i f e ready l = omega (arith, before_most nodes area n i
 -- What is read lies before what is written.
 pub parts_apart : (nodes area : List ℕ) (i n f t : ℕ) → f ≡ entry_first area i → t ≡ entry_first area n → Open nodes area n → i < n
     → entry_first area (i + 1) ≡ entry_first area i + 1 → Parts (length area) (nodes_in nodes) (60 * f) (60 * t)
-parts_apart nodes area i n f t at_f at-t ready low one =
+parts_apart nodes area i n f t at_f at_t ready low one =
     let rises = first_rises area n ready.heads.rising (i + 1) n (omega arith) (omega arith) in
     let most = ready.heads.inside in
     record {
@@ -65,10 +65,10 @@ one_alternative nodes area i f at_f one =
     rw (count, place) refl
 
 module _ (b : Bool) (nodes : List ℕ) (mask : ℕ) (d : Tick) (area : List ℕ) (i number n f t : ℕ) (mid : List ℕ)
-    (stepped : Progressed b nodes mask d area (60 * f) (60 * t) mid) (at_f : f ≡ entry_first area i) (at-t : t ≡ entry_first area n)
+    (stepped : Progressed b nodes mask d area (60 * f) (60 * t) mid) (at_f : f ≡ entry_first area i) (at_t : t ≡ entry_first area n)
     (ready : Open nodes area n) (one : entry_first area (i + 1) ≡ entry_first area i + 1) where
   t_most : t ≤ 1000
-  t_most = before_most nodes area n n t at-t ready (omega arith)
+  t_most = before_most nodes area n n t at_t ready (omega arith)
 
   filled : Filled nodes area t 1 (pending_of (part mid (60 * t) (nodes_in nodes)) ∷ []) mid
   filled = filled_one nodes area t mid ready.held (omega (arith, t_most)) stepped.beside
@@ -99,7 +99,7 @@ module _ (b : Bool) (nodes : List ℕ) (mask : ℕ) (d : Tick) (area : List ℕ)
       }
     where
       stays : Stays nodes area n mid
-      stays = filled_stays nodes area n t 1 _ mid ready.heads at-t filled
+      stays = filled_stays nodes area n t 1 _ mid ready.heads at_t filled
 
   -- It is not: the head is written too.
   pub follow_whole : (after : List ℕ)
@@ -109,18 +109,18 @@ module _ (b : Bool) (nodes : List ℕ) (mask : ℕ) (d : Tick) (area : List ℕ)
   follow_whole after written step small =
       record {
         stays = stays;
-        headed = λ _. written_headed nodes area n t 1 _ mid ready.heads at-t filled number after written ready.room ready.most small
+        headed = λ _. written_headed nodes area n t 1 _ mid ready.heads at_t filled number after written ready.room ready.most small
             (omega arith) (omega (arith, t_most));
         says = λ book is sided at. record {
           stays = stays;
-          holds = λ _. rw (comes book is sided at, step) (written_holds nodes area n t 1 _ mid ready.heads at-t filled number after written ready.room
+          holds = λ _. rw (comes book is sided at, step) (written_holds nodes area n t 1 _ mid ready.heads at_t filled number after written ready.room
               ready.most small (omega arith) (omega (arith, t_most)) ready.held);
           none_left = λ e. absurd (let z : ◌≡◌ {A = ℕ} 0 1 = cc in omega arith);
         };
       }
     where
       stays : Stays nodes area n after
-      stays = written_stays nodes area n t 1 _ mid ready.heads at-t filled number after written ready.room ready.most
+      stays = written_stays nodes area n t 1 _ mid ready.heads at_t filled number after written ready.room ready.most
 
 -- ---- copy and take
 
@@ -129,22 +129,22 @@ entered_by : (nodes area : List ℕ) (n t count : ℕ) (s : List Pending) (mid :
     → t ≡ entry_first area n → Filled nodes area t count s mid → 1 ≤ count → count ≤ 16 → number < 65536
     → after ≡ sets (sets mid (entry_heads + 4 * n) (number_bytes 2 number)) (entry_heads + 4 * n + 6) (number_bytes 2 (t + count))
     → Entered true nodes area number n (these s) after
-entered_by nodes area n t count s mid number after ready at-t filled least most small written =
-    let before = before_most nodes area n n t at-t ready (omega arith) in
+entered_by nodes area n t count s mid number after ready at_t filled least most small written =
+    let before = before_most nodes area n n t at_t ready (omega arith) in
     record {
-      stays = written_stays nodes area n t count s mid ready.heads at-t filled number after written ready.room ready.most;
-      holds = λ _. written_holds nodes area n t count s mid ready.heads at-t filled number after written ready.room ready.most small least
+      stays = written_stays nodes area n t count s mid ready.heads at_t filled number after written ready.room ready.most;
+      holds = λ _. written_holds nodes area n t count s mid ready.heads at_t filled number after written ready.room ready.most small least
           (omega arith) ready.held;
       none_left = λ e. absurd (let z : ◌≡◌ {A = ℕ} 0 1 = cc in omega arith);
     }
 
-module _ (nodes area : List ℕ) (j n s e : ℕ) (at-s : s ≡ entry_first area j) (at-e : e ≡ entry_first area (j + 1)) (ready : Open nodes area n)
+module _ (nodes area : List ℕ) (j n s e : ℕ) (at_s : s ≡ entry_first area j) (at_e : e ≡ entry_first area (j + 1)) (ready : Open nodes area n)
     (low : j < n) where
   -- Entry j has alternatives,
   pub copy_some : s ≤ e
   copy_some = omega (arith, ready.heads.rising j low)
 
-  module _ (t : ℕ) (at-t : t ≡ entry_first area n) where
+  module _ (t : ℕ) (at_t : t ≡ entry_first area n) where
     -- which lie before those of entry n.
     pub copy_before : s + (e - s) ≤ t
     copy_before =
@@ -153,27 +153,27 @@ module _ (nodes area : List ℕ) (j n s e : ℕ) (at-s : s ≡ entry_first area 
     module _ (few : entry_first area (j + 1) ≤ entry_first area j + 16) where
       -- There is room for as many.
       pub copy_inside : t + (e - s) ≤ 1016
-      copy_inside = omega (arith, before_most nodes area n n t at-t ready (omega arith))
+      copy_inside = omega (arith, before_most nodes area n n t at_t ready (omega arith))
 
       pub copy_whole : (mid after : List ℕ) (number : ℕ) → Repeated area s t (e - s) mid
           → after ≡ sets (sets mid (entry_heads + 4 * n) (number_bytes 2 number)) (entry_heads + 4 * n + 6) (number_bytes 2 (t + (e - s)))
           → number < 65536 → Entered true nodes area number n (these (entry_set nodes area j)) after
       copy_whole mid after number repeated written small =
-          entered_by nodes area n t (e - s) (entry_set nodes area j) mid number after ready at-t
-          (filled_repeated nodes area j s t (e - s) mid ready.held ready.room at-s (ap (λ z. z - s) at-e) copy_before copy_inside repeated)
+          entered_by nodes area n t (e - s) (entry_set nodes area j) mid number after ready at_t
+          (filled_repeated nodes area j s t (e - s) mid ready.held ready.room at_s (ap (λ z. z - s) at_e) copy_before copy_inside repeated)
           (omega (arith, ready.heads.rising j low)) (omega arith) small written
 
 take_inside : (nodes area : List ℕ) (n t count : ℕ) → t ≡ entry_first area n → Open nodes area n → count ≤ 16 → t + count ≤ 1016
-take_inside nodes area n t count at-t ready few = omega (arith, before_most nodes area n n t at-t ready (omega arith))
+take_inside nodes area n t count at_t ready few = omega (arith, before_most nodes area n n t at_t ready (omega arith))
 
 pub take_whole : (nodes area : List ℕ) (n t cells count : ℕ) (room : List ℕ) (at : ℕ) (mid after : List ℕ) (number : ℕ)
     → Taken cells area t room at count mid
     → after ≡ sets (sets mid (entry_heads + 4 * n) (number_bytes 2 number)) (entry_heads + 4 * n + 6) (number_bytes 2 (t + count))
     → cells ≡ nodes_in nodes → t ≡ entry_first area n → Open nodes area n → 1 ≤ count → count ≤ 16 → number < 65536
     → Entered true nodes area number n (these (set_in room (nodes_in nodes) at count)) after
-take_whole nodes area n t cells count room at mid after number taken written all at-t ready least few small =
-    entered_by nodes area n t count (set_in room (nodes_in nodes) at count) mid number after ready at-t
-    (filled_taken nodes area t room at count mid (take_inside nodes area n t count at-t ready few) (rw all at taken)) least few small written
+take_whole nodes area n t cells count room at mid after number taken written all at_t ready least few small =
+    entered_by nodes area n t count (set_in room (nodes_in nodes) at count) mid number after ready at_t
+    (filled_taken nodes area t room at count mid (take_inside nodes area n t count at_t ready few) (rw all at taken)) least few small written
 
 -- ---- note
 

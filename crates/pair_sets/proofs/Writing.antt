@@ -23,11 +23,11 @@ use Rattle.pair_sets.specs.PairSets.{entry_set, Blank, Stays, Holds, Repeated, T
 use Rattle.pair_sets.proofs.Alternatives.{beside_byte, set_by}
 
 -- So many alternatives from t on are these. What lies before them and the heads stay, and what was blank is so.
-pub record Filled (nodes area : List ℕ) (t count : ℕ) (these-are : List Pending) (mid : List ℕ) : Type 0 where
+pub record Filled (nodes area : List ℕ) (t count : ℕ) (these_are : List Pending) (mid : List ℕ) : Type 0 where
   pub size : length mid ≡ length area
   pub beside : (p : ℕ) → (p < 60 * t) ⊎ (60960 ≤ p) → byte_at mid p ≡ byte_at area p
   pub blank : Blank nodes area → Blank nodes mid
-  pub is : set_in mid (nodes_in nodes) (60 * t) count ≡ these-are
+  pub is : set_in mid (nodes_in nodes) (60 * t) count ≡ these_are
 
 -- ---- the ways to fill them
 
@@ -57,14 +57,14 @@ pub filled_repeated : (nodes area : List ℕ) (j s t count : ℕ) (mid : List �
     → count ≡ entry_first area (j + 1) - s → s + count ≤ t → t + count ≤ 1016 → Repeated area s t count mid
     → Filled nodes area t count (entry_set nodes area j) mid
 unfolding entry_set
-filled_repeated nodes area j s t count mid held room at-s counted low inside r =
+filled_repeated nodes area j s t count mid held room at_s counted low inside r =
     record {
       size = r.size;
       beside = λ p side. r.beside p (far p side);
       blank = λ blank. record { zeros = λ z p l m k. zero_at blank z p l m k (dec_lt z t) (dec_lt z (t + count)) };
       is =
           set_by mid area (nodes_in nodes) (60 * t) (60 * s) count held.few (omega (arith, r.size)) (omega arith) r.same
-          ∙ ap₂ (λ a b. set_in area (nodes_in nodes) (60 * a) b) at-s (rw (← at-s) counted);
+          ∙ ap₂ (λ a b. set_in area (nodes_in nodes) (60 * a) b) at_s (rw (← at_s) counted);
     }
   where
     far : (p : ℕ) → (p < 60 * t) ⊎ (60960 ≤ p) → (p < 60 * t) ⊎ (60 * (t + count) ≤ p)
@@ -107,7 +107,7 @@ stays_by nodes area n after heads same blank =
       blank = blank;
     }
 
-module _ (nodes area : List ℕ) (n t count : ℕ) (s : List Pending) (mid : List ℕ) (heads : Heads area n) (at-t : t ≡ entry_first area n)
+module _ (nodes area : List ℕ) (n t count : ℕ) (s : List Pending) (mid : List ℕ) (heads : Heads area n) (at_t : t ≡ entry_first area n)
     (filled : Filled nodes area t count s mid) where
   filled_before : SameBefore area mid n
   filled_before =
@@ -128,7 +128,7 @@ module _ (nodes area : List ℕ) (n t count : ℕ) (s : List Pending) (mid : Lis
     mid_heads = heads_agree area mid n filled_before heads
 
     mid_first : entry_first mid n ≡ t
-    mid_first = sym (filled_before.firsts n (omega arith)) ∙ sym at-t
+    mid_first = sym (filled_before.firsts n (omega arith)) ∙ sym at_t
 
     pub written_stays : Stays nodes area n after
     written_stays =

@@ -41,11 +41,11 @@ action_room_below tower b a fit l k = omega (arith, (fit_bounds fit).actions_mos
 -- An earlier action is enabled, and its step is as long.
 pub earlier_found : (tower graph : List ℕ) (x i a b : ℕ) (d e : Tick) (r : Bool) → e ≡ (tower_of tower).step_length x b
     → d ≡ (tower_of tower).step_length x a → e.0 ≡ d.0 → r ≡ is_enabled (move_at graph i b) → r ≡ true → b < a → Earlier b tower graph x i a
-earlier_found tower graph x i a b d e r at-e at-d same is-r yes-r l =
+earlier_found tower graph x i a b d e r at_e at_d same is_r yes_r l =
     record {
       most = omega arith;
-      enabled = λ _. sym is-r ∙ yes-r;
-      same_length = λ _. sym at-e ∙ ap (λ (n : ℕ). record { 0 = n }) same ∙ at-d;
+      enabled = λ _. sym is_r ∙ yes_r;
+      same_length = λ _. sym at_e ∙ ap (λ (n : ℕ). record { 0 = n }) same ∙ at_d;
     }
 
 -- None was found.
@@ -247,17 +247,17 @@ pub enter_asked : (tower table : List ℕ) (rows : Bool) (nodes area : List ℕ)
     → d ≡ (tower_of tower).step_length z a → mask ≡ mask_of tower z → Single tower table rows nodes area n graph i a
     → NextEntered r (walked tower table rows) nodes area i a number n after
 unfolding walked_marks
-enter_asked tower table rows nodes area i a x z mask number n d r graph after followed at-z at_x at-d at-mask ready =
+enter_asked tower table rows nodes area i a x z mask number n d r graph after followed at-z at_x at_d at_mask ready =
     record {
       stays = followed.stays;
       headed = followed.headed;
       says = λ h. subst (λ s. Entered r nodes area number n s after) (sym (came h))
-          ((subst (λ (y : ℕ). Followed r nodes y d area i number n after) (at-mask ∙ ap (mask_of tower) at-z) followed).says h.book h.held
+          ((subst (λ (y : ℕ). Followed r nodes y d area i number n after) (at_mask ∙ ap (mask_of tower) at-z) followed).says h.book h.held
           (ready.sided h) (walked_marks tower table rows x));
     }
   where
     same_length : (walked tower table rows).step_length x a ≡ d
-    same_length = walked_length tower table rows x a ∙ ap (λ (y : ℕ). (tower_of tower).step_length y a) (sym at-z) ∙ sym at-d
+    same_length = walked_length tower table rows x a ∙ ap (λ (y : ℕ). (tower_of tower).step_length y a) (sym at-z) ∙ sym at_d
 
     came : (h : IsHeld nodes)
         → alternatives_by (walked tower table rows) h.book (pair_in nodes area i) a

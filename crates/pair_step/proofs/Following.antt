@@ -58,7 +58,7 @@ move_fits out area n k index few noted most = omega (arith, noted.inside, noted.
 
 -- ---- the ways of `follow`
 
-module _ (tower : Tower) (nodes : List ℕ) (wide : Bool) (area : List ℕ) (i a n x : ℕ) (r : Reached) (at-r : r ≡ target_read (tower.target x a))
+module _ (tower : Tower) (nodes : List ℕ) (wide : Bool) (area : List ℕ) (i a n x : ℕ) (r : Reached) (at_r : r ≡ target_read (tower.target x a))
     (at_x : x ≡ entry_number area i) where
   -- The action is not enabled.
   pub follow_not : (index : List ℕ) → r ≡ NotEnabled → PairsFilled tower nodes wide area n → Indexed area index n
@@ -78,12 +78,12 @@ module _ (tower : Tower) (nodes : List ℕ) (wide : Bool) (area : List ℕ) (i a
       }
     where
       nowhere : tower.target (pair_in nodes area i).state a ≡ none
-      nowhere = ap (λ (z : ℕ). tower.target z a) (state_of_pair nodes area i ∙ sym at_x) ∙ none_reached (tower.target x a) r at-r is
+      nowhere = ap (λ (z : ℕ). tower.target z a) (state_of_pair nodes area i ∙ sym at_x) ∙ none_reached (tower.target x a) r at_r is
 
 -- It is.
 pub follow_goes : (tower : Tower) (area : List ℕ) (i a x y : ℕ) (r : Reached) → r ≡ target_read (tower.target x a) → x ≡ entry_number area i
     → r ≡ State y → tower.target (entry_number area i) a ≡ some y
-follow_goes tower area i a x y r at-r at_x is = ap (λ (z : ℕ). tower.target z a) (sym at_x) ∙ state_reached (tower.target x a) r y at-r is
+follow_goes tower area i a x y r at_r at_x is = ap (λ (z : ℕ). tower.target z a) (sym at_x) ∙ state_reached (tower.target x a) r y at_r is
 
 -- ---- the ways of `look_up`
 
@@ -215,8 +215,8 @@ says_still tower book nodes area n v a after m l kept _ (moves_broken y e f) = m
 says_still tower book nodes area n v a after m l kept _ (moves_to j k e) =
     moves_to j (omega arith) (e ∙ ap (λ z. some (pair_of nodes z)) (sym (kept j k)))
 
-module _ (tower : Tower) (nodes : List ℕ) (wide : Bool) (area : List ℕ) (i a n : ℕ) (graph after index after-graph : List ℕ) (way : Way)
-    (followed : ActionFollowed way tower nodes wide area i a n after index) (written : after-graph ≡ stored graph (cell i a) way.code)
+module _ (tower : Tower) (nodes : List ℕ) (wide : Bool) (area : List ℕ) (i a n : ℕ) (graph after index after_graph : List ℕ) (way : Way)
+    (followed : ActionFollowed way tower nodes wide area i a n after index) (written : after_graph ≡ stored graph (cell i a) way.code)
     (right : RightGraph tower nodes area n graph (i + 1) (16 * i + a)) (bounds : Searchable tower) (listed : a < tower.actions) (low : i < n)
     (most : n ≤ 1000) (room : graph_size ≤ length graph) where
   -- a move says of its pair what it said of it before
@@ -228,7 +228,7 @@ module _ (tower : Tower) (nodes : List ℕ) (wide : Bool) (area : List ℕ) (i a
       (says_still tower h.book nodes area n (pair_in nodes area j) b after way.met followed.least followed.kept move s)
 
   -- the move that was written
-  written_move : move_at after-graph i a ≡ move_of way.code
+  written_move : move_at after_graph i a ≡ move_of way.code
   unfolding move_at
   written_move =
       ap move_of
@@ -237,18 +237,18 @@ module _ (tower : Tower) (nodes : List ℕ) (wide : Bool) (area : List ℕ) (i a
       (cell_inside i a graph (pair_room_below i n low most) (move_room_below tower a bounds listed) room) followed.small))
 
   -- a move before it
-  move_before : (j b : ℕ) → 16 * j + b < 16 * i + a → move_at after-graph j b ≡ move_at graph j b
+  move_before : (j b : ℕ) → 16 * j + b < 16 * i + a → move_at after_graph j b ≡ move_at graph j b
   unfolding move_at cell
   move_before j b l = ap move_of (rw written (stored_beside graph (2 * (16 * i + a)) way.code (2 * (16 * j + b)) (inl (omega arith))))
 
   -- a state
-  state_beside : (j : ℕ) → state_in after-graph j ≡ state_in graph j
+  state_beside : (j : ℕ) → state_in after_graph j ≡ state_in graph j
   unfolding cell
   state_beside j =
       rw written
       (stored_beside graph (2 * (16 * i + a)) way.code (32000 + 2 * j) (inr (omega (arith, move_room_below tower a bounds listed))))
 
-  pub step_done : Stepped way.met tower nodes wide area i a n after index after-graph
+  pub step_done : Stepped way.met tower nodes wide area i a n after index after_graph
   step_done =
       record {
         least = followed.least;
@@ -266,7 +266,7 @@ module _ (tower : Tower) (nodes : List ℕ) (wide : Bool) (area : List ℕ) (i a
     where
       said : (h : IsHeld nodes) (j b : ℕ) → b < tower.actions → 16 * j + b < 16 * i + a + 1
           → Dec (16 * j + b < 16 * i + a)
-          → SaysMove tower h.book nodes after way.met (pair_in nodes after j) b (move_at after-graph j b)
+          → SaysMove tower h.book nodes after way.met (pair_in nodes after j) b (move_at after_graph j b)
       said h j b l k (yes m) =
           let inside : j < n = omega (arith, bounds.actions_most) in
           subst (λ z. SaysMove tower h.book nodes after way.met (pair_in nodes after j) b z) (sym (move_before j b m))

@@ -44,7 +44,7 @@ module _ (tower table : List ℕ) (rows : Bool) (nodes : List ℕ) (wide : Bool)
             omega (arith, met, was.turning.most);
       }
 
-  module _ (y m b : ℕ) (is_IsWide : wide ≡ true) (goes : (walked tower table rows).target (entry_number area i) a ≡ some y)
+  module _ (y m b : ℕ) (is_wide : wide ≡ true) (goes : (walked tower table rows).target (entry_number area i) a ≡ some y)
       (alike : LedAlike m area graph room i a b y) where
     step_before : (h : IsHeld nodes)
         → (m - 2 < n) × (pair_step (walked tower table rows) h.book (pair_in nodes area i) b ≡ some (pair_in nodes area (m - 2)))
@@ -68,9 +68,9 @@ module _ (tower table : List ℕ) (rows : Bool) (nodes : List ℕ) (wide : Bool)
     came : (h : IsHeld nodes)
         → alternatives_by (walked tower table rows) h.book (pair_in nodes area i) a ≡ these (pair_in nodes area (m - 2)).pending
     came h =
-        ((was.waiting is_IsWide).waits a y listed goes).is h
+        ((was.waiting is_wide).waits a y listed goes).is h
         ∙ ap these (sym same_waits)
-        ∙ sym (((was.waiting is_IsWide).waits b (pair_in nodes area (m - 2)).state (omega (arith, alike.earlier, listed)) enabled).is h)
+        ∙ sym (((was.waiting is_wide).waits b (pair_in nodes area (m - 2)).state (omega (arith, alike.earlier, listed)) enabled).is h)
         ∙ (came_before h).1
       where
         enabled : (walked tower table rows).target (entry_number area i) b ≡ some (pair_in nodes area (m - 2)).state
@@ -115,6 +115,6 @@ module _ (tower table : List ℕ) (rows : Bool) (nodes : List ℕ) (wide : Bool)
   pub lead_again : (y m : ℕ) → 2 ≤ m → LedBefore m area graph room i a y → wide ≡ true
       → (walked tower table rows).target (entry_number area i) a ≡ some y
       → ActionFollowed (record { code = m; met = n }) (walked tower table rows) nodes wide area i a n area index
-  lead_again y m l before is_IsWide goes =
+  lead_again y m l before is_wide goes =
       let (b, alike) = before.alike l in
-      led_again y m b is_IsWide goes alike l
+      led_again y m b is_wide goes alike l

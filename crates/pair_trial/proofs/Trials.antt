@@ -41,14 +41,14 @@ action_before_tower tower table rows b a l k = omega (arith, walked_actions towe
 pub before_found : (tower table : List ℕ) (rows : Bool) (x z a b : ℕ) (d e : Tick) (r : Bool) → e ≡ (tower_of tower).step_length z b
     → d ≡ (tower_of tower).step_length z a → e.0 ≡ d.0 → r ≡ is_there ((walked tower table rows).target x b) → r ≡ true
     → z ≡ tower_state table rows x → b < a → TriedBefore b (walked tower table rows) x a
-before_found tower table rows x z a b d e r at-e at-d same is-r yes-r at-z l =
+before_found tower table rows x z a b d e r at_e at_d same is_r yes_r at-z l =
     record {
       most = omega arith;
-      enabled = λ _. is_there_out ((walked tower table rows).target x b) (sym is-r ∙ yes-r);
+      enabled = λ _. is_there_out ((walked tower table rows).target x b) (sym is_r ∙ yes_r);
       same_length = λ _.
           walked_length tower table rows x b
           ∙ ap (λ y. (tower_of tower).step_length y b) (sym at-z)
-          ∙ sym at-e ∙ ap (λ (n : ℕ). record { 0 = n }) same ∙ at-d
+          ∙ sym at_e ∙ ap (λ (n : ℕ). record { 0 = n }) same ∙ at_d
           ∙ ap (λ y. (tower_of tower).step_length y a) at-z
           ∙ sym (walked_length tower table rows x a);
     }
@@ -60,7 +60,7 @@ before_none tower x a = record { most = omega arith; enabled = λ l. absurd (ome
 
 module _ (tower nodes area : List ℕ) (i z a left first last mask : ℕ) (d : Tick) (room sets middle : List ℕ)
     (progressed : Progressed left nodes mask d area (60 * first) (last - first) room sets middle)
-    (at-d : d ≡ (tower_of tower).step_length z a) (at-mask : mask ≡ mask_of tower z) (at_first : first ≡ entry_first area i)
+    (at_d : d ≡ (tower_of tower).step_length z a) (at_mask : mask ≡ mask_of tower z) (at_first : first ≡ entry_first area i)
     (at_last : last ≡ entry_first area (i + 1)) where
   -- what comes of the alternatives of entry i
   came : (book : Book) → HeldBook nodes book → (at : MarkedState (mask_of tower z))
@@ -68,8 +68,8 @@ module _ (tower nodes area : List ℕ) (i z a left first last mask : ℕ) (d : T
       ≡ progressed_set at.tower book at.state ((tower_of tower).step_length z a) (entry_set nodes area i)
   unfolding entry_set
   came book held at =
-      (subst (λ m. Progressed left nodes m d area (60 * first) (last - first) room sets middle) at-mask progressed).says book held at
-      ∙ ap₂ (λ e ps. progressed_set at.tower book at.state e ps) at-d
+      (subst (λ m. Progressed left nodes m d area (60 * first) (last - first) room sets middle) at_mask progressed).says book held at
+      ∙ ap₂ (λ e ps. progressed_set at.tower book at.state e ps) at_d
       (ap₂ (λ (s t : ℕ). set_in area (nodes_in nodes) (60 * s) (t - s)) at_first at_last)
 
   pub step_over : 16 < left → StepTried true tower nodes area i z a room middle
@@ -154,7 +154,7 @@ others_stay a room = record { size = refl; sets = λ p l m. refl; counts = λ b 
 pub try_not : (tower table : List ℕ) (rows : Bool) (nodes area : List ℕ) (i a x : ℕ) (room : List ℕ) (r : Bool)
     → r ≡ is_there ((walked tower table rows).target x a) → r ≡ false → x ≡ entry_number area i → Trial tower table rows nodes area i
     → a < (walked tower table rows).actions → room_size ≤ length room → Tried false (walked tower table rows) nodes area i a room room
-try_not tower table rows nodes area i a x room r is-r no-r at_x trial listed space =
+try_not tower table rows nodes area i a x room r is_r no_r at_x trial listed space =
     record {
       enabled = λ e. absurd (let y : ◌≡◌ {A = ℕ} 0 1 = cc in omega arith);
       over_16 = λ e. absurd (let y : ◌≡◌ {A = ℕ} 0 1 = cc in omega arith);
@@ -164,7 +164,7 @@ try_not tower table rows nodes area i a x room r is-r no-r at_x trial listed spa
     }
   where
     nowhere : (walked tower table rows).target (entry_number area i) a ≡ none
-    nowhere = ap (λ (y : ℕ). (walked tower table rows).target y a) (sym at_x) ∙ not_there ((walked tower table rows).target x a) (sym is-r ∙ no-r)
+    nowhere = ap (λ (y : ℕ). (walked tower table rows).target y a) (sym at_x) ∙ not_there ((walked tower table rows).target x a) (sym is_r ∙ no_r)
 
 -- What waits of an earlier one waits of it too.
 pub try_shared : (tower table : List ℕ) (rows : Bool) (nodes area : List ℕ) (i a b x : ℕ) (room after : List ℕ) → Shared a b room after
@@ -247,7 +247,7 @@ module _ (tower table : List ℕ) (rows : Bool) (nodes area : List ℕ) (i : ℕ
 
   pub trial_action : (a x : ℕ) (r : Bool) → r ≡ is_there ((walked tower table rows).target x a) → r ≡ true → x ≡ entry_number area i
       → Trial tower table rows nodes area i → a < (walked tower table rows).actions → ActionTrial tower table rows nodes area i x a
-  trial_action a x r is-r yes-r at_x trial listed = record { trial = trial; listed = listed; at = at_x; enabled = sym is-r ∙ yes-r }
+  trial_action a x r is_r yes_r at_x trial listed = record { trial = trial; listed = listed; at = at_x; enabled = sym is_r ∙ yes_r }
 
   pub enabled_state : (a x : ℕ) → ActionTrial tower table rows nodes area i x a → x < (walked tower table rows).states
   enabled_state a x ready = trial_state x ready.at ready.trial

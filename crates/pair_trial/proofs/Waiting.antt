@@ -141,7 +141,7 @@ two_bytes_last : (room : List ℕ) (p q v w : ℕ) → q < length room → byte_
 two_bytes_last room p q v w l = get_or-set_same (set room p v) q w 0 (omega (arith, length-set room p v))
 
 two_bytes_other : (room : List ℕ) (p q v w r : ℕ) → (r ≡ p → ⊥) → (r ≡ q → ⊥) → byte_at (set (set room p v) q w) r ≡ byte_at room r
-two_bytes_other room p q v w r no-p no-q = get_or-set_other (set room p v) q r w 0 no-q ∙ get_or-set_other room p r v 0 no-p
+two_bytes_other room p q v w r no_p no_q = get_or-set_other (set room p v) q r w 0 no_q ∙ get_or-set_other room p r v 0 no_p
 
 two_bytes_long : (room : List ℕ) (p q v w : ℕ) → length (set (set room p v) q w) ≡ length room
 two_bytes_long room p q v w = length-set (set room p v) q w ∙ length-set room p v

@@ -20,21 +20,21 @@ use Rattle.program_log.specs.declared.Part.TheVariants as Part
 -- ---- keep
 
 -- The first i bytes have been moved, and those from i on are as they were.
-pub record Moving (before : List ℕ) (from count : ℕ) (now-there : List ℕ) (i : ℕ) : Type 0 where
+pub record Moving (before : List ℕ) (from count : ℕ) (now_there : List ℕ) (i : ℕ) : Type 0 where
   pub few : i ≤ count
-  pub same_length : length now-there ≡ length before
-  pub moved : (j : ℕ) → j < i → byte_at now-there j ≡ byte_at before (from + j)
-  pub others : (j : ℕ) → i ≤ j → byte_at now-there j ≡ byte_at before j
+  pub same_length : length now_there ≡ length before
+  pub moved : (j : ℕ) → j < i → byte_at now_there j ≡ byte_at before (from + j)
+  pub others : (j : ℕ) → i ≤ j → byte_at now_there j ≡ byte_at before j
 
-module _ (before : List ℕ) (from end count : ℕ) (is-count : count ≡ end - from) where
+module _ (before : List ℕ) (from end count : ℕ) (is_count : count ≡ end - from) where
   pub moving_start : Moving before from count before 0
   moving_start = record { few = omega arith; same_length = refl; moved = λ j l. absurd (omega arith); others = λ j l. refl }
 
   module _ (part : List ℕ) (i : ℕ) (so_far : Moving before from count part i) where
     pub moving_end : count ≤ i → Kept count from end before part
-    moving_end all = record { all = is-count; moved = λ j l. so_far.moved j (omega arith) }
+    moving_end all = record { all = is_count; moved = λ j l. so_far.moved j (omega arith) }
 
-    module _ (in_order : from ≤ end) (in-part : end ≤ length before) (more : i < count) where
+    module _ (in_order : from ≤ end) (in_part : end ≤ length before) (more : i < count) where
       pub source_inside : from + i < length part
       source_inside = omega (arith, so_far.same_length)
 
@@ -129,10 +129,10 @@ pub record BetweenParts (table noted_first known before part : List ℕ) (held :
 pub parts_start : (table known part : List ℕ) (course : Course) → OnRow table course → Noted table known → BetweenParts table known known part part 0 course
 parts_start table known part course on noted = record { same_room = refl; noted = noted; same_length = refl; inside = omega arith; on_row = on }
 
-pub parts_more : (table noted_first known known-now before part after : List ℕ) (held left : ℕ) (course so_far : Course) (line : Position) (r : Part)
-    → BetweenParts table noted_first known before part held course → r ≡ Part.On left line so_far → GoesOn r table → Noted table known-now
-    → length known-now ≡ length known → length after ≡ length part → BetweenParts table noted_first known-now before after left so_far
-parts_more table noted_first known known-now before part after held left course so_far line r between e goes noted room same =
+pub parts_more : (table noted_first known known_now before part after : List ℕ) (held left : ℕ) (course so_far : Course) (line : Position) (r : Part)
+    → BetweenParts table noted_first known before part held course → r ≡ Part.On left line so_far → GoesOn r table → Noted table known_now
+    → length known_now ≡ length known → length after ≡ length part → BetweenParts table noted_first known_now before after left so_far
+parts_more table noted_first known known_now before part after held left course so_far line r between e goes noted room same =
     record {
       same_room = room ∙ between.same_room;
       noted = noted;

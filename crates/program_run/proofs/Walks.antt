@@ -75,15 +75,15 @@ module _ (tower : Tower) where
 pub walk_first : (tower run : List ℕ) (n x : ℕ) → x ≡ (tower_of tower).start → RunInList tower run n
     → OnRun (record { position = position 0; time = ticks 0; state = x }) tower run n (position 0)
 unfolding point_at time_at sum_ticks leads
-walk_first tower run n x start in_List =
+walk_first tower run n x start in_list =
     record {
       is = ap (λ y. record { position = position 0; time = ticks 0; state = y }) start;
       inside = omega arith;
-      low = omega (arith, (fit_bounds in_List.fit).start_below);
+      low = omega (arith, (fit_bounds in_list.fit).start_below);
       soon = omega arith;
     }
 
-module _ (tower run : List ℕ) (n : ℕ) (p : Point) (on : OnRun p tower run n p.position) (in_List : RunInList tower run n)
+module _ (tower run : List ℕ) (n : ℕ) (p : Point) (on : OnRun p tower run n p.position) (in_list : RunInList tower run n)
     (here : p.position.0 < n) where
   abbrev i : ℕ
   i = p.position.0
@@ -95,7 +95,7 @@ module _ (tower run : List ℕ) (n : ℕ) (p : Point) (on : OnRun p tower run n 
   w = take n run
 
   inside : i < length w
-  inside = omega (arith, length-take-le n run in_List.room)
+  inside = omega (arith, length-take-le n run in_list.room)
 
   same_action : get_or w i 0 ≡ byte_at run i
   same_action = get_or-take n run i 0 here
@@ -104,13 +104,13 @@ module _ (tower run : List ℕ) (n : ℕ) (p : Point) (on : OnRun p tower run n 
   on_led : (z : ℕ) × Led t t.start (take i w) p.state × (t.target p.state (byte_at run i) ≡ some z)
   unfolding point_at
   on_led =
-      let (y, z, led, step) = part_led t w i in_List.is inside in
+      let (y, z, led, step) = part_led t w i in_list.is inside in
       let state : p.state ≡ y = ap (λ (q : Point). q.state) on.is ∙ ap (λ o. Option.get_or o t.start) led in
       (z, led ∙ ap some (sym state), ap₂ t.target state (sym same_action) ∙ step)
 
   pub action_low : byte_at run i < t.actions
   unfolding Listed
-  action_low = let (z, led, step) = on_led in (fit_bounds in_List.fit).listed p.state (byte_at run i) z step
+  action_low = let (z, led, step) = on_led in (fit_bounds in_list.fit).listed p.state (byte_at run i) z step
 
   -- The moment that leaves the point.
   pub moment_there : moment (trace t w) p.position ≡ leaving p.state (byte_at run i)
@@ -130,7 +130,7 @@ module _ (tower run : List ℕ) (n : ℕ) (p : Point) (on : OnRun p tower run n 
     short = omega (arith, bytes ((layout_of tower).header + 2 * byte_at run i), ap (λ (e : Tick). e.0) takes)
 
     pub time_fits : Fits w64 (p.time.0 + d.0)
-    time_fits = omega (arith, short, on.soon, in_List.few)
+    time_fits = omega (arith, short, on.soon, in_list.few)
 
     module _ (r : Reached) (y : ℕ) (reads : r ≡ target_read (t.target p.state (byte_at run i))) (to : r ≡ State y) where
       goes : t.target p.state (byte_at run i) ≡ some y
@@ -158,7 +158,7 @@ module _ (tower run : List ℕ) (n : ℕ) (p : Point) (on : OnRun p tower run n 
                 (sym (ap (λ o. Option.get_or o t.start) state_next))
                 ∙ ap (λ s. record { position = position (suc i); time = s; state = Option.get_or (leads t.target t.start (take (suc i) w)) t.start }) time_next;
             inside = omega arith;
-            low = (fit_bounds in_List.fit).targets p.state (byte_at run i) y on.low goes;
+            low = (fit_bounds in_list.fit).targets p.state (byte_at run i) y on.low goes;
             soon = omega (arith, short, on.soon);
           }
 

@@ -81,7 +81,7 @@ pub step_way : (tower run : List ℕ) (n : ℕ) (p : Point) (r : ℕ) (out : Lis
     → PrintedLine r (numbers_line p.position p.time p.state (byte_at run p.position.0)) out → OnRun p tower run n p.position
     → RunInList tower run n → p.position.0 < n → PrintedLine r (step_line (tower_of tower) (take n run) p.position) out
 unfolding step_line
-step_way tower run n p r out printed on in_List here =
+step_way tower run n p r out printed on in_list here =
     rw same at printed
   where
     line : Tick → Moment → List ℕ
@@ -89,4 +89,4 @@ step_way tower run n p r out printed on in_List here =
 
     same : line p.time (record { state = p.state; action = byte_at run p.position.0 })
         ≡ line (time_at (tower_of tower) (trace (tower_of tower) (take n run)) p.position) (moment (trace (tower_of tower) (take n run)) p.position)
-    same = ap₂ line (time_there tower run n p on in_List here) (sym (moment_there tower run n p on in_List here))
+    same = ap₂ line (time_there tower run n p on in_list here) (sym (moment_there tower run n p on in_list here))

@@ -182,9 +182,9 @@ module _ (marks : ℕ) (text : List ℕ) (short : length text ≤ most_bytes) wh
   unfolding over_limit most_nodes most_brackets FitBook
   up_to_more before p rule b q line h k at n m l t =
       let more_of = one_more h.spells k in
-      let nodes-few = ltb-false 60 (length (nodes before) + size rule.formula)
+      let nodes_few = ltb-false 60 (length (nodes before) + size rule.formula)
       (or_fails_left (ltb 60 (length (nodes before) + size rule.formula)) (ltb 16 b) l) in
-      let brackets-few = ltb-false 16 b (or_fails_right (ltb 60 (length (nodes before) + size rule.formula)) (ltb 16 b) l) in
+      let brackets_few = ltb-false 16 b (or_fails_right (ltb 60 (length (nodes before) + size rule.formula)) (ltb 16 b) l) in
       record {
         begun = h.begun ++ line;
         brackets = more_of.brackets;
@@ -194,7 +194,7 @@ module _ (marks : ℕ) (text : List ℕ) (short : length text ≤ most_bytes) wh
               numbers = with_one (λ r. over_number r.formula ≡ false) before rule h.limits.numbers n;
               propositions = with_one (λ r. over_mark marks r.formula ≡ false) before rule h.limits.propositions m;
               few_nodes = omega (arith, nodes_one before rule);
-              few_brackets = more_of.low h.limits.few_brackets brackets-few;
+              few_brackets = more_of.low h.limits.few_brackets brackets_few;
               timed = with_one (λ r. timed_right r.formula ≡ true) before rule h.limits.timed t;
             };
         all = h.all ∙ ap (λ z. h.begun ++ z) at ∙ sym (append_assoc h.begun line (drop q text));

@@ -19,7 +19,7 @@ use Rattle.logic.specs.Book.{Comparison, no_more, less, no_less, more, Formula, 
 use Rattle.reading.specs.Tokens.{stands, skip, is_digit, Token, numeral, number_token, mark_named, mark_at, mark_token, with_equals, comparison_token}
 use Rattle.reading.specs.Grammar.{Bound, compared, optional, connective, connectives, BoundRead, bounded, compared_with, number_or_usual, bound_at, formula_one, formula_two}
 use Rattle.reading.specs.Grammar.{Parsed, bad, got, onward, behind, Level, or_level, and_level, unit_level, or_rest, and_rest, Reader, joining, bracketed, two_parts, with_bound, led, marked_unit, unit_at, read_level, read_step, rank, calls_left, formula_at}
-use Rattle.reading.specs.Spelling.{spaces, digit, Digits, one_digit, two_digits, three_digits, BoundText, number_written, left_out, sign, negation, Shape, one_Unit, and_units, or_units, Spells, spells_true, spells_false, spells_mark, spells_next, spells_always, spells_within, spells_until, spells_bracketed, spells_unit, spells_and, spells_ands, spells_or}
+use Rattle.reading.specs.Spelling.{spaces, digit, Digits, one_digit, two_digits, three_digits, BoundText, number_written, left_out, sign, negation, Shape, one_unit, and_units, or_units, Spells, spells_true, spells_false, spells_mark, spells_next, spells_always, spells_within, spells_until, spells_bracketed, spells_unit, spells_and, spells_ands, spells_or}
 use Rattle.reading.proofs.TextPlaces.{Span, Pieces, NoSpace, NoDigit, span_inside, pieces, piece, behind_piece, piece_byte, piece_no_digit, piece_inside, pieces_end, last_piece, split_piece, skip_piece}
 use Rattle.reading.proofs.TextPlaces.{pieces_no_space, pieces_no_digit, spaced_no_digit, span_at, numeral_back, digits_no_space, digits_some}
 
@@ -264,13 +264,13 @@ module _ (usual : ℕ) where
     unfolding bound_at compared_with bounded number_token
     compared_back i c j {number = number} k {ts = ts} d begins h =
         let at_sign = past_spaces i (sign_no_space c) h in
-        let behind-sign = behind_piece at_sign in
-        let at-number = past_spaces j (digits_no_space d) behind-sign in
-        let told = numeral_back d 3 (digits_some d).1 (piece at-number) (spaced_start k begins ts rest) in
+        let behind_sign = behind_piece at_sign in
+        let at_number = past_spaces j (digits_no_space d) behind_sign in
+        let told = numeral_back d 3 (digits_some d).1 (piece at_number) (spaced_start k begins ts rest) in
         record {
           place = skip s (skip s p + length (sign c)) + length number;
           says = rw (comparison_back c d j at_sign, told);
-          behind_it = behind_piece at-number;
+          behind_it = behind_piece at_number;
           ahead = omega (arith, skip_ahead s p, skip_ahead s (skip s p + length (sign c)));
         }
 
@@ -279,12 +279,12 @@ module _ (usual : ℕ) where
         → Pieces s p (bound ∷ spaces k ∷ x ∷ ts) rest e → BoundBack optional no_more t s p (spaces k ∷ x ∷ ts) rest e
     unfolding bound_at number_or_usual bounded number_token numeral joined
     optional_back (number_written gap {text = text} d) k {ts = ts} clear begins h =
-        let at-number = past_spaces gap (digits_no_space d) (split_piece (spaces gap) text h) in
-        let told = numeral_back d 3 (digits_some d).1 (piece at-number) (spaced_start k begins ts rest) in
+        let at_number = past_spaces gap (digits_no_space d) (split_piece (spaces gap) text h) in
+        let told = numeral_back d 3 (digits_some d).1 (piece at_number) (spaced_start k begins ts rest) in
         record {
           place = skip s p + length text;
           says = ap (number_or_usual usual p) told;
-          behind_it = behind_piece at-number;
+          behind_it = behind_piece at_number;
           ahead = omega (arith, skip_ahead s p);
         }
     optional_back left_out k {ts = ts} clear begins h =
@@ -301,7 +301,7 @@ module _ (usual : ℕ) where
 
   -- In each shape: a unit by itself; units joined by `&`, or by `|`, with whatever is joined to them further on.
   unfoldable ReadAs : Shape → Formula → ℕ → List ℕ → Type 0
-  ReadAs one_Unit f b t = (s : List ℕ) (p : ℕ) (rest : List ℕ) (e : ℕ) → Span s p t rest e → is_digit (byte_at rest 0) ≡ false
+  ReadAs one_unit f b t = (s : List ℕ) (p : ℕ) (rest : List ℕ) (e : ℕ) → Span s p t rest e → is_digit (byte_at rest 0) ≡ false
       → Gives s unit_level p (got f b e)
   ReadAs and_units f b t = (s : List ℕ) (p : ℕ) (rest : List ℕ) (e : ℕ) (r : Parsed) → Span s p t rest e → is_digit (byte_at rest 0) ≡ false
       → Gives s (and_rest f b) e r → Gives s and_level p r
@@ -323,8 +323,8 @@ module _ (usual : ℕ) where
       back.reads s p rest e (got f b e) h stop (not_there s (skip s e) c 38 at one) (or_stops s f b e (not_there s (skip s e) c 124 at two))
 
   -- a unit by its first byte, which is neither space nor digit
-  lettered : {f : Formula} {b : ℕ} (c : ℕ) (x : List ℕ) → eqb 32 c ≡ false → is_digit c ≡ false → ReadAs one_Unit f b (c ∷ x)
-      → Back one_Unit f b (c ∷ x)
+  lettered : {f : Formula} {b : ℕ} (c : ℕ) (x : List ℕ) → eqb 32 c ≡ false → is_digit c ≡ false → ReadAs one_unit f b (c ∷ x)
+      → Back one_unit f b (c ∷ x)
   lettered c x clear begins reads =
       record {
         some_bytes = omega arith;
@@ -333,14 +333,14 @@ module _ (usual : ℕ) where
         reads = reads;
       }
 
-  back_true : Back one_Unit (constant true) 0 (ascii "T")
+  back_true : Back one_unit (constant true) 0 (ascii "T")
   unfolding ReadAs ascii is_digit read_level
   back_true =
       lettered 84 [] refl refl (λ s p rest e h stop.
       gives_by s unit_level p (got (constant true) 0 e) (λ m le.
       rw h.ends (unit_true s p (reader s m) (span_at h 0 p (omega arith)))))
 
-  back_false : Back one_Unit (constant false) 0 (ascii "F")
+  back_false : Back one_unit (constant false) 0 (ascii "F")
   unfolding ReadAs ascii is_digit read_level
   back_false =
       lettered 70 [] refl refl (λ s p rest e h stop.
@@ -348,7 +348,7 @@ module _ (usual : ℕ) where
       rw h.ends (unit_false s p (reader s m) (span_at h 0 p (omega arith)))))
 
   back_mark : (wanted : Bool) {count k : ℕ} {number : List ℕ} → Digits count k number → count ≤ 2
-      → Back one_Unit (proposition wanted k) 0 (joined (negation wanted ∷ ascii "p" ∷ number ∷ []))
+      → Back one_unit (proposition wanted k) 0 (joined (negation wanted ∷ ascii "p" ∷ number ∷ []))
   unfolding ReadAs ascii is_digit joined negation read_level
   back_mark true {k = k} {number = number} d few =
       lettered 112 _ refl refl (λ s p rest e h stop.
@@ -363,7 +363,7 @@ module _ (usual : ℕ) where
   -- ---- one connective each
 
   -- the unit behind a bound
-  part_on : {kind : Bound} {c : Comparison} {t : ℕ} {s : List ℕ} {p : ℕ} (k : ℕ) {g : Formula} {b : ℕ} {part rest : List ℕ} {e : ℕ} → Back one_Unit g b part
+  part_on : {kind : Bound} {c : Comparison} {t : ℕ} {s : List ℕ} {p : ℕ} (k : ℕ) {g : Formula} {b : ℕ} {part rest : List ℕ} {e : ℕ} → Back one_unit g b part
       → (w : BoundBack kind c t s (p + 1) (spaces k ∷ part ∷ []) rest e) → p < length s → is_digit (byte_at rest 0) ≡ false
       → (m : ℕ) → 3 * (suc (length s) - p) ≤ m → reader s m unit_level (skip s w.place) ≡ got g b e
   unfolding ReadAs
@@ -372,8 +372,8 @@ module _ (usual : ℕ) where
       p m (omega (arith, w.ahead, skip_ahead s w.place)) inside enough
 
   back_next : (i : ℕ) (c : Comparison) (j : ℕ) {count t : ℕ} {number : List ℕ} (k : ℕ) {g : Formula} {b : ℕ} {part : List ℕ}
-      → Digits count t number → Back one_Unit g b part
-      → Back one_Unit (next c (ticks t) g) b (joined (ascii "N" ∷ spaces i ∷ sign c ∷ spaces j ∷ number ∷ spaces k ∷ part ∷ []))
+      → Digits count t number → Back one_unit g b part
+      → Back one_unit (next c (ticks t) g) b (joined (ascii "N" ∷ spaces i ∷ sign c ∷ spaces j ∷ number ∷ spaces k ∷ part ∷ []))
   unfolding ReadAs ascii is_digit joined read_level rank
   back_next i c j {t = t} {number = number} k {g = g} {b = b} {part = part} d back =
       lettered 78 _ refl refl (λ s p rest e h stop.
@@ -386,8 +386,8 @@ module _ (usual : ℕ) where
   back_bounded : (letter : ℕ) (make : Tick → Formula → Formula) → eqb 32 letter ≡ false → is_digit letter ≡ false
       → ((s : List ℕ) (p : ℕ) (read : Reader) (w : BoundRead) (g : Formula) (b e : ℕ) → byte_at s p ≡ letter → bound_at usual optional s (p + 1) ≡ some w
       → read unit_level (skip s w.next) ≡ got g b e → unit_at usual s p read ≡ got (make w.amount g) b e)
-      → {t : ℕ} {bound : List ℕ} (k : ℕ) {g : Formula} {b : ℕ} {part : List ℕ} → BoundText usual t bound → Back one_Unit g b part
-      → Back one_Unit (make (ticks t) g) b (joined ((letter ∷ []) ∷ bound ∷ spaces k ∷ part ∷ []))
+      → {t : ℕ} {bound : List ℕ} (k : ℕ) {g : Formula} {b : ℕ} {part : List ℕ} → BoundText usual t bound → Back one_unit g b part
+      → Back one_unit (make (ticks t) g) b (joined ((letter ∷ []) ∷ bound ∷ spaces k ∷ part ∷ []))
   unfolding ReadAs joined read_level rank
   back_bounded letter make clear other led_by {t = t} {bound = bound} k {g = g} {b = b} {part = part} d back =
       lettered letter _ clear other (λ s p rest e h stop.
@@ -417,7 +417,7 @@ module _ (usual : ℕ) where
       }
 
   back_bracketed : (i j : ℕ) {f : Formula} {b : ℕ} {text : List ℕ} → Back or_units f b text
-      → Back one_Unit f (suc b) (joined (ascii "(" ∷ spaces i ∷ text ∷ spaces j ∷ ascii ")" ∷ []))
+      → Back one_unit f (suc b) (joined (ascii "(" ∷ spaces i ∷ text ∷ spaces j ∷ ascii ")" ∷ []))
   unfolding ReadAs ascii is_digit joined read_level rank
   back_bracketed i j {f = f} {b = b} {text = text} back =
       lettered 40 _ refl refl (λ s p rest e h stop.
@@ -432,7 +432,7 @@ module _ (usual : ℕ) where
 
   back_until : {t : ℕ} {bound : List ℕ} (i j k l n : ℕ) {f g : Formula} {b c : ℕ} {first second : List ℕ}
       → BoundText usual t bound → Back or_units f b first → Back or_units g c second
-      → Back one_Unit (until (ticks t) f g) (suc (max b c))
+      → Back one_unit (until (ticks t) f g) (suc (max b c))
       (joined (ascii "U" ∷ bound ∷ spaces i ∷ ascii "(" ∷ spaces j ∷ first ∷ spaces k ∷ ascii "," ∷ spaces l ∷ second ∷ spaces n ∷ ascii ")" ∷ []))
   unfolding ReadAs ascii is_digit joined read_level rank
   back_until {t = t} {bound = bound} i j k l n {f = f} {g = g} {b = b} {c = c} {first = first} {second = second} d one two =
@@ -459,7 +459,7 @@ module _ (usual : ℕ) where
   span_ahead : {s : List ℕ} {p : ℕ} {t rest : List ℕ} {e : ℕ} → 1 ≤ length t → Span s p t rest e → (p < length s) × (p < e)
   span_ahead some_bytes h = (omega (arith, h.ends, span_inside h some_bytes), omega (arith, h.ends))
 
-  back_unit : {f : Formula} {b : ℕ} {text : List ℕ} → Back one_Unit f b text → Back and_units f b text
+  back_unit : {f : Formula} {b : ℕ} {text : List ℕ} → Back one_unit f b text → Back and_units f b text
   unfolding ReadAs
   back_unit back =
       record {
@@ -478,9 +478,9 @@ module _ (usual : ℕ) where
         some_bytes = back.some_bytes;
         clear = back.clear;
         begins = back.begins;
-        reads = λ s p rest e r h stop no-and more_of.
+        reads = λ s p rest e r h stop no_and more_of.
             let (inside, ahead) = span_ahead back.some_bytes h in
-            ands_then inside ahead (back.reads s p rest e (got f b e) h stop (and_stops s f b e no-and)) more_of;
+            ands_then inside ahead (back.reads s p rest e (got f b e) h stop (and_stops s f b e no_and)) more_of;
       }
 
   -- pieces of which the first has bytes
@@ -488,7 +488,7 @@ module _ (usual : ℕ) where
   unfolding joined
   first_some x ts h = omega (arith, length-append x (joined ts))
 
-  back_and : (i j : ℕ) {f g : Formula} {b c : ℕ} {first second : List ℕ} → Back and_units f b first → Back one_Unit g c second
+  back_and : (i j : ℕ) {f g : Formula} {b c : ℕ} {first second : List ℕ} → Back and_units f b first → Back one_unit g c second
       → Back and_units (and f g) (max b c) (joined (first ∷ spaces i ∷ ascii "&" ∷ spaces j ∷ second ∷ []))
   unfolding ReadAs ascii is_digit
   back_and i j {f = f} {g = g} {b = b} {c = c} {first = first} {second = second} one two =
@@ -516,7 +516,7 @@ module _ (usual : ℕ) where
         some_bytes = first_some first (spaces i ∷ ascii "|" ∷ spaces j ∷ second ∷ []) one.some_bytes;
         clear = pieces_no_space (spaces i ∷ ascii "|" ∷ spaces j ∷ second ∷ []) one.clear;
         begins = pieces_no_digit (spaces i ∷ ascii "|" ∷ spaces j ∷ second ∷ []) one.begins;
-        reads = λ s p rest e r h stop no-and more_of.
+        reads = λ s p rest e r h stop no_and more_of.
             let h : Pieces s p (first ∷ spaces i ∷ ascii "|" ∷ spaces j ∷ second ∷ []) rest e = pieces _ h in
             let q = p + length first in
             let sign_at = past_spaces i (clear_byte 124 refl) (behind_piece h) in
@@ -526,7 +526,7 @@ module _ (usual : ℕ) where
             (not_there s (skip s q) 124 38 (piece_byte sign_at) refl)
             (or_joins s f b q g c e r (omega (arith, piece_inside sign_at, skip_ahead s q)) (is_there s (skip s q) 124 (piece_byte sign_at))
             (omega (arith, skip_ahead s q, skip_ahead s (skip s q + 1))) (omega (arith, skip_ahead s q, skip_ahead s (skip s q + 1)))
-            (two.reads s (skip s (skip s q + 1)) rest e (got g c e) (last_piece second_at) stop (and_stops s g c e no-and)) more_of);
+            (two.reads s (skip s (skip s q + 1)) rest e (got g c e) (last_piece second_at) stop (and_stops s g c e no_and)) more_of);
       }
 
   -- ---- every spelling

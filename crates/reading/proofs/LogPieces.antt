@@ -9,7 +9,7 @@ use lib.ListN.{length, drop, length-append, length-drop}
 use lib.Seq.{drop-append-le, drop-drop}
 use Rattle.base.specs.Lists.{joined}
 use Rattle.base.specs.Text.{ascii}
-use Rattle.base.proofs.Lists.{none-some, whether-there}
+use Rattle.base.proofs.Lists.{none-some, whether_there}
 use Rattle.reading.specs.Tokens.{Token}
 use Rattle.reading.specs.LogReading.{stroke_at, with_line, log_from}
 use Rattle.reading.specs.LogSpelling.{SpellsStroke, spells_stroke}
@@ -52,7 +52,7 @@ line_stays a b p t e =
 -- What is no line within 14 bytes stays none, whatever follows.
 pub stays_bad : (a b : List ℕ) (p : ℕ) → p + 14 ≤ length a → stroke_at a p ≡ none → stroke_at (a ++ b) p ≡ none
 stays_bad a b p long bad =
-    whether-there (stroke_at (a ++ b) p) (λ e. e) (λ t e.
+    whether_there (stroke_at (a ++ b) p) (λ e. e) (λ t e.
     let there = line_spelled (a ++ b) p t e in
     let near = line_length (a ++ b) p t e in
     let behind = ap (λ z. there.line ++ z) (drop-append-le t.next a b (omega arith)) ∙ sym (append_assoc there.line (drop t.next a) b) in
@@ -71,7 +71,7 @@ line_moved s n p t e =
 -- and what is no line there is none.
 none_moved : (s : List ℕ) (n p : ℕ) → stroke_at (drop n s) p ≡ none → stroke_at s (n + p) ≡ none
 none_moved s n p bad =
-    whether-there (stroke_at s (n + p)) (λ e. e) (λ t e.
+    whether_there (stroke_at s (n + p)) (λ e. e) (λ t e.
     none-some bad (line_elsewhere s (n + p) (drop n s) p [] (drop-drop p n s ∙ sym (append-nil (drop (n + p) s))) t e))
 
 -- ---- the lines

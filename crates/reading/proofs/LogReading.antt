@@ -13,7 +13,7 @@ use Rattle.base.specs.Choice.{pick}
 use Rattle.base.specs.Lists.{only_if}
 use Rattle.base.specs.Text.{byte}
 use Rattle.base.specs.Bytes.{byte_at}
-use Rattle.base.proofs.Lists.{none-some, some_one, whether, whether-there, only_if_out, only_if_in}
+use Rattle.base.proofs.Lists.{none-some, some_one, whether, whether_there, only_if_out, only_if_in}
 use Rattle.base.proofs.Recursion.{Falls, run_eq}
 use Rattle.logic.specs.Time.{ticks}
 use Rattle.reading.specs.Tokens.{stands, is_digit, Token, numeral}
@@ -82,7 +82,7 @@ field_ahead most behind one s p e =
 pub stroke_ahead : (s : List ℕ) (p : ℕ) (t : Token Stroke) → stroke_at s p ≡ some t → (p < t.next) × (t.next ≤ length s)
 stroke_ahead s p t e =
     let (n, tick, small, (a, action, same)) = stroke_parts s p e in
-    let (far, in-log) = field_ahead 10 (byte " ") (omega arith) s p tick in
+    let (far, in_log) = field_ahead 10 (byte " ") (omega arith) s p tick in
     let (further, inside) = field_ahead 2 (byte "\n") (omega arith) s n.next action in
     (omega (arith, ap (λ t. t.next) same), omega (arith, ap (λ t. t.next) same))
 
@@ -140,8 +140,8 @@ module _ (s : List ℕ) where
       go (suc n) p few =
           whether (leb (length s) p) (λ e. let over = leb-true (length s) p e in rw (log_end p over) (ended p over)) (λ e.
           let inside = leb-false (length s) p e in
-          whether-there (stroke_at s p) (λ h. rw (log_bad p inside h) (bad p inside h)) (λ t h.
-          let (far, in-log) = stroke_ahead s p t h in
+          whether_there (stroke_at s p) (λ h. rw (log_bad p inside h) (bad p inside h)) (λ t h.
+          let (far, in_log) = stroke_ahead s p t h in
           rw (log_line p t inside h) (more p t (log_from s t.next) inside h (go n t.next (omega arith)))))
 
   -- Where the reading stops inside the log, a line is not of the form.
@@ -156,4 +156,4 @@ module _ (s : List ℕ) where
   unfolding with_line
   log_inside =
       log_by (λ p r. p ≤ length s → r.next ≤ length s) (λ p over le. le) (λ p inside e le. le)
-      (λ p t r inside e stops le. let (far, in-log) = stroke_ahead s p t e in stops in-log)
+      (λ p t r inside e stops le. let (far, in_log) = stroke_ahead s p t e in stops in_log)

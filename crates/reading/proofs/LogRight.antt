@@ -16,7 +16,7 @@ use Rattle.base.specs.Text.{byte, ascii}
 use Rattle.base.specs.Bytes.{byte_at}
 use Rattle.base.specs.Answers.{Answer, give, ◌if◌else◌}
 use Rattle.base.specs.declared.Refusal.TheVariants.{Log}
-use Rattle.base.proofs.Lists.{none-some, whether-there}
+use Rattle.base.proofs.Lists.{none-some, whether_there}
 use Rattle.base.proofs.Answers.{if_on, if_refuses}
 use Rattle.reading.specs.Tokens.{is_digit, digits, value, Token, numeral}
 use Rattle.reading.specs.Spelling.{digit}
@@ -259,7 +259,7 @@ read_log_only text _ (bad_line before begun rest h all some_bytes none_there) =
   where
     bad : stroke_at text (length begun) ≡ none
     bad =
-        whether-there (stroke_at text (length begun)) (λ e. e) (λ t e.
+        whether_there (stroke_at text (length begun)) (λ e. e) (λ t e.
         let there = line_spelled text (length begun) t e in
         absurd (none_there
         (record {

@@ -12,7 +12,7 @@ use Rattle.base.specs.Text.{ascii}
 use Rattle.base.proofs.Lists.{or_fails_left, or_fails_right}
 use Rattle.logic.specs.Book.{Formula, constant, proposition, and, or, next, always_for, until, Rule, Book}
 use Rattle.reading.specs.BookReading.{most_ticks, over_number, over_mark}
-use Rattle.reading.specs.Spelling.{digit, Digits, one_digit, two_digits, three_digits, number_written, Shape, one_Unit, and_units, or_units}
+use Rattle.reading.specs.Spelling.{digit, Digits, one_digit, two_digits, three_digits, number_written, Shape, one_unit, and_units, or_units}
 use Rattle.reading.specs.Spelling.{Spells, spells_true, spells_false, spells_mark, spells_next, spells_always, spells_until, spells_bracketed, spells_unit, spells_and, spells_ands, spells_or}
 use Rattle.reading.specs.Spelling.{SpellsBook, spells_none, spells_more, spells_line, number_text, and_bracketed, or_bracketed, bracketed_if, counted_if, text_as, brackets_in, formula_text, formula_brackets, book_text, book_brackets}
 
@@ -57,22 +57,22 @@ numbered n l = elim (dec_lt n 10) [
 
 -- ---- shapes
 
-unit_as : {usual : ℕ} (shape : Shape) {f : Formula} {b : ℕ} {text : List ℕ} → Spells usual one_Unit f b text → Spells usual shape f b text
-unit_as one_Unit h = h
+unit_as : {usual : ℕ} (shape : Shape) {f : Formula} {b : ℕ} {text : List ℕ} → Spells usual one_unit f b text → Spells usual shape f b text
+unit_as one_unit h = h
 unit_as and_units h = spells_unit h
 unit_as or_units h = spells_ands (spells_unit h)
 
 and_as : {usual : ℕ} (shape : Shape) {f : Formula} {b : ℕ} {text : List ℕ} → Spells usual and_units f b text
     → Spells usual shape f (counted_if (and_bracketed shape) b) (bracketed_if (and_bracketed shape) text)
 unfolding and_bracketed bracketed_if counted_if joined ascii
-and_as one_Unit h = spells_bracketed 0 0 (spells_ands h)
+and_as one_unit h = spells_bracketed 0 0 (spells_ands h)
 and_as and_units h = h
 and_as or_units h = spells_ands h
 
 or_as : {usual : ℕ} (shape : Shape) {f : Formula} {b : ℕ} {text : List ℕ} → Spells usual or_units f b text
     → Spells usual shape f (counted_if (or_bracketed shape) b) (bracketed_if (or_bracketed shape) text)
 unfolding or_bracketed bracketed_if counted_if joined ascii
-or_as one_Unit h = spells_bracketed 0 0 h
+or_as one_unit h = spells_bracketed 0 0 h
 or_as and_units h = spells_unit (spells_bracketed 0 0 h)
 or_as or_units h = h
 
@@ -94,7 +94,7 @@ spells_as marks le shape (proposition wanted k) numbers propositions =
 spells_as marks le shape (and f g) numbers propositions =
     and_as shape
     (spells_and 1 1 (spells_as marks le and_units f (or_fails_left (over_number f) (over_number g) numbers) (or_fails_left (over_mark marks f) (over_mark marks g) propositions))
-    (spells_as marks le one_Unit g (or_fails_right (over_number f) (over_number g) numbers) (or_fails_right (over_mark marks f) (over_mark marks g) propositions)))
+    (spells_as marks le one_unit g (or_fails_right (over_number f) (over_number g) numbers) (or_fails_right (over_mark marks f) (over_mark marks g) propositions)))
 spells_as marks le shape (or f g) numbers propositions =
     or_as shape
     (spells_or 1 1 (spells_as marks le or_units f (or_fails_left (over_number f) (over_number g) numbers) (or_fails_left (over_mark marks f) (over_mark marks g) propositions))
@@ -102,12 +102,12 @@ spells_as marks le shape (or f g) numbers propositions =
 spells_as marks le shape (next c t g) numbers propositions =
     let d = numbered t.0 (small_number t.0 (or_fails_left (ltb most_ticks t.0) (over_number g) numbers)) in
     unit_as shape
-    (spells_next 1 c 1 1 d.written (spells_as marks le one_Unit g (or_fails_right (ltb most_ticks t.0) (over_number g) numbers) propositions))
+    (spells_next 1 c 1 1 d.written (spells_as marks le one_unit g (or_fails_right (ltb most_ticks t.0) (over_number g) numbers) propositions))
 spells_as marks le shape (always_for t g) numbers propositions =
     let d = numbered t.0 (small_number t.0 (or_fails_left (ltb most_ticks t.0) (over_number g) numbers)) in
     unit_as shape
     (spells_always 1 (number_written 1 d.written)
-    (spells_as marks le one_Unit g (or_fails_right (ltb most_ticks t.0) (over_number g) numbers) propositions))
+    (spells_as marks le one_unit g (or_fails_right (ltb most_ticks t.0) (over_number g) numbers) propositions))
 spells_as marks le shape (until t f g) numbers propositions =
     let d = numbered t.0 (small_number t.0 (or_fails_left (ltb most_ticks t.0) (over_number f || over_number g) numbers)) in
     let parts = or_fails_right (ltb most_ticks t.0) (over_number f || over_number g) numbers in

@@ -18,7 +18,7 @@ use Rattle.logic.specs.Book.{Formula, and, or, next, always_for, until, within}
 use Rattle.reading.specs.Tokens.{stands, skip, mark_token}
 use Rattle.reading.specs.Grammar.{no_bound, compared, optional, Connective, connective, connectives, bound_at, formula_one, formula_two}
 use Rattle.reading.specs.Grammar.{Parsed, bad, got, onward, behind, Level, or_level, and_level, unit_level, or_rest, and_rest, Reader, joining, bracketed, two_parts, with_bound, led, marked_unit, unit_at, read_level, read_step, calls_left, formula_at}
-use Rattle.reading.specs.Spelling.{spaces, negation, Shape, one_Unit, and_units, or_units, Spells, spells_true, spells_false, spells_mark, spells_next, spells_always, spells_within, spells_until, spells_bracketed, spells_unit, spells_and, spells_ands, spells_or}
+use Rattle.reading.specs.Spelling.{spaces, negation, Shape, one_unit, and_units, or_units, Spells, spells_true, spells_false, spells_mark, spells_next, spells_always, spells_within, spells_until, spells_bracketed, spells_unit, spells_and, spells_ands, spells_or}
 use Rattle.reading.proofs.FormulaBack.{spelled_some}
 use Rattle.reading.proofs.SpelledTokens.{pick_by, Passage, Passages, passage_inside, passages_end, passage_before, passages_joined, passage_empty, byte_passage, stands_passage, gap, spaces_passage, mark_by, compared_by, optional_by}
 
@@ -36,7 +36,7 @@ spelled_ends h = passage_inside h.passage (spelled_some h.spells)
 unfoldable pub Found : ℕ → List ℕ → Level → ℕ → Formula → ℕ → ℕ → Type 0
 Found usual s or_level p f b e = SpelledAt usual or_units s p f b e
 Found usual s and_level p f b e = SpelledAt usual and_units s p f b e
-Found usual s unit_level p f b e = SpelledAt usual one_Unit s p f b e
+Found usual s unit_level p f b e = SpelledAt usual one_unit s p f b e
 Found usual s (or_rest g c) p f b e = (o : ℕ) → SpelledAt usual or_units s o g c p → SpelledAt usual or_units s o f b e
 Found usual s (and_rest g c) p f b e = (o : ℕ) → SpelledAt usual and_units s o g c p → SpelledAt usual and_units s o f b e
 
@@ -89,7 +89,7 @@ module _ (usual : ℕ) (s : List ℕ) (read : Reader) (sound : (level : Level) (
   two_sound : (p k : ℕ) (make : Formula → Formula → Formula)
       → ((f g : Formula) (b c e i j l m n : ℕ) (first second : List ℕ) → Spells usual or_units f b first → Spells usual or_units g c second
       → Passages s k (spaces i ∷ ascii "(" ∷ spaces j ∷ first ∷ spaces l ∷ ascii "," ∷ spaces m ∷ second ∷ spaces n ∷ ascii ")" ∷ []) e
-      → SpelledAt usual one_Unit s p (make f g) (suc (max b c)) e)
+      → SpelledAt usual one_unit s p (make f g) (suc (max b c)) e)
       → Sound usual s unit_level p (two_parts s k read make)
   unfolding two_parts Sound Found ascii
   two_sound p k make made =
@@ -122,7 +122,7 @@ module _ (usual : ℕ) (s : List ℕ) (read : Reader) (sound : (level : Level) (
 
   -- the part behind a bound that ends at k
   part_sound : (p k : ℕ) (make : Formula → Formula)
-      → ((g : Formula) (b e i : ℕ) (part : List ℕ) → Spells usual one_Unit g b part → Passages s k (spaces i ∷ part ∷ []) e → SpelledAt usual one_Unit s p (make g) b e)
+      → ((g : Formula) (b e i : ℕ) (part : List ℕ) → Spells usual one_unit g b part → Passages s k (spaces i ∷ part ∷ []) e → SpelledAt usual one_unit s p (make g) b e)
       → Sound usual s unit_level p (onward (read unit_level (skip s k)) (λ g b q. got (make g) b q))
   unfolding Sound Found
   part_sound p k make made =

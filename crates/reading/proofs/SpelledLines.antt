@@ -59,10 +59,10 @@ module _ (usual : ℕ) (s : List ℕ) (p : ℕ) where
       let rest = drop (length (word form ++ (32 ∷ []))) (drop p s) in
       let whole : Span s p (word form ++ (32 ∷ [])) rest (p + length (word form ++ (32 ∷ []))) =
       record { text = begins_out (word form ++ (32 ∷ [])) (drop p s) e; ends = refl } in
-      let behind-word = (span_right (word form) (32 ∷ []) whole).text in
-      let (i, g) = some_gap s q rest behind-word in
+      let behind_word = (span_right (word form) (32 ∷ []) whole).text in
+      let (i, g) = some_gap s q rest behind_word in
       let here : Passage s p (word form) q =
-      record { text = (span_left (word form) (32 ∷ []) whole).text ∙ ap (λ l. word form ++ l) (sym behind-word); ends = refl } in
+      record { text = (span_left (word form) (32 ∷ []) whole).text ∙ ap (λ l. word form ++ l) (sym behind_word); ends = refl } in
       ended_sound form q i here g (formula_at usual s (skip s q)) refl) (λ _. h)
 
   line_sound : LineSound usual s p (line_at usual s p)

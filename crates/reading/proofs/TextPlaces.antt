@@ -104,11 +104,11 @@ module _ {s : List ℕ} {p : ℕ} {rest : List ℕ} {e : ℕ} where
   pub skip_place : (n : ℕ) {more : List (List ℕ)} → Pieces s p (spaces n ∷ more) rest e → eqb 32 (byte_at (joined more ++ rest) 0) ≡ false
       → skip s p ≡ p + n
   unfolding skip
-  skip_place n {more} h no-space = ap (λ l. p + leading (eqb 32) l) (piece h).text ∙ ap (λ k. p + k) (leading_spaces n (joined more ++ rest) no-space)
+  skip_place n {more} h no_space = ap (λ l. p + leading (eqb 32) l) (piece h).text ∙ ap (λ k. p + k) (leading_spaces n (joined more ++ rest) no_space)
 
   pub skip_piece : (n : ℕ) {more : List (List ℕ)} → Pieces s p (spaces n ∷ more) rest e → eqb 32 (byte_at (joined more ++ rest) 0) ≡ false
       → Pieces s (skip s p) more rest e
-  skip_piece n {more} h no-space = rw (skip_place n h no-space, ← length-replicate {A = ℕ} n 32) (behind_piece h)
+  skip_piece n {more} h no_space = rw (skip_place n h no_space, ← length-replicate {A = ℕ} n 32) (behind_piece h)
 
 -- the last piece
 pub last_piece : {s : List ℕ} {p : ℕ} {x rest : List ℕ} {e : ℕ} → Pieces s p (x ∷ []) rest e → Span s p x rest e

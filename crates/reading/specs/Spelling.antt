@@ -47,37 +47,37 @@ negation false = ascii "!"
 
 -- What a text is: one unit; units joined by `&`; or such texts joined by `|`.
 pub data Shape : Type 0 where
-  one_Unit and_units or_units : Shape
+  one_unit and_units or_units : Shape
 
 -- The bytes spell the formula in that shape, and so many brackets stand open in them at most.
 -- `joined` puts pieces one behind the other; i, j, k, l and m are numbers of spaces.
 pub data Spells (usual : ℕ) : Shape → Formula → (brackets : ℕ) → List ℕ → Type 0 where
   -- `T` and `F`
-  spells_true : Spells usual one_Unit (constant true) 0 (ascii "T")
-  spells_false : Spells usual one_Unit (constant false) 0 (ascii "F")
+  spells_true : Spells usual one_unit (constant true) 0 (ascii "T")
+  spells_false : Spells usual one_unit (constant false) 0 (ascii "F")
   -- `p` and one or two digits, `!` before it or not
   spells_mark : (wanted : Bool) {count k : ℕ} {number : List ℕ} → Digits count k number → count ≤ 2
-      → Spells usual one_Unit (proposition wanted k) 0 (joined (negation wanted ∷ ascii "p" ∷ number ∷ []))
+      → Spells usual one_unit (proposition wanted k) 0 (joined (negation wanted ∷ ascii "p" ∷ number ∷ []))
   -- `N`, a comparison, a number and a unit
   spells_next : (i : ℕ) (c : Comparison) (j : ℕ) {count t : ℕ} {number : List ℕ} (k : ℕ) {g : Formula} {b : ℕ} {part : List ℕ}
-      → Digits count t number → Spells usual one_Unit g b part
-      → Spells usual one_Unit (next c (ticks t) g) b (joined (ascii "N" ∷ spaces i ∷ sign c ∷ spaces j ∷ number ∷ spaces k ∷ part ∷ []))
+      → Digits count t number → Spells usual one_unit g b part
+      → Spells usual one_unit (next c (ticks t) g) b (joined (ascii "N" ∷ spaces i ∷ sign c ∷ spaces j ∷ number ∷ spaces k ∷ part ∷ []))
   -- `A` or `E`, a bound and a unit
-  spells_always : {t : ℕ} {bound : List ℕ} (k : ℕ) {g : Formula} {b : ℕ} {part : List ℕ} → BoundText usual t bound → Spells usual one_Unit g b part
-      → Spells usual one_Unit (always_for (ticks t) g) b (joined (ascii "A" ∷ bound ∷ spaces k ∷ part ∷ []))
-  spells_within : {t : ℕ} {bound : List ℕ} (k : ℕ) {g : Formula} {b : ℕ} {part : List ℕ} → BoundText usual t bound → Spells usual one_Unit g b part
-      → Spells usual one_Unit (within (ticks t) g) b (joined (ascii "E" ∷ bound ∷ spaces k ∷ part ∷ []))
+  spells_always : {t : ℕ} {bound : List ℕ} (k : ℕ) {g : Formula} {b : ℕ} {part : List ℕ} → BoundText usual t bound → Spells usual one_unit g b part
+      → Spells usual one_unit (always_for (ticks t) g) b (joined (ascii "A" ∷ bound ∷ spaces k ∷ part ∷ []))
+  spells_within : {t : ℕ} {bound : List ℕ} (k : ℕ) {g : Formula} {b : ℕ} {part : List ℕ} → BoundText usual t bound → Spells usual one_unit g b part
+      → Spells usual one_unit (within (ticks t) g) b (joined (ascii "E" ∷ bound ∷ spaces k ∷ part ∷ []))
   -- `U`, a bound, and two parts in brackets with a comma between them
   spells_until : {t : ℕ} {bound : List ℕ} (i j k l m : ℕ) {f g : Formula} {b c : ℕ} {first second : List ℕ}
       → BoundText usual t bound → Spells usual or_units f b first → Spells usual or_units g c second
-      → Spells usual one_Unit (until (ticks t) f g) (suc (max b c))
+      → Spells usual one_unit (until (ticks t) f g) (suc (max b c))
       (joined (ascii "U" ∷ bound ∷ spaces i ∷ ascii "(" ∷ spaces j ∷ first ∷ spaces k ∷ ascii "," ∷ spaces l ∷ second ∷ spaces m ∷ ascii ")" ∷ []))
   -- any formula in brackets
   spells_bracketed : (i j : ℕ) {f : Formula} {b : ℕ} {text : List ℕ} → Spells usual or_units f b text
-      → Spells usual one_Unit f (suc b) (joined (ascii "(" ∷ spaces i ∷ text ∷ spaces j ∷ ascii ")" ∷ []))
+      → Spells usual one_unit f (suc b) (joined (ascii "(" ∷ spaces i ∷ text ∷ spaces j ∷ ascii ")" ∷ []))
   -- a unit alone; or `&`, grouped from the left
-  spells_unit : {f : Formula} {b : ℕ} {text : List ℕ} → Spells usual one_Unit f b text → Spells usual and_units f b text
-  spells_and : (i j : ℕ) {f g : Formula} {b c : ℕ} {first second : List ℕ} → Spells usual and_units f b first → Spells usual one_Unit g c second
+  spells_unit : {f : Formula} {b : ℕ} {text : List ℕ} → Spells usual one_unit f b text → Spells usual and_units f b text
+  spells_and : (i j : ℕ) {f g : Formula} {b c : ℕ} {first second : List ℕ} → Spells usual and_units f b first → Spells usual one_unit g c second
       → Spells usual and_units (and f g) (max b c) (joined (first ∷ spaces i ∷ ascii "&" ∷ spaces j ∷ second ∷ []))
   -- no `|` at all; or `|`, grouped from the left
   spells_ands : {f : Formula} {b : ℕ} {text : List ℕ} → Spells usual and_units f b text → Spells usual or_units f b text
@@ -128,12 +128,12 @@ number_text n =
 
 -- where `&` wants brackets, and where `|` does
 unfoldable pub and_bracketed : Shape → Bool
-and_bracketed one_Unit = true
+and_bracketed one_unit = true
 and_bracketed and_units = false
 and_bracketed or_units = false
 
 unfoldable pub or_bracketed : Shape → Bool
-or_bracketed one_Unit = true
+or_bracketed one_unit = true
 or_bracketed and_units = true
 or_bracketed or_units = false
 
@@ -151,10 +151,10 @@ unfoldable pub text_as : Shape → Formula → List ℕ
 text_as shape (constant true) = ascii "T"
 text_as shape (constant false) = ascii "F"
 text_as shape (proposition wanted k) = joined (negation wanted ∷ ascii "p" ∷ number_text k ∷ [])
-text_as shape (and f g) = bracketed_if (and_bracketed shape) (joined (text_as and_units f ∷ ascii " & " ∷ text_as one_Unit g ∷ []))
+text_as shape (and f g) = bracketed_if (and_bracketed shape) (joined (text_as and_units f ∷ ascii " & " ∷ text_as one_unit g ∷ []))
 text_as shape (or f g) = bracketed_if (or_bracketed shape) (joined (text_as or_units f ∷ ascii " | " ∷ text_as and_units g ∷ []))
-text_as shape (next c t g) = joined (ascii "N " ∷ sign c ∷ ascii " " ∷ number_text t.0 ∷ ascii " " ∷ text_as one_Unit g ∷ [])
-text_as shape (always_for t g) = joined (ascii "A " ∷ number_text t.0 ∷ ascii " " ∷ text_as one_Unit g ∷ [])
+text_as shape (next c t g) = joined (ascii "N " ∷ sign c ∷ ascii " " ∷ number_text t.0 ∷ ascii " " ∷ text_as one_unit g ∷ [])
+text_as shape (always_for t g) = joined (ascii "A " ∷ number_text t.0 ∷ ascii " " ∷ text_as one_unit g ∷ [])
 text_as shape (until t f g) =
     joined (ascii "U " ∷ number_text t.0 ∷ ascii " (" ∷ text_as or_units f ∷ ascii ", " ∷ text_as or_units g ∷ ascii ")" ∷ [])
 
@@ -162,10 +162,10 @@ text_as shape (until t f g) =
 unfoldable pub brackets_in : Shape → Formula → ℕ
 brackets_in shape (constant b) = 0
 brackets_in shape (proposition wanted k) = 0
-brackets_in shape (and f g) = counted_if (and_bracketed shape) (max (brackets_in and_units f) (brackets_in one_Unit g))
+brackets_in shape (and f g) = counted_if (and_bracketed shape) (max (brackets_in and_units f) (brackets_in one_unit g))
 brackets_in shape (or f g) = counted_if (or_bracketed shape) (max (brackets_in or_units f) (brackets_in and_units g))
-brackets_in shape (next c t g) = brackets_in one_Unit g
-brackets_in shape (always_for t g) = brackets_in one_Unit g
+brackets_in shape (next c t g) = brackets_in one_unit g
+brackets_in shape (always_for t g) = brackets_in one_unit g
 brackets_in shape (until t f g) = suc (max (brackets_in or_units f) (brackets_in or_units g))
 
 -- a formula as it is written behind the word of a line, and its brackets

@@ -93,7 +93,7 @@ module _ (graph : Graph) (safe : ℕ → Bool) where
             with_it = joined;
             first =
                 first_in same m (and_left (safe m) (same m x) low.passes)
-                (λ j l safe-j e. never_both (and_both safe-j (is.chained j m x e joined)) (low.before j l));
+                (λ j l safe_j e. never_both (and_both safe_j (is.chained j m x e joined)) (low.before j l));
           }
 
   -- ---- more classes
@@ -116,7 +116,7 @@ module _ (graph : Graph) (safe : ℕ → Bool) where
     first_comes : (m x : ℕ) → first_of_class graph safe old m ≡ true → SafePair graph safe x → old m x ≡ true → new m x ≡ false
         → classes graph safe old < classes graph safe new
     unfolding classes
-    first_comes m x first s was is-not = by (first_row new (partition_same graph safe (suc k)) x s)
+    first_comes m x first s was is_not = by (first_row new (partition_same graph safe (suc k)) x s)
       where
         by : FirstOf new x → count (first_of_class graph safe old) graph.pairs < count (first_of_class graph safe new) graph.pairs
         by f =
@@ -130,7 +130,7 @@ module _ (graph : Graph) (safe : ℕ → Bool) where
             joined = is.chained f.row x m (partition_finer graph safe k f.row x f.with_it) (is.turned m x was)
 
             apart : (f.row ≡ m → ⊥)
-            apart e = never_both (subst (λ r. new r x ≡ true) e f.with_it) is-not
+            apart e = never_both (subst (λ r. new r x ≡ true) e f.with_it) is_not
 
             no_first : first_of_class graph safe old f.row ≡ true → ⊥
             no_first e = go (dec_lt m f.row)
@@ -181,4 +181,4 @@ module _ (graph : Graph) (safe : ℕ → Bool) where
       by : Lowest safe i → 0 < count (first_of_class graph safe same) graph.pairs
       by low =
           count_there (first_of_class graph safe same) graph.pairs low.number (omega (arith, s.there, low.most))
-          (first_in same low.number low.passes (λ j l safe-j e. never_both safe-j (low.before j l)))
+          (first_in same low.number low.passes (λ j l safe_j e. never_both safe_j (low.before j l)))

@@ -67,18 +67,18 @@ room_there nodes pairs index graph sets room b is_b e =
     let g = leb graph_area (length graph) && s in
     let i = leb index_area (length index) && g in
     let p = leb pairs_area (length pairs) && i in
-    let from-p = and_right (leb book_area (length nodes)) p all in
-    let from-i = and_right (leb pairs_area (length pairs)) i from-p in
-    let from-g = and_right (leb index_area (length index)) g from-i in
-    let from-s = and_right (leb graph_area (length graph)) s from-g in
-    let from-m = and_right (leb sets_area (length sets)) m from-s in
+    let from_p = and_right (leb book_area (length nodes)) p all in
+    let from_i = and_right (leb pairs_area (length pairs)) i from_p in
+    let from_g = and_right (leb index_area (length index)) g from_i in
+    let from_s = and_right (leb graph_area (length graph)) s from_g in
+    let from_m = and_right (leb sets_area (length sets)) m from_s in
     record {
       nodes_room = leb-true book_area (length nodes) (and_left (leb book_area (length nodes)) p all);
-      pairs_room = leb-true pairs_area (length pairs) (and_left (leb pairs_area (length pairs)) i from-p);
-      index_room = leb-true index_area (length index) (and_left (leb index_area (length index)) g from-i);
-      graph_room = leb-true graph_area (length graph) (and_left (leb graph_area (length graph)) s from-g);
-      sets_room = leb-true sets_area (length sets) (and_left (leb sets_area (length sets)) m from-s);
-      room_room = leb-true room_area (length room) (and_left (leb room_area (length room)) true from-m);
+      pairs_room = leb-true pairs_area (length pairs) (and_left (leb pairs_area (length pairs)) i from_p);
+      index_room = leb-true index_area (length index) (and_left (leb index_area (length index)) g from_i);
+      graph_room = leb-true graph_area (length graph) (and_left (leb graph_area (length graph)) s from_g);
+      sets_room = leb-true sets_area (length sets) (and_left (leb sets_area (length sets)) m from_s);
+      room_room = leb-true room_area (length room) (and_left (leb room_area (length room)) true from_m);
     }
 
 -- ---- the maker's eight

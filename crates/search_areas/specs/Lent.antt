@@ -12,10 +12,10 @@ pub record Room (nodes pairs index graph sets room : List ℕ) : Type 0 where
   pub room_room : room_area ≤ length room
 
 -- The areas hold zeros over their whole length.
-pub record LentCleared (nodes pairs index graph sets room nodes_after pairs-after index-after graph-after sets-after Room-after : List ℕ) : Type 0 where
+pub record LentCleared (nodes pairs index graph sets room nodes_after pairs_after index_after graph_after sets_after room_after : List ℕ) : Type 0 where
   pub nodes_zero : nodes_after ≡ replicate (length nodes) 0
-  pub pairs_zero : pairs-after ≡ replicate (length pairs) 0
-  pub index_zero : index-after ≡ replicate (length index) 0
-  pub graph_zero : graph-after ≡ replicate (length graph) 0
-  pub sets_zero : sets-after ≡ replicate (length sets) 0
-  pub room_zero : Room-after ≡ replicate (length room) 0
+  pub pairs_zero : pairs_after ≡ replicate (length pairs) 0
+  pub index_zero : index_after ≡ replicate (length index) 0
+  pub graph_zero : graph_after ≡ replicate (length graph) 0
+  pub sets_zero : sets_after ≡ replicate (length sets) 0
+  pub room_zero : room_after ≡ replicate (length room) 0

@@ -199,24 +199,24 @@ pairs_end r bytes n sets p a q b room order i room₁ order₁ going low all =
 
 -- The numbers of candidates are small.
 few_pairs : (a b i : ℕ) → i < a → a ≤ 16 → b ≤ 16 → b * i + b ≤ 256
-few_pairs a b i low most-a most-b =
+few_pairs a b i low most_a most_b =
     let inside = piece_inside b a i low in
-    let all : b * a ≤ 16 * 16 = mul-le-mul most-b most-a in
+    let all : b * a ≤ 16 * 16 = mul-le-mul most_b most_a in
     omega arith
 
 pub pair_fits : (a b i : ℕ) → i < a → a ≤ 16 → b ≤ 16 → Fits w64 (b * i)
-pair_fits a b i low most-a most-b = omega (arith, few_pairs a b i low most-a most-b)
+pair_fits a b i low most_a most_b = omega (arith, few_pairs a b i low most_a most_b)
 
 pub row_room : (r : ℕ) (bytes : List ℕ) (n : ℕ) (more : List Formula → List Pending) (room order : List ℕ) (a b i : ℕ) (room₁ order₁ : List ℕ)
     → Gathered r bytes n more room order 0 0 (b * i) room₁ order₁ → i < a → a ≤ 16 → b ≤ 16 → RoomFor 256 n room order 0 0
     → RoomFor b n room₁ order₁ r (b * i)
-row_room r bytes n more room order a b i room₁ order₁ going low most-a most-b for =
+row_room r bytes n more room order a b i room₁ order₁ going low most_a most_b for =
     record {
       nodes = for.nodes;
       candidates = omega (arith, for.candidates, going.candidates.size);
       numbers = omega (arith, for.numbers, going.size);
       few = omega (arith, going.most);
-      limit = few_pairs a b i low most-a most-b;
+      limit = few_pairs a b i low most_a most_b;
     }
 
 -- ---- two sets of copies
@@ -261,7 +261,7 @@ module _ (n : ℕ) (sets : List ℕ) (p i : ℕ) (room order room₁ order₁ : 
 module _ (n : ℕ) (sets : List ℕ) (p a : ℕ) (room order room₁ order₁ : List ℕ) (taken : AllTaken n sets p a room order room₁ order₁) where
   -- Then the others.
   pub second_room : (b : ℕ) → RoomFor 256 n room order 0 0 → a ≤ 16 → b ≤ 16 → RoomFor b n room₁ order₁ a a
-  second_room b for most-a most-b =
+  second_room b for most_a most_b =
       record {
         nodes = for.nodes;
         candidates = omega (arith, for.candidates, taken.candidates.size);

@@ -162,9 +162,9 @@ module _ (r left : ℕ) (bytes : List ℕ) (n : ℕ) (sets : List ℕ) (p a q b 
   pub combine_done : Gathered left bytes n (pairs_of sets n p a q b) room order 0 0 k room₁ order₁ → a ≤ 16 → b ≤ 16
       → Combines r bytes n sets p a q b to room after room₁
   unfolding pairs_of combined
-  combine_done gathered few few-too =
+  combine_done gathered few few_too =
       let e = answered_these sets n p a few in
-      let f = answered_these sets n q b few-too in
+      let f = answered_these sets n q b few_too in
       record {
         leaves = leaves_by (pairs_of sets n p a q b) gathered;
         says = λ fs are.
@@ -196,9 +196,9 @@ pub join_done : (r left : ℕ) (bytes : List ℕ) (n : ℕ) (sets : List ℕ) (p
     → Finished r n room₁ order₁ left sets to after → EitherGathered left bytes n sets p a q b room order room₁ order₁ → a ≤ 16 → b ≤ 16
     → JoinsSets r bytes n sets p a q b to room after room₁
 unfolding joined_with
-join_done r left bytes n sets p a q b to room order room₁ order₁ after finished gathered few few-too =
+join_done r left bytes n sets p a q b to room order room₁ order₁ after finished gathered few few_too =
     let e = answered_these sets n p a few in
-    let f = answered_these sets n q b few-too in
+    let f = answered_these sets n q b few_too in
     record {
       leaves = record { most = finished.most; beside = finished.beside; candidates = gathered.candidates };
       says = λ fs are stands.
@@ -223,10 +223,10 @@ sets_room n sets p q to room order ready all =
 -- and for their numbers.
 pub pairs_listed : (left : ℕ) (bytes : List ℕ) (n : ℕ) (more : List Formula → List Pending) (room order : List ℕ) (a b : ℕ) (room₁ order₁ : List ℕ)
     → Gathered left bytes n more room order 0 0 (b * a) room₁ order₁ → a ≤ 16 → b ≤ 16 → length order ≡ 256 → left ≤ length order₁
-pairs_listed left bytes n more room order a b room₁ order₁ gathered few few-too all =
-    let most : b * a ≤ 16 * 16 = mul-le-mul few-too few in
+pairs_listed left bytes n more room order a b room₁ order₁ gathered few few_too all =
+    let most : b * a ≤ 16 * 16 = mul-le-mul few_too few in
     omega (arith, gathered.most, gathered.size)
 
 pub either_listed : (left : ℕ) (bytes : List ℕ) (n : ℕ) (sets : List ℕ) (p a q b : ℕ) (room order room₁ order₁ : List ℕ)
     → EitherGathered left bytes n sets p a q b room order room₁ order₁ → a ≤ 16 → b ≤ 16 → length order ≡ 256 → left ≤ length order₁
-either_listed left bytes n sets p a q b room order room₁ order₁ gathered few few-too all = omega (arith, gathered.most, gathered.size)
+either_listed left bytes n sets p a q b room order room₁ order₁ gathered few few_too all = omega (arith, gathered.most, gathered.size)

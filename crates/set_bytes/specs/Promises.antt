@@ -78,28 +78,28 @@ pub record Candidates (room : List ℕ) (c : ℕ) (after : List ℕ) : Type 0 wh
   pub behind : drop candidates_size after ≡ drop candidates_size room
 
 -- Of m chosen candidates, all below c, and k more, which the nodes say, r are left, all below c + k.
-pub record Gathered (r : ℕ) (bytes : List ℕ) (n : ℕ) (more : List Formula → List Pending) (room order : List ℕ) (m c k : ℕ) (after-room after : List ℕ) : Type 0 where
+pub record Gathered (r : ℕ) (bytes : List ℕ) (n : ℕ) (more : List Formula → List Pending) (room order : List ℕ) (m c k : ℕ) (after_room after : List ℕ) : Type 0 where
   pub size : length after ≡ length order
   pub most : r ≤ m + k
   pub below : Below order m c → Below after r (c + k)
-  pub candidates : Candidates room c after-room
+  pub candidates : Candidates room c after_room
   pub says : Below order m c → (fs : List Formula) → AreNodes bytes n fs
-      → chosen after-room n after r ≡ with_more (asks_no_more fs) earlier (chosen room n order m) (more fs)
+      → chosen after_room n after r ≡ with_more (asks_no_more fs) earlier (chosen room n order m) (more fs)
 
 -- The a alternatives from p on are the first a candidates, all chosen, in their order.
-pub record AllTaken (n : ℕ) (sets : List ℕ) (p a : ℕ) (room order after-room after : List ℕ) : Type 0 where
+pub record AllTaken (n : ℕ) (sets : List ℕ) (p a : ℕ) (room order after_room after : List ℕ) : Type 0 where
   pub size : length after ≡ length order
   pub below : Below after a a
-  pub candidates : Candidates room 0 after-room
-  pub is : chosen after-room n after a ≡ set_in sets n p a
+  pub candidates : Candidates room 0 after_room
+  pub is : chosen after_room n after a ≡ set_in sets n p a
 
 -- Beside those of one set, as they are, the b alternatives of the other are gathered one after the other.
-pub record EitherGathered (r : ℕ) (bytes : List ℕ) (n : ℕ) (sets : List ℕ) (p a q b : ℕ) (room order after-room after : List ℕ) : Type 0 where
+pub record EitherGathered (r : ℕ) (bytes : List ℕ) (n : ℕ) (sets : List ℕ) (p a q b : ℕ) (room order after_room after : List ℕ) : Type 0 where
   pub size : length after ≡ length order
   pub most : r ≤ a + b
-  pub candidates : Candidates room 0 after-room
+  pub candidates : Candidates room 0 after_room
   pub says : (fs : List Formula) → AreNodes bytes n fs
-      → chosen after-room n after r ≡ with_more (asks_no_more fs) earlier (set_in sets n p a) (set_in sets n q b)
+      → chosen after_room n after r ≡ with_more (asks_no_more fs) earlier (set_in sets n p a) (set_in sets n q b)
 
 -- The r chosen candidates, written to the set at `to`. Every byte beside it stays.
 pub record PutOut (n : ℕ) (room order : List ℕ) (r : ℕ) (sets : List ℕ) (to : ℕ) (after : List ℕ) : Type 0 where
@@ -113,14 +113,14 @@ pub record Finished (r n : ℕ) (room order : List ℕ) (left : ℕ) (sets : Lis
   pub is : answered after n to r ≡ counted (chosen room n order left)
 
 -- What a combination leaves: the set at `to` changes, and of the room only the candidates.
-pub record Leaves (r : ℕ) (sets : List ℕ) (to : ℕ) (room after after-room : List ℕ) : Type 0 where
+pub record Leaves (r : ℕ) (sets : List ℕ) (to : ℕ) (room after after_room : List ℕ) : Type 0 where
   pub most : r ≤ 17
   pub beside : Beside sets to set_size after
-  pub candidates : Candidates room 0 after-room
+  pub candidates : Candidates room 0 after_room
 
 -- Two sets that are both to be met.
-pub record Combines (r : ℕ) (bytes : List ℕ) (n : ℕ) (sets : List ℕ) (p a q b to : ℕ) (room after after-room : List ℕ) : Type 0 where
-  pub leaves : Leaves r sets to room after after-room
+pub record Combines (r : ℕ) (bytes : List ℕ) (n : ℕ) (sets : List ℕ) (p a q b to : ℕ) (room after after_room : List ℕ) : Type 0 where
+  pub leaves : Leaves r sets to room after after_room
   pub says : (fs : List Formula) → AreNodes bytes n fs → answered after n to r ≡ combined fs (answered sets n p a) (answered sets n q b)
 
 -- A set has nothing to drop: joined with none, it is itself.
@@ -128,8 +128,8 @@ abbrev pub NothingToDrop : List Formula → Alternatives → Type 0
 NothingToDrop fs s = joined_with fs broken s ≡ s
 
 -- Two sets of which either is to be met, where the first has nothing to drop.
-pub record JoinsSets (r : ℕ) (bytes : List ℕ) (n : ℕ) (sets : List ℕ) (p a q b to : ℕ) (room after after-room : List ℕ) : Type 0 where
-  pub leaves : Leaves r sets to room after after-room
+pub record JoinsSets (r : ℕ) (bytes : List ℕ) (n : ℕ) (sets : List ℕ) (p a q b to : ℕ) (room after after_room : List ℕ) : Type 0 where
+  pub leaves : Leaves r sets to room after after_room
   pub says : (fs : List Formula) → AreNodes bytes n fs → NothingToDrop fs (answered sets n p a)
       → answered after n to r ≡ joined_with fs (answered sets n p a) (answered sets n q b)
 

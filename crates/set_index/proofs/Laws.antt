@@ -356,7 +356,7 @@ module _ (before after : List ℕ) (n number end : ℕ)
     -- and entry n has its head.
     pub put_headed : entries_size ≤ length before → entry_first before n < end → end ≤ alternatives_room → Headed after n
     put_headed room more most =
-        let is-end = put_end (heads_few before n heads) room (omega arith) in
+        let is_end = put_end (heads_few before n heads) room (omega arith) in
         record {
           start = put_heads.start;
           rising = λ i l. elim (dec_lt i n) [
@@ -442,4 +442,4 @@ indexed_cleared area index size e =
 
 -- An entry that was not found is a new one.
 pub not_found_new : (area : List ℕ) (n r : ℕ) → r ≡ place_of (same_entry (entry_at area n)) (entries_of area n) → n ≤ r → IsNew area n
-not_found_new area n r is-r l = record { other = λ i k same. found_first area n r i is-r (omega arith) same }
+not_found_new area n r is_r l = record { other = λ i k same. found_first area n r i is_r (omega arith) same }

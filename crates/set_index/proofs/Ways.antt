@@ -127,12 +127,12 @@ number_product l i w e bytes = omega (arith, number_bound 2 l (60960 + 4 * i) by
 
 pub entry_start : (entries : List ℕ) (i end w s : ℕ) → end ≡ entry_first entries (i + 1) → w ≡ entry_number entries i
     → s ≡ entry_first entries i → Headed entries i → ((j : ℕ) → Fits w8 (get_or entries j 0)) → HashingEntry entries i end (521288629 * w) s
-entry_start entries i end w s is-end is-w is-s headed bytes =
+entry_start entries i end w s is_end is-w is-s headed bytes =
     record {
       small = omega (arith, number_bound 2 entries (60960 + 4 * i) bytes);
       most = omega (arith, headed.rising i (omega arith));
       room = omega (arith, headed.inside);
-      last = is-end;
+      last = is_end;
       left = ap₂ (λ (a b : ℕ). 521288629 * a + hashes entries b (end - b)) is-w is-s;
     }
 
@@ -224,8 +224,8 @@ pub compared_start : (entries : List ℕ) (s t x y : ℕ) → x ≡ number_at 8 
 compared_start entries s t x y e f =
     record {
       same = λ _. bytes_start entries s t;
-      last = λ yes-they-are. sym e ∙ eqb-true x y yes-they-are ∙ f;
-      apart = λ they-are-not. differ_at entries s t 52 x y (omega arith) e f (eqb-false x y they-are-not);
+      last = λ yes_they_are. sym e ∙ eqb-true x y yes_they_are ∙ f;
+      apart = λ they_are_not. differ_at entries s t 52 x y (omega arith) e f (eqb-false x y they_are_not);
     }
 
 module _ (entries : List ℕ) (s t k : ℕ) (equal : Bool) (g : ComparedBytes entries s t k equal) where
@@ -233,17 +233,17 @@ module _ (entries : List ℕ) (s t k : ℕ) (equal : Bool) (g : ComparedBytes en
   pub compared_next : (after : Bool) (x y : ℕ) → k < 52 → x ≡ number_at 8 entries (60 * s + k) → y ≡ number_at 8 entries (60 * t + k)
       → ((n : ℕ) → Fits w8 (get_or entries n 0)) → ((x ≡ y → ⊥) × (after ≡ false)) ⊎ ((x ≡ y) × (after ≡ equal))
       → ComparedBytes entries s t (k + 8) after
-  compared_next after x y l e f bytes (inl (apart, is-after)) =
+  compared_next after x y l e f bytes (inl (apart, is_after)) =
       record {
-        same = λ no. absurd (true≢false (sym no ∙ is-after));
-        last = λ no. absurd (true≢false (sym no ∙ is-after));
+        same = λ no. absurd (true≢false (sym no ∙ is_after));
+        last = λ no. absurd (true≢false (sym no ∙ is_after));
         apart = λ _. differ_at entries s t k x y (omega arith) e f apart;
       }
-  compared_next after x y l e f bytes (inr (same, is-after)) =
+  compared_next after x y l e f bytes (inr (same, is_after)) =
       record {
-        same = λ so_far. bytes_next entries s t k k x y (g.same (sym is-after ∙ so_far)) (omega arith) (omega arith) e f same bytes;
-        last = λ so_far. g.last (sym is-after ∙ so_far);
-        apart = λ no. g.apart (sym is-after ∙ no);
+        same = λ so_far. bytes_next entries s t k k x y (g.same (sym is_after ∙ so_far)) (omega arith) (omega arith) e f same bytes;
+        last = λ so_far. g.last (sym is_after ∙ so_far);
+        apart = λ no. g.apart (sym is_after ∙ no);
       }
 
   -- All have been compared.
@@ -251,10 +251,10 @@ module _ (entries : List ℕ) (s t k : ℕ) (equal : Bool) (g : ComparedBytes en
       → ((n : ℕ) → Fits w8 (get_or entries n 0)) → equal ≡ same_list eqb (alternative_at entries s) (alternative_at entries t)
   compared_end l room room' long bytes =
       whether equal
-      (λ yes-they-are. yes-they-are ∙ sym (bytes_all entries s t
-      (bytes_next entries s t k 52 (number_at 8 entries (60 * s + 52)) (number_at 8 entries (60 * t + 52)) (g.same yes-they-are) l (omega arith) refl refl
-      (g.last yes-they-are) bytes) room room' long))
-      (λ they-are-not. they-are-not ∙ sym (g.apart they-are-not))
+      (λ yes_they_are. yes_they_are ∙ sym (bytes_all entries s t
+      (bytes_next entries s t k 52 (number_at 8 entries (60 * s + 52)) (number_at 8 entries (60 * t + 52)) (g.same yes_they_are) l (omega arith) refl refl
+      (g.last yes_they_are) bytes) room room' long))
+      (λ they_are_not. they_are_not ∙ sym (g.apart they_are_not))
 
 -- Whether n alternatives from s on and from t on are equal.
 abbrev pub alike : List ℕ → ℕ → ℕ → ℕ → Bool
@@ -315,7 +315,7 @@ numbers_differ entries i j x y e f apart =
     numbers : entry_at entries i ≡ entry_at entries j → entry_number entries i ≡ entry_number entries j
     numbers p = sym (entry_number_is entries i) ∙ ap (λ (z : Entry). z.number) p ∙ entry_number_is entries j
 
-module _ (entries : List ℕ) (i j s t e f : ℕ) (is-s : s ≡ entry_first entries i) (is-t : t ≡ entry_first entries j)
+module _ (entries : List ℕ) (i j s t e f : ℕ) (is-s : s ≡ entry_first entries i) (is_t : t ≡ entry_first entries j)
     (is-e : e ≡ entry_first entries (i + 1)) (is_f : f ≡ entry_first entries (j + 1)) where
   -- There are more of the one than of the other.
   pub counts_differ : (f - t ≡ e - s → ⊥) → false ≡ same_entry (entry_at entries i) (entry_at entries j)
@@ -335,9 +335,9 @@ module _ (entries : List ℕ) (i j s t e f : ℕ) (is-s : s ≡ entry_first entr
       → x ≡ entry_number entries i → y ≡ entry_number entries j → x ≡ y → f - t ≡ e - s
       → r ≡ same_entry (entry_at entries i) (entry_at entries j)
   unfolding same_entry entry_at
-  counts_same x y r is-r is_x is_y same many =
+  counts_same x y r is_r is_x is_y same many =
       let numbers = eq-eqb (entry_number entries i) (entry_number entries j) (sym is_x ∙ same ∙ is_y) in
-      is-r ∙ rw (← is-s, ← is-t, ← is-e, ← is_f, many, numbers) refl
+      is_r ∙ rw (← is-s, ← is_t, ← is-e, ← is_f, many, numbers) refl
 
 -- The entry that is looked up ends behind where it begins, and within the area.
 pub own_end : (entries : List ℕ) (i s e : ℕ) → Headed entries i → s ≡ entry_first entries i → e ≡ entry_first entries (i + 1) → s ≤ e
@@ -350,11 +350,11 @@ own_inside entries i s e headed is-s is-e = omega (arith, headed.rising i (omega
 -- So does one before it.
 pub other_end : (entries : List ℕ) (i j t f : ℕ) → Headed entries i → t ≡ entry_first entries j → f ≡ entry_first entries (j + 1) → j ≤ i
     → t ≤ f
-other_end entries i j t f headed is-t is_f l = omega (arith, headed.rising j l)
+other_end entries i j t f headed is_t is_f l = omega (arith, headed.rising j l)
 
 pub other_inside : (entries : List ℕ) (i j t f n : ℕ) → Headed entries i → t ≡ entry_first entries j → f ≡ entry_first entries (j + 1)
     → f - t ≡ n → j ≤ i → t + n ≤ 1016
-other_inside entries i j t f n headed is-t is_f many l =
+other_inside entries i j t f n headed is_t is_f many l =
     omega (arith, headed.rising j l, headed_first entries i headed (j + 1) (omega arith))
 
 -- ---- heads and links
@@ -437,12 +437,12 @@ module _ (entries index : List ℕ) (n : ℕ) (indexed : Indexed entries index n
         (sym (same_entry_out (entry_at entries n) (entry_at entries i) same)
         ∙ same_entry_out (entry_at entries n) (entry_at entries (at - 1)) hit)))
 
-    module _ (r : ℕ) (to-next : r ≡ link_in 6160 index (at - 1)) where
+    module _ (r : ℕ) (to_next : r ≡ link_in 6160 index (at - 1)) where
       -- A link leads to an entry further in front.
       pub find_less : r < at
       find_less =
           walk_falls (hashed entries) buckets (head_in 0 index) (link_in 6160 index) n h indexed.chained (hash_below (entry_at entries n))
-          at r g.walk l to-next
+          at r g.walk l to_next
 
       -- between the two none is equal
       between : (i : ℕ) → r ≤ i → i < at - 1 → same_entry (entry_at entries n) (entry_at entries i) ≡ false
@@ -451,7 +451,7 @@ module _ (entries index : List ℕ) (n : ℕ) (indexed : Indexed entries index n
           omega (
             arith,
             walk_ahead (hashed entries) buckets (head_in 0 index) (link_in 6160 index) n h indexed.chained
-                (hash_below (entry_at entries n)) at r g.walk l to-next i (equal_hashed i same) (omega arith)
+                (hash_below (entry_at entries n)) at r g.walk l to_next i (equal_hashed i same) (omega arith)
                 (λ e. omega arith),
           ))
 
@@ -465,10 +465,10 @@ module _ (entries index : List ℕ) (n : ℕ) (indexed : Indexed entries index n
             none = λ i k m. elim (dec_lt i (at - 1)) [
               | yes before ↦ between i k before
               | no not_before ↦ (
-                  elim (ℕ_discrete i (at - 1)) [ yes here ↦ rw here (sym is_b ∙ t) | no not-here ↦ g.none i (omega arith) m ])
+                  elim (ℕ_discrete i (at - 1)) [ yes here ↦ rw here (sym is_b ∙ t) | no not_here ↦ g.none i (omega arith) m ])
             ];
             walk = walk_on (hashed entries) buckets (head_in 0 index) (link_in 6160 index) n h indexed.chained (hash_below (entry_at entries n))
-                at r g.walk l to-next;
+                at r g.walk l to_next;
           }
 
 -- The chain has ended.

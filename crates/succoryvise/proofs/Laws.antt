@@ -27,22 +27,22 @@ book_by o marks text nodes nodes_after z e g =
     record { answer = shown_of book_said _ _ z e.answer g; areas = e.areas }
 
 pub make_by : (o : MakeAnswer)
-    (tower text out nodes pairs index graph sets room flags classes out-after nodes_after pairs-after index-after graph-after sets-after Room-after flags-after classes-after : List ℕ)
+    (tower text out nodes pairs index graph sets room flags classes out_after nodes_after pairs_after index_after graph_after sets_after room_after flags_after classes_after : List ℕ)
     (z : Answer)
-    → Makes o tower text out nodes pairs index graph sets room flags classes out-after nodes_after pairs-after index-after graph-after sets-after Room-after flags-after classes-after
+    → Makes o tower text out nodes pairs index graph sets room flags classes out_after nodes_after pairs_after index_after graph_after sets_after room_after flags_after classes_after
     → z ≡ shown (make_said o)
-    → MakeShown z tower text out nodes pairs index graph sets room flags classes out-after nodes_after pairs-after index-after graph-after sets-after Room-after flags-after classes-after
-make_by o tower text out nodes pairs index graph sets room flags classes out-after nodes_after pairs-after index-after graph-after sets-after Room-after flags-after classes-after z e g =
+    → MakeShown z tower text out nodes pairs index graph sets room flags classes out_after nodes_after pairs_after index_after graph_after sets_after room_after flags_after classes_after
+make_by o tower text out nodes pairs index graph sets room flags classes out_after nodes_after pairs_after index_after graph_after sets_after room_after flags_after classes_after z e g =
     record { answer = shown_of make_said _ _ z e.answer g; output = e.output; areas = e.areas }
 
-pub check_by : (o : Verdict) (tower text table nodes pairs index graph sets room nodes_after pairs-after index-after graph-after sets-after Room-after : List ℕ) (z : Answer)
-    → Checks o tower text table nodes pairs index graph sets room nodes_after pairs-after index-after graph-after sets-after Room-after → z ≡ shown (verdict_said o)
-    → CheckShown z tower text table nodes pairs index graph sets room nodes_after pairs-after index-after graph-after sets-after Room-after
-check_by o tower text table nodes pairs index graph sets room nodes_after pairs-after index-after graph-after sets-after Room-after z e g =
+pub check_by : (o : Verdict) (tower text table nodes pairs index graph sets room nodes_after pairs_after index_after graph_after sets_after room_after : List ℕ) (z : Answer)
+    → Checks o tower text table nodes pairs index graph sets room nodes_after pairs_after index_after graph_after sets_after room_after → z ≡ shown (verdict_said o)
+    → CheckShown z tower text table nodes pairs index graph sets room nodes_after pairs_after index_after graph_after sets_after room_after
+check_by o tower text table nodes pairs index graph sets room nodes_after pairs_after index_after graph_after sets_after room_after z e g =
     record { answer = shown_of verdict_said _ _ z e.answer g; areas = e.areas }
 
-pub why_by : (o : WhyAnswer) (tower text table list nodes pairs index graph sets room list-after nodes_after pairs-after index-after graph-after sets-after Room-after : List ℕ) (z : Answer)
-    → Explains o tower text table list nodes pairs index graph sets room list-after nodes_after pairs-after index-after graph-after sets-after Room-after → z ≡ shown (why_said o)
-    → WhyShown z tower text table list nodes pairs index graph sets room list-after nodes_after pairs-after index-after graph-after sets-after Room-after
-why_by o tower text table list nodes pairs index graph sets room list-after nodes_after pairs-after index-after graph-after sets-after Room-after z e g =
+pub why_by : (o : WhyAnswer) (tower text table list nodes pairs index graph sets room list_after nodes_after pairs_after index_after graph_after sets_after room_after : List ℕ) (z : Answer)
+    → Explains o tower text table list nodes pairs index graph sets room list_after nodes_after pairs_after index_after graph_after sets_after room_after → z ≡ shown (why_said o)
+    → WhyShown z tower text table list nodes pairs index graph sets room list_after nodes_after pairs_after index_after graph_after sets_after room_after
+why_by o tower text table list nodes pairs index graph sets room list_after nodes_after pairs_after index_after graph_after sets_after room_after z e g =
     record { answer = shown_of why_said _ _ z e.answer g; written = e.written; areas = e.areas }

@@ -15,21 +15,21 @@ pub record BookShown (a : Answer) (marks : ℕ) (text nodes nodes_after : List �
   pub areas : nodes_after ∷ [] ≡ (read_outcome marks text (nodes ∷ [])).areas
 
 -- The maker.
-pub record MakeShown (a : Answer) (tower text out nodes pairs index graph sets room flags classes out-after nodes_after pairs-after index-after graph-after sets-after Room-after flags-after classes-after : List ℕ) : Type 0 where
+pub record MakeShown (a : Answer) (tower text out nodes pairs index graph sets room flags classes out_after nodes_after pairs_after index_after graph_after sets_after room_after flags_after classes_after : List ℕ) : Type 0 where
   pub answer : a ≡ shown (make_said (make_outcome tower text out (nodes ∷ pairs ∷ index ∷ graph ∷ sets ∷ room ∷ flags ∷ classes ∷ [])).answer)
-  pub output : out-after ≡ (make_outcome tower text out (nodes ∷ pairs ∷ index ∷ graph ∷ sets ∷ room ∷ flags ∷ classes ∷ [])).output
-  pub areas : nodes_after ∷ pairs-after ∷ index-after ∷ graph-after ∷ sets-after ∷ Room-after ∷ flags-after ∷ classes-after ∷ []
+  pub output : out_after ≡ (make_outcome tower text out (nodes ∷ pairs ∷ index ∷ graph ∷ sets ∷ room ∷ flags ∷ classes ∷ [])).output
+  pub areas : nodes_after ∷ pairs_after ∷ index_after ∷ graph_after ∷ sets_after ∷ room_after ∷ flags_after ∷ classes_after ∷ []
       ≡ (make_outcome tower text out (nodes ∷ pairs ∷ index ∷ graph ∷ sets ∷ room ∷ flags ∷ classes ∷ [])).areas
 
 -- The checker.
-pub record CheckShown (a : Answer) (tower text table nodes pairs index graph sets room nodes_after pairs-after index-after graph-after sets-after Room-after : List ℕ) : Type 0 where
+pub record CheckShown (a : Answer) (tower text table nodes pairs index graph sets room nodes_after pairs_after index_after graph_after sets_after room_after : List ℕ) : Type 0 where
   pub answer : a ≡ shown (verdict_said (check_outcome tower text table (nodes ∷ pairs ∷ index ∷ graph ∷ sets ∷ room ∷ [])).answer)
-  pub areas : nodes_after ∷ pairs-after ∷ index-after ∷ graph-after ∷ sets-after ∷ Room-after ∷ []
+  pub areas : nodes_after ∷ pairs_after ∷ index_after ∷ graph_after ∷ sets_after ∷ room_after ∷ []
       ≡ (check_outcome tower text table (nodes ∷ pairs ∷ index ∷ graph ∷ sets ∷ room ∷ [])).areas
 
 -- The entry that shows why.
-pub record WhyShown (a : Answer) (tower text table list nodes pairs index graph sets room list-after nodes_after pairs-after index-after graph-after sets-after Room-after : List ℕ) : Type 0 where
+pub record WhyShown (a : Answer) (tower text table list nodes pairs index graph sets room list_after nodes_after pairs_after index_after graph_after sets_after room_after : List ℕ) : Type 0 where
   pub answer : a ≡ shown (why_said (why_outcome tower text table list (nodes ∷ pairs ∷ index ∷ graph ∷ sets ∷ room ∷ [])).answer)
-  pub written : list-after ≡ (why_outcome tower text table list (nodes ∷ pairs ∷ index ∷ graph ∷ sets ∷ room ∷ [])).list
-  pub areas : nodes_after ∷ pairs-after ∷ index-after ∷ graph-after ∷ sets-after ∷ Room-after ∷ []
+  pub written : list_after ≡ (why_outcome tower text table list (nodes ∷ pairs ∷ index ∷ graph ∷ sets ∷ room ∷ [])).list
+  pub areas : nodes_after ∷ pairs_after ∷ index_after ∷ graph_after ∷ sets_after ∷ room_after ∷ []
       ≡ (why_outcome tower text table list (nodes ∷ pairs ∷ index ∷ graph ∷ sets ∷ room ∷ [])).areas

@@ -247,16 +247,16 @@ module _ (b more : ℕ) (count : more ≡ digits 1 (b ∷ []) 0) where
   pub short_fits : (s : List ℕ) (at : ℕ) → at + 1 < length s → length s < 18446744073709551616 → Fits w64 (at + 1 + more)
   short_fits s at there small = omega (arith, one_at_most)
 
-module _ (s : List ℕ) (at a : ℕ) (d : Bool) (first : a ≡ byte_at s at) (is-d : d ≡ is_digit a) where
+module _ (s : List ℕ) (at a : ℕ) (d : Bool) (first : a ≡ byte_at s at) (is_d : d ≡ is_digit a) where
   pub short_missing : not d ≡ true → Missing ≡ numeral_told (numeral 2 s at)
   unfolding numeral numeral_told
-  short_missing e = rw (← first, ← is-d, not-true d e)
+  short_missing e = rw (← first, ← is_d, not-true d e)
 
   module _ (digit : not d ≡ false) (b more : ℕ) (second : b ≡ byte_at s (at + 1)) (count : more ≡ digits 1 (b ∷ []) 0) where
     -- so many digits stand there,
     how_many : digits 2 s at ≡ suc more
     unfolding digits
-    how_many = rw (is_one s at a d first is-d digit, ← second, count)
+    how_many = rw (is_one s at a d first is_d digit, ← second, count)
 
     -- and they spell what the two bytes do
     same_value : (n : ℕ) → n ≤ 1 → value (suc n) (a ∷ b ∷ []) 0 ≡ value (suc n) s at
@@ -269,7 +269,7 @@ module _ (s : List ℕ) (at a : ℕ) (d : Bool) (first : a ≡ byte_at s at) (is
     unfolding numeral numeral_told
     short_read said e =
         let far : at + 1 + more ≡ at + suc more = omega arith in
-        rw (is_one s at a d first is-d digit, how_many, e, same_value more (one_at_most b more count), far)
+        rw (is_one s at a d first is_d digit, how_many, e, same_value more (one_at_most b more count), far)
 
 -- ---- answers
 

@@ -139,9 +139,9 @@ module _ (tower text table nodes graph : List ℕ) (n i a : ℕ) (down : ToldBro
       record {
         from = from;
         action = action;
-        lower = λ j some-j low. (numbering.met j some-j (inside j low)).earlier;
-        listed = λ j some-j low. go_low (from j) (action j) j (numbering.met j some-j (inside j low)).leads;
-        leads = λ j some-j low. go_move (from j) (action j) j (numbering.met j some-j (inside j low)).leads;
+        lower = λ j some_j low. (numbering.met j some_j (inside j low)).earlier;
+        listed = λ j some_j low. go_low (from j) (action j) j (numbering.met j some_j (inside j low)).leads;
+        leads = λ j some_j low. go_move (from j) (action j) j (numbering.met j some_j (inside j low)).leads;
       }
 
   -- A move is broken exactly if the step is.
@@ -152,8 +152,8 @@ module _ (tower text table nodes graph : List ℕ) (n i a : ℕ) (down : ToldBro
   module _ (ways : List ℕ) (noted : StepsNoted n T.actions graph 0 ways) (most : T.actions ≤ 16) where
     -- What is noted of a pair is how it was first met.
     noted_first : (j : ℕ) → 0 < j → j < length (pairs R book) → FirstMetBy (go R book) j (from_in ways j) (action_in ways j)
-    noted_first j some-j low =
-        let (k, b, met) = first_met R book listed (turned_few T book rows is_turned) j some-j low in
+    noted_first j some_j low =
+        let (k, b, met) = first_met R book listed (turned_few T book rows is_turned) j some_j low in
         by k b met (noted.says k b j (go_below k b j met.leads) (go_low k b j met.leads) (omega arith) (go_move k b j met.leads))
       where
         by : (k b : ℕ) → FirstMetBy (go R book) j k b → NotedStep n T.actions graph 0 ways j (16 * k + b)
@@ -168,12 +168,12 @@ module _ (tower text table nodes graph : List ℕ) (n i a : ℕ) (down : ToldBro
           where
             later : (p c : ℕ) → NoLater k b p c → step_in ways j ≤ 16 * k + b → b < T.actions → action_in ways j < T.actions
                 → NoLater (from_in ways j) (action_in ways j) p c
-            later p c h le low low-j = unfold NoLater in go_on h (dec_lt (from_in ways j) p)
+            later p c h le low low_j = unfold NoLater in go_on h (dec_lt (from_in ways j) p)
               where
                 go_on : (k < p) ⊎ ((k ≡ p) × (b ≤ c)) → Dec (from_in ways j < p) → (from_in ways j < p) ⊎ ((from_in ways j ≡ p) × (action_in ways j ≤ c))
                 go_on h (yes less) = inl less
                 go_on (inl less) (no not_less) = absurd (omega arith)
-                go_on (inr (same, le-c)) (no not_less) = inr (omega arith, omega arith)
+                go_on (inr (same, le_c)) (no not_less) = inr (omega arith, omega arith)
 
     numbering : Numbered (go R book) (length (pairs R book)) (from_in ways) (action_in ways)
     numbering =

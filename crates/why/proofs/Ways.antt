@@ -50,37 +50,37 @@ use Rattle.why.proofs.Runs.{fit, laid, finding, known, from_lower_pairs, way_to,
 
 -- ---- show_run
 
-module _ (tower nodes graph : List ℕ) (n i a actions : ℕ) (some-table : ToldBrokenSome tower nodes graph n i a)
-    (at-actions : actions ≡ (tower_of tower).actions) where
+module _ (tower nodes graph : List ℕ) (n i a actions : ℕ) (some_table : ToldBrokenSome tower nodes graph n i a)
+    (at_actions : actions ≡ (tower_of tower).actions) where
   -- The graph is there, every pair but the first is met from a lower one, and the broken step is one of its steps.
   pub write_held : HoldsGraph n actions graph
   unfolding rows_tower
-  write_held = subst (λ m. HoldsGraph n m graph) (sym at-actions) some-table.is.found.graph_held.holds
+  write_held = subst (λ m. HoldsGraph n m graph) (sym at_actions) some_table.is.found.graph_held.holds
 
   pub write_lower : MetFromLower n actions graph
   write_lower =
-      subst (λ m. MetFromLower n m graph) (sym at-actions)
-      (from_lower_pairs tower some-table.text some-table.table nodes graph n i a some-table.is)
+      subst (λ m. MetFromLower n m graph) (sym at_actions)
+      (from_lower_pairs tower some_table.text some_table.table nodes graph n i a some_table.is)
 
   pub write_pair : i < n
-  write_pair = some-table.is.found.first.pair
+  write_pair = some_table.is.found.first.pair
 
   pub write_action : a < actions
-  write_action = subst (λ m. a < m) (sym at-actions) some-table.is.found.first.action
+  write_action = subst (λ m. a < m) (sym at_actions) some_table.is.found.first.action
 
-  module _ (r : Written) (ways list list-after : List ℕ) (wrote : RunWritten r n actions graph i a ways list list-after) where
+  module _ (r : Written) (ways list list_after : List ℕ) (wrote : RunWritten r n actions graph i a ways list list_after) where
     module _ (text table : List ℕ) (down : ToldBroken tower text table nodes graph n i a) where
       abbrev run : List ℕ
       run = shown_run (tower_of tower) down.found.held.book (table_of table)
 
       most : (tower_of tower).actions ≤ 16
-      most = omega (arith, write_held.actions_most, at-actions)
+      most = omega (arith, write_held.actions_most, at_actions)
 
       noted : StepsNoted n (tower_of tower).actions graph 0 ways
-      noted = subst (λ m. StepsNoted n m graph 0 ways) at-actions wrote.noted
+      noted = subst (λ m. StepsNoted n m graph 0 ways) at_actions wrote.noted
 
       -- What was written is the run that is shown, if there was room for it.
-      written_run : (r ≡ room_for list run) × (list-after ≡ list_with list run)
+      written_run : (r ≡ room_for list run) × (list_after ≡ list_with list run)
       written_run =
           let (w, way, short) = way_to tower text table nodes graph n i a down ways noted most in
           let same = way_shown tower text table nodes graph n i a down ways noted most w way in
@@ -112,7 +112,7 @@ module _ (tower nodes graph : List ℕ) (n i a actions : ℕ) (some-table : Told
         unfolding shown_in shown_of
         short_file = shown_file (length list) ∙ if_refuses Output (give (shows (shown_of (tower_of tower) down.found.held.book run))) less
 
-        short_list : list-after ≡ list
+        short_list : list_after ≡ list
         unfolding list_with
         short_list = written_run.1 ∙ (rw less refl)
 
@@ -126,11 +126,11 @@ module _ (tower nodes graph : List ℕ) (n i a actions : ℕ) (some-table : Told
         unfolding shown_in shown_of
         long_file = shown_file (length list) ∙ if_on Output (give (shows (shown_of (tower_of tower) down.found.held.book run))) there.0
 
-        long_list : list-after ≡ run ++ drop (length run) list
+        long_list : list_after ≡ run ++ drop (length run) list
         unfolding list_with
         long_list = let enough = there.0 in written_run.1 ∙ (rw enough refl)
 
-        front : take size list-after ≡ run
+        front : take size list_after ≡ run
         front = ap (take size) long_list ∙ ap (λ k. take k (run ++ drop (length run) list)) there.1 ∙ take-append_seam run (drop (length run) list)
 
         soonest : Soonest (AllowedBroken (tower_of tower) down.found.held.book (table_of table)) run
@@ -149,7 +149,7 @@ module _ (tower nodes graph : List ℕ) (n i a actions : ℕ) (some-table : Told
             let (s, led) = soonest.is.allowed in
             ((row_at (table_of table) s).state, (arrives (tower_of tower) (table_of table) follow run s led).state)
 
-        can_judge : RunGiven tower nodes list-after size
+        can_judge : RunGiven tower nodes list_after size
         unfolding most_pairs
         can_judge =
             let (w, way, short) = way_to tower text table nodes graph n i a down ways noted most in
@@ -165,7 +165,7 @@ module _ (tower nodes graph : List ℕ) (n i a actions : ℕ) (some-table : Told
             }
 
     -- 16.
-    pub run_short : r ≡ Writes.TooShort → ShowsRun (Shows.Refused Output) tower nodes graph n i a list list-after
+    pub run_short : r ≡ Writes.TooShort → ShowsRun (Shows.Refused Output) tower nodes graph n i a list list_after
     unfolding why_answer why_list
     run_short e =
         record {
@@ -174,12 +174,12 @@ module _ (tower nodes graph : List ℕ) (n i a actions : ℕ) (some-table : Told
         }
 
     -- The run can be judged,
-    pub run_judgeable : (size : ℕ) → r ≡ Writes.Run size → RunGiven tower nodes list-after size
-    run_judgeable size e = can_judge some-table.text some-table.table some-table.is size e
+    pub run_judgeable : (size : ℕ) → r ≡ Writes.Run size → RunGiven tower nodes list_after size
+    run_judgeable size e = can_judge some_table.text some_table.table some_table.is size e
 
     -- and is shown with its line and its position.
-    pub run_shown : (size : ℕ) (place : Place) → r ≡ Writes.Run size → RunJudged place tower nodes list-after size
-        → ShowsRun (Shows.Shown size place.line place.position.0) tower nodes graph n i a list list-after
+    pub run_shown : (size : ℕ) (place : Place) → r ≡ Writes.Run size → RunJudged place tower nodes list_after size
+        → ShowsRun (Shows.Shown size place.line place.position.0) tower nodes graph n i a list list_after
     unfolding why_answer why_list shown_of place_in
     run_shown size place e judged =
         record {
@@ -191,14 +191,14 @@ module _ (tower nodes graph : List ℕ) (n i a actions : ℕ) (some-table : Told
             → Shows.Shown size place.line place.position.0 ≡ why_answer (why_file tower text table (length list))
         by text table down =
             let h = down.found.held in
-            let at-line = judged.line h ∙ ap (lowest_line (tower_of tower) h.book) (front text table down size e) in
+            let at_line = judged.line h ∙ ap (lowest_line (tower_of tower) h.book) (front text table down size e) in
             let low =
             (lowest_line_is (tower_of tower) h.book (run text table down) (soonest text table down size e).is.broken).inside in
-            let at_place = judged.place h (subst (λ k. k < length h.book) (sym at-line) low) in
+            let at_place = judged.place h (subst (λ k. k < length h.book) (sym at_line) low) in
             shown_same size (length (run text table down)) place.line (lowest_line (tower_of tower) h.book (run text table down))
             place.position (place_in (tower_of tower) h.book (run text table down) (lowest_line (tower_of tower) h.book (run text table down)))
-            (there text table down size e).1 at-line
-            (at_place ∙ ap₂ (λ w k. broken_place (tower_of tower) (trace (tower_of tower) w) (rule_at h.book k).form (rule_at h.book k).formula) (front text table down size e) at-line)
+            (there text table down size e).1 at_line
+            (at_place ∙ ap₂ (λ w k. broken_place (tower_of tower) (trace (tower_of tower) w) (rule_at h.book k).form (rule_at h.book k).formula) (front text table down size e) at_line)
             ∙ sym (ap why_answer (long_file text table down size e))
           where
             shown_same : (m k : ℕ) (l j : ℕ) (p q : Position) → m ≡ k → l ≡ j → p ≡ q → Shows.Shown m l p.0 ≡ Shows.Shown k j q.0

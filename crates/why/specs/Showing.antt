@@ -19,20 +19,20 @@ pub record ToldBrokenSome (tower nodes graph : List ℕ) (n i a : ℕ) : Type 0 
   pub is : ToldBroken tower text table nodes graph n i a
 
 -- The answer and the list, for whatever book and table it is.
-pub record ShowsRun (r : WhyAnswer) (tower nodes graph : List ℕ) (n i a : ℕ) (list list-after : List ℕ) : Type 0 where
+pub record ShowsRun (r : WhyAnswer) (tower nodes graph : List ℕ) (n i a : ℕ) (list list_after : List ℕ) : Type 0 where
   pub answer : (text table : List ℕ) → ToldBroken tower text table nodes graph n i a → r ≡ why_answer (why_file tower text table (length list))
   pub written : (text table : List ℕ) → ToldBroken tower text table nodes graph n i a
-      → list-after ≡ why_list (why_file tower text table (length list)) list
+      → list_after ≡ why_list (why_file tower text table (length list)) list
 
 -- The answer for the three files, and the list.
-pub record ShowsFiles (r : WhyAnswer) (tower text table list list-after : List ℕ) : Type 0 where
+pub record ShowsFiles (r : WhyAnswer) (tower text table list list_after : List ℕ) : Type 0 where
   pub answer : r ≡ why_answer (why_file tower text table (length list))
-  pub written : list-after ≡ why_list (why_file tower text table (length list)) list
+  pub written : list_after ≡ why_list (why_file tower text table (length list)) list
 
 -- The whole outcome: the answer, and what the list and the six areas hold at the end.
-pub record Explains (r : WhyAnswer) (tower text table list nodes pairs index graph sets room list-after nodes_after pairs-after index-after graph-after sets-after Room-after : List ℕ) : Type 0 where
+pub record Explains (r : WhyAnswer) (tower text table list nodes pairs index graph sets room list_after nodes_after pairs_after index_after graph_after sets_after room_after : List ℕ) : Type 0 where
   pub answer : r ≡ (why_outcome tower text table list (nodes ∷ pairs ∷ index ∷ graph ∷ sets ∷ room ∷ [])).answer
   pub said : why_said r ≡ why_said (why_outcome tower text table list (nodes ∷ pairs ∷ index ∷ graph ∷ sets ∷ room ∷ [])).answer
-  pub written : list-after ≡ (why_outcome tower text table list (nodes ∷ pairs ∷ index ∷ graph ∷ sets ∷ room ∷ [])).list
-  pub areas : nodes_after ∷ pairs-after ∷ index-after ∷ graph-after ∷ sets-after ∷ Room-after ∷ []
+  pub written : list_after ≡ (why_outcome tower text table list (nodes ∷ pairs ∷ index ∷ graph ∷ sets ∷ room ∷ [])).list
+  pub areas : nodes_after ∷ pairs_after ∷ index_after ∷ graph_after ∷ sets_after ∷ room_after ∷ []
       ≡ (why_outcome tower text table list (nodes ∷ pairs ∷ index ∷ graph ∷ sets ∷ room ∷ [])).areas

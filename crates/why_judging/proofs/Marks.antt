@@ -29,9 +29,9 @@ module _ (tower run states : List ℕ) (i : ℕ) where
       → d ≡ (tower_of tower).step_length x (byte_at run i)
       → set (set (set marks i (mask % 256)) (1000 + i) (mask / 256 % 256)) (2000 + i) d.0 ≡ with_moment tower run states i marks
   unfolding with_moment
-  moment_noted marks x mask d is_x is-mask is-d =
-      let here : mask ≡ mask_in tower states i = is-mask ∙ ap (mask_of tower) is_x in
-      rw (here, step_is tower run states i d x is_x is-d)
+  moment_noted marks x mask d is_x is_mask is_d =
+      let here : mask ≡ mask_in tower states i = is_mask ∙ ap (mask_of tower) is_x in
+      rw (here, step_is tower run states i d x is_x is_d)
 
   -- The length is one byte.
   pub length_byte : (x : ℕ) (d : Tick) → d ≡ (tower_of tower).step_length x (byte_at run i) → ((j : ℕ) → Fits w8 (get_or tower j 0)) → Fits w8 d.0
@@ -118,7 +118,7 @@ module _ (tower run states : List ℕ) (n : ℕ) where
           long = same ∙ going.long;
           room = omega (arith, same, going.room);
           at = λ j m. elim (ℕ_discrete j i) [
-            | yes it-is ↦ rw it-is (there tower run states i marks going.room few)
+            | yes it_is ↦ rw it_is (there tower run states i marks going.room few)
             | no other ↦ still tower run states i marks going.room few j (omega (arith, m)) other (going.at j (omega (arith, other, m)))
           ];
         })

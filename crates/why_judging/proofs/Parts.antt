@@ -33,20 +33,20 @@ use Rattle.why_judging.proofs.Rests.{rest_none, rest_some, judged_none, step_sho
 marks_there : (tower states : List ℕ) (i mask x k : ℕ) → mask ≡ mask_of tower x → x ≡ state_in states i
     → (tower_of tower).marked (state_in states i) k ≡ bit k mask
 unfolding tower_of
-marks_there tower states i mask x k is-mask is_x = ap (bit k) (sym (is-mask ∙ ap (mask_of tower) is_x))
+marks_there tower states i mask x k is_mask is_x = ap (bit k) (sym (is_mask ∙ ap (mask_of tower) is_x))
 
 -- A constant or a mark.
 pub leaf_kept : (b : Bool) (tower nodes run states : List ℕ) (n k i mask x : ℕ) → HoldsAt b nodes k mask → mask ≡ mask_of tower x
     → x ≡ state_in states i → code_of nodes k ≤ 3 → i < n → KeptHere b tower nodes run states n k i
 unfolding holds judged if_left moment_in
-leaf_kept b tower nodes run states n k i mask x said is-mask is_x leaf inside =
+leaf_kept b tower nodes run states n k i mask x said is_mask is_x leaf inside =
     record {
       says = λ f s. rw (rest_some run states n i inside)
           (by_kind nodes k (λ f. b ≡ holds (tower_of tower) (state_in states i) f
           → b ≡ judged (tower_of tower) f (moment_in run states i ∷ rest_in run states n (i + 1))) f s
           (λ c s l e. e) (λ w m s l u e. e) (λ g h s at. absurd (omega arith)) (λ g h s l u. absurd (omega arith))
           (λ c t g s l u. absurd (omega arith)) (λ t g s at. absurd (omega arith)) (λ t g h s at. absurd (omega arith))
-          (said.says f s (record { tower = tower_of tower; state = state_in states i; marks = λ m. marks_there tower states i mask x m is-mask is_x })));
+          (said.says f s (record { tower = tower_of tower; state = state_in states i; marks = λ m. marks_there tower states i mask x m is_mask is_x })));
     }
 
 -- ---- parts
@@ -80,20 +80,20 @@ module _ (tower nodes run states marks : List ℕ) (n k : ℕ) (kept : List ℕ)
 
   -- ---- `&` and `|`
 
-  module _ (i p q : ℕ) (a b : Bool) (is-p : p ≡ first_of nodes k) (is-q : q ≡ second_of nodes k) (at_p : a ≡ eqb (kept_in kept p i) 1)
-      (at-q : b ≡ eqb (kept_in kept q i) 1) (low : 3 < code_of nodes k) (high : code_of nodes k < 7) (inside : i < n) where
+  module _ (i p q : ℕ) (a b : Bool) (is_p : p ≡ first_of nodes k) (is_q : q ≡ second_of nodes k) (at_p : a ≡ eqb (kept_in kept p i) 1)
+      (at_q : b ≡ eqb (kept_in kept q i) 1) (low : 3 < code_of nodes k) (high : code_of nodes k < 7) (inside : i < n) where
     first_says : (g : Formula) → Stored nodes g p → a ≡ judged (tower_of tower) g (rest_in run states n i)
-    first_says = lower_says a p i at_p (first_below nodes k p (code_of nodes k) is-p refl low high ready.node k refl).0 inside
+    first_says = lower_says a p i at_p (first_below nodes k p (code_of nodes k) is_p refl low high ready.node k refl).0 inside
 
     second_says : (g : Formula) → Stored nodes g q → b ≡ judged (tower_of tower) g (rest_in run states n i)
-    second_says = lower_says b q i at-q (second_below nodes k q (code_of nodes k) is-q refl low ready.node k refl).0 inside
+    second_says = lower_says b q i at_q (second_below nodes k q (code_of nodes k) is_q refl low ready.node k refl).0 inside
 
     both_and : code_of nodes k ≡ 4 → KeptHere (a && b) tower nodes run states n k i
     unfolding judged
     both_and four =
         record {
           says = λ f s. by_and nodes k (λ f. (a && b) ≡ judged (tower_of tower) f (rest_in run states n i)) f s four
-              (λ g h s. ap₂ (λ (x y : Bool). x && y) (first_says g (and_first nodes k p g h s is-p)) (second_says h (and_second nodes k q g h s is-q)));
+              (λ g h s. ap₂ (λ (x y : Bool). x && y) (first_says g (and_first nodes k p g h s is_p)) (second_says h (and_second nodes k q g h s is_q)));
         }
 
     both_or : 4 < code_of nodes k → KeptHere (a || b) tower nodes run states n k i
@@ -101,7 +101,7 @@ module _ (tower nodes run states marks : List ℕ) (n k : ℕ) (kept : List ℕ)
     both_or more =
         record {
           says = λ f s. by_or nodes k (λ f. (a || b) ≡ judged (tower_of tower) f (rest_in run states n i)) f s more high
-              (λ g h s. ap₂ (λ (x y : Bool). x || y) (first_says g (or_first nodes k p g h s is-p)) (second_says h (or_second nodes k q g h s is-q)));
+              (λ g h s. ap₂ (λ (x y : Bool). x || y) (first_says g (or_first nodes k p g h s is_p)) (second_says h (or_second nodes k q g h s is_q)));
         }
 
     module _ (code : ℕ) (is_code : code ≡ code_of nodes k) where
@@ -120,8 +120,8 @@ module _ (tower nodes run states marks : List ℕ) (n k : ℕ) (kept : List ℕ)
 -- ---- next
 
 module _ (tower nodes run states marks : List ℕ) (n k : ℕ) (kept : List ℕ) (ready : NodeNext tower nodes run states marks n k kept) (i code : ℕ) (d t : Tick)
-    (a : Bool) (is-d : d ≡ duration (tower_of tower) (moment_in run states i)) (is_code : code ≡ code_of nodes k)
-    (is-t : t ≡ ticks (fresh_of nodes k)) (says : Compares a code d t) (low : 6 < code_of nodes k) (high : code_of nodes k < 11)
+    (a : Bool) (is_d : d ≡ duration (tower_of tower) (moment_in run states i)) (is_code : code ≡ code_of nodes k)
+    (is_t : t ≡ ticks (fresh_of nodes k)) (says : Compares a code d t) (low : 6 < code_of nodes k) (high : code_of nodes k < 11)
     (inside : i < n) where
   -- the comparison of a next
   compared : (c : Comparison) (u : Tick) (g : Formula) → Stored nodes (next c u g) k
@@ -129,7 +129,7 @@ module _ (tower nodes run states marks : List ℕ) (n k : ℕ) (kept : List ℕ)
   unfolding node_code fresh
   compared c u g s =
       says.says c (is_code ∙ (stored_is nodes k (next c u g) s).code)
-      ∙ ap₂ (compares c) is-d (is-t ∙ fresh_is nodes k (next c u g) s)
+      ∙ ap₂ (compares c) is_d (is_t ∙ fresh_is nodes k (next c u g) s)
 
   -- whatever its part says
   next_by : (v : Bool) → ((c : Comparison) (u : Tick) (g : Formula) → Stored nodes (next c u g) k
@@ -143,24 +143,24 @@ module _ (tower nodes run states marks : List ℕ) (n k : ℕ) (kept : List ℕ)
 
   -- The action is not as long as it says.
   pub next_fails : not a ≡ true → KeptHere false tower nodes run states n k i
-  next_fails fails = let no-it-is-not = not-true a fails in rw no-it-is-not at (next_by false (λ c u g s. rw no-it-is-not))
+  next_fails fails = let no_it_is_not = not-true a fails in rw no_it_is_not at (next_by false (λ c u g s. rw no_it_is_not))
 
   -- It is, and there is no next position.
   pub next_last : not a ≡ false → i + 1 ≡ n → KeptHere true tower nodes run states n k i
   next_last passes last =
-      let yes-it-is = not-false a passes in
-      rw yes-it-is at (next_by true (λ c u g s. ap (λ (v : Bool). a && v)
+      let yes_it_is = not-false a passes in
+      rw yes_it_is at (next_by true (λ c u g s. ap (λ (v : Bool). a && v)
       (sym (rw (rest_none run states n (i + 1) (omega arith), judged_none (tower_of tower) g)))))
 
   -- It is, and the next position is judged.
   pub next_on : not a ≡ false → (q : ℕ) (b : Bool) → b ≡ eqb (kept_in kept q (i + 1)) 1 → q ≡ second_of nodes k → (i + 1 ≡ n → ⊥)
       → KeptHere b tower nodes run states n k i
-  next_on passes q b at-q is-q more =
-      let yes-it-is = not-false a passes in
-      rw yes-it-is at (next_by b (λ c u g s. ap (λ (v : Bool). a && v)
-      (lower_says tower nodes run states marks n k kept ready b q (i + 1) at-q
-      (second_below nodes k q (code_of nodes k) is-q refl (omega arith) ready.node k refl).0 (omega (arith, more)) g
-      (next_part nodes k q c u g s is-q))))
+  next_on passes q b at_q is_q more =
+      let yes_it_is = not-false a passes in
+      rw yes_it_is at (next_by b (λ c u g s. ap (λ (v : Bool). a && v)
+      (lower_says tower nodes run states marks n k kept ready b q (i + 1) at_q
+      (second_below nodes k q (code_of nodes k) is_q refl (omega arith) ready.node k refl).0 (omega (arith, more)) g
+      (next_part nodes k q c u g s is_q))))
 
 -- ---- A and U
 
@@ -191,9 +191,9 @@ module _ (tower nodes run states : List ℕ) (n k : ℕ) where
       }
 
   module _ (i : ℕ) (far t : Tick) (w : Bool) (waits : NodeWaits far tower nodes run states n k i) (is-w : w ≡ at_most far t)
-      (is-t : t ≡ ticks (fresh_of nodes k)) (node : IsNode nodes k) where
+      (is_t : t ≡ ticks (fresh_of nodes k)) (node : IsNode nodes k) where
     small : t.0 ≤ 254
-    small = rw is-t (fresh_low nodes k node)
+    small = rw is_t (fresh_low nodes k node)
 
     -- A is kept unless its part fails in time.
     pub always_kept : code_of nodes k ≡ 11 → KeptHere (not w) tower nodes run states n k i
@@ -203,7 +203,7 @@ module _ (tower nodes run states : List ℕ) (n k : ℕ) where
           says = λ f s. by_always nodes k (λ f. not w ≡ judged (tower_of tower) f (rest_in run states n i)) f s eleven
               (λ u g s. ap not (is-w ∙ (waits.says (always_for u g) s).says t small
               ∙ ap (comes_within (fails_ahead (tower_of tower) (judged (tower_of tower) g) (rest_in run states n i)))
-              (is-t ∙ fresh_is nodes k (always_for u g) s))
+              (is_t ∙ fresh_is nodes k (always_for u g) s))
               ∙ sym (passes_for_ahead (tower_of tower) (judged (tower_of tower) g) (rest_in run states n i) u));
         }
 
@@ -215,29 +215,29 @@ module _ (tower nodes run states : List ℕ) (n k : ℕ) where
           says = λ f s. by_until nodes k (λ f. w ≡ judged (tower_of tower) f (rest_in run states n i)) f s twelve
               (λ u g h s. is-w ∙ (waits.says (until u g h) s).says t small
               ∙ ap (comes_within (ends_ahead (tower_of tower) (judged (tower_of tower) g) (judged (tower_of tower) h) (rest_in run states n i)))
-              (is-t ∙ fresh_is nodes k (until u g h) s)
+              (is_t ∙ fresh_is nodes k (until u g h) s)
               ∙ sym (passes_until_ahead (tower_of tower) (judged (tower_of tower) g) (judged (tower_of tower) h) (rest_in run states n i) u));
         }
 
 module _ (tower nodes run states marks : List ℕ) (n k : ℕ) (kept : List ℕ) (ready : NodeNext tower nodes run states marks n k kept) (i : ℕ)
-    (d far r : Tick) (is-d : d ≡ duration (tower_of tower) (moment_in run states i))
+    (d far r : Tick) (is_d : d ≡ duration (tower_of tower) (moment_in run states i))
     (waits : NodeWaits far tower nodes run states n k (i + 1)) (bytes : (j : ℕ) → Fits w8 (get_or tower j 0)) (inside : i < n) where
   -- Where the part of an A next fails, by where it was seen from the next position.
   pub fails_before : (q : ℕ) (b : Bool) → q ≡ second_of nodes k → b ≡ eqb (kept_in kept q i) 1
       → r ≡ pick b (λ _. plus d far) (λ _. ticks 0) → code_of nodes k ≡ 11 → NodeWaits r tower nodes run states n k i
   unfolding waits_for fails_ahead plus
-  fails_before q b is-q at-q is-r eleven =
+  fails_before q b is_q at_q is_r eleven =
       record {
         says = λ f s. by_always nodes k (λ f. ComesIn r (waits_for (tower_of tower) f (rest_in run states n i))) f s eleven
-            (λ u g s. rw (rest_some run states n i inside, ← part g (always_part nodes k q u g s is-q), ← is-d, is-r)
+            (λ u g s. rw (rest_some run states n i inside, ← part g (always_part nodes k q u g s is_q), ← is_d, is_r)
             (when (fails_ahead (tower_of tower) (judged (tower_of tower) g) (rest_in run states n (i + 1))) b (waits.says (always_for u g) s)));
-        bound = rw is-r (bounded b);
+        bound = rw is_r (bounded b);
       }
     where
       part : (g : Formula) → Stored nodes g q → b ≡ judged (tower_of tower) g (moment_in run states i ∷ rest_in run states n (i + 1))
       part g s =
-          lower_says tower nodes run states marks n k kept ready b q i at-q
-          (second_below nodes k q (code_of nodes k) is-q refl (omega arith) ready.node k refl).0 inside g s
+          lower_says tower nodes run states marks n k kept ready b q i at_q
+          (second_below nodes k q (code_of nodes k) is_q refl (omega arith) ready.node k refl).0 inside g s
           ∙ rw (rest_some run states n i inside)
 
       when : (ahead : Ahead) (b : Bool) → ComesIn far ahead
@@ -246,7 +246,7 @@ module _ (tower nodes run states marks : List ℕ) (n k : ℕ) (kept : List ℕ)
       when ahead false seen = comes_here
 
       bounded : (b : Bool) → (pick b (λ _. plus d far) (λ _. ticks 0)).0 ≤ 65536 * (n - i + 1)
-      bounded true = omega (arith, step_short tower run states i d is-d bytes, waits.bound)
+      bounded true = omega (arith, step_short tower run states i d is_d bytes, waits.bound)
       bounded false = omega arith
 
   -- Where a U next ends.
@@ -254,29 +254,29 @@ module _ (tower nodes run states marks : List ℕ) (n k : ℕ) (kept : List ℕ)
       → b ≡ eqb (kept_in kept q i) 1 → r ≡ pick b (λ _. ticks 0) (λ _. pick a (λ _. plus d far) (λ _. never_far)) → code_of nodes k ≡ 12
       → NodeWaits r tower nodes run states n k i
   unfolding waits_for ends_ahead plus
-  ends_before p q a b is-p is-q at_p at-q is-r twelve =
+  ends_before p q a b is_p is_q at_p at_q is_r twelve =
       record {
         says = λ f s. by_until nodes k (λ f. ComesIn r (waits_for (tower_of tower) f (rest_in run states n i))) f s twelve
             (λ u g h s. rw (
               rest_some run states n i inside,
-              ← second h (until_second nodes k q u g h s is-q),
-              ← first g (until_first nodes k p u g h s is-p),
-              ← is-d,
-              is-r,
+              ← second h (until_second nodes k q u g h s is_q),
+              ← first g (until_first nodes k p u g h s is_p),
+              ← is_d,
+              is_r,
             ) (when (ends_ahead (tower_of tower) (judged (tower_of tower) g) (judged (tower_of tower) h) (rest_in run states n (i + 1))) b a (waits.says (until u g h) s)));
-        bound = rw is-r (bounded b a);
+        bound = rw is_r (bounded b a);
       }
     where
       first : (g : Formula) → Stored nodes g p → a ≡ judged (tower_of tower) g (moment_in run states i ∷ rest_in run states n (i + 1))
       first g s =
           lower_says tower nodes run states marks n k kept ready a p i at_p
-          (until_below nodes k p (code_of nodes k) is-p refl twelve ready.node k refl).0 inside g s
+          (until_below nodes k p (code_of nodes k) is_p refl twelve ready.node k refl).0 inside g s
           ∙ rw (rest_some run states n i inside)
 
       second : (g : Formula) → Stored nodes g q → b ≡ judged (tower_of tower) g (moment_in run states i ∷ rest_in run states n (i + 1))
       second g s =
-          lower_says tower nodes run states marks n k kept ready b q i at-q
-          (second_below nodes k q (code_of nodes k) is-q refl (omega arith) ready.node k refl).0 inside g s
+          lower_says tower nodes run states marks n k kept ready b q i at_q
+          (second_below nodes k q (code_of nodes k) is_q refl (omega arith) ready.node k refl).0 inside g s
           ∙ rw (rest_some run states n i inside)
 
       when : (ahead : Ahead) (b a : Bool) → ComesIn far ahead
@@ -288,7 +288,7 @@ module _ (tower nodes run states marks : List ℕ) (n k : ℕ) (kept : List ℕ)
 
       bounded : (b a : Bool) → (pick b (λ _. ticks 0) (λ _. pick a (λ _. plus d far) (λ _. never_far))).0 ≤ 65536 * (n - i + 1)
       bounded true a = omega arith
-      bounded false true = omega (arith, step_short tower run states i d is-d bytes, waits.bound)
+      bounded false true = omega (arith, step_short tower run states i d is_d bytes, waits.bound)
       bounded false false = omega arith
 
 -- A node that is nothing else is a U.

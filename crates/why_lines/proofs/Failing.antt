@@ -38,7 +38,7 @@ module _ (test : ℕ → Bool) (n : ℕ) where
 
   -- none does
   lowest_none : ((j : ℕ) → j < n → test j ≡ false) → place_of test (below n) ≡ n
-  lowest_none none-does = place_of_none test (below n) (none_of test (below n) (λ j m. none-does j (mem_below n m))) ∙ length_below n
+  lowest_none none_does = place_of_none test (below n) (none_of test (below n) (λ j m. none_does j (mem_below n m))) ∙ length_below n
 
   lowest_most : place_of test (below n) ≤ n
   lowest_most = omega (arith, place_of_le test (below n), length_below n)
@@ -74,8 +74,8 @@ module _ (kept : List ℕ) (n k i : ℕ) (so_far : KeptSoFar kept n k i) where
   so_far_next b low judged passes =
       record {
         inside = omega arith;
-        before = λ j l. whether (ltb j i) (λ yes-it-is. so_far.before j (ltb-true j i yes-it-is))
-            (λ it-is-not. let e : j ≡ i = omega (arith, ltb-false j i it-is-not) in rw e (ap not (sym judged) ∙ passes));
+        before = λ j l. whether (ltb j i) (λ yes_it_is. so_far.before j (ltb-true j i yes_it_is))
+            (λ it_is_not. let e : j ≡ i = omega (arith, ltb-false j i it_is_not) in rw e (ap not (sym judged) ∙ passes));
       }
 
   pub so_far_end : n ≤ i → n ≡ place_of (fails_in kept k) (below n)
@@ -166,7 +166,7 @@ pub line_low : (nodes : List ℕ) (l k : ℕ) → k ≡ formula_of nodes l → l
 line_low nodes l k at low h = omega (arith, at, (line_of nodes h l low).place, (line_of nodes h l low).low, h.few)
 
 module _ (tower nodes run states : List ℕ) (n : ℕ) (kept : List ℕ) (l k form : ℕ) (ready : LinesReady tower nodes run states n kept)
-    (low : l < lines_in nodes) (at : k ≡ formula_of nodes l) (form-at : form ≡ form_of nodes l) where
+    (low : l < lines_in nodes) (at : k ≡ formula_of nodes l) (form_at : form ≡ form_of nodes l) where
   says : (h : IsHeld nodes) (j : ℕ) → j < n
       → eqb (kept_in kept k j) 1 ≡ judged_at (tower_of tower) (rest_in run states n 0) (rule_at h.book l).formula (position j)
   says h = line_says nodes h l low tower run states n kept k at ready.all
@@ -174,11 +174,11 @@ module _ (tower nodes run states : List ℕ) (n : ℕ) (kept : List ℕ) (l k fo
   pub fails_always : (r : ℕ) → form ≡ 1 → r ≡ place_of (fails_in kept k) (below n) → LineFails r tower nodes run states n l
   fails_always r one found =
       record {
-        kept = λ h all. rw (rule_always nodes h l low form form-at one)
+        kept = λ h all. rw (rule_always nodes h l low form form_at one)
             (always_kept (tower_of tower) (rest_in run states n 0) (rule_at h.book l).formula kept n k size (says h) (omega arith));
-        broken = λ h inside. rw (rule_always nodes h l low form form-at one)
+        broken = λ h inside. rw (rule_always nodes h l low form form_at one)
             (always_broken (tower_of tower) (rest_in run states n 0) (rule_at h.book l).formula kept n k size (says h) (omega arith));
-        place = λ h inside. rw (rule_always nodes h l low form form-at one, found)
+        place = λ h inside. rw (rule_always nodes h l low form form_at one, found)
             (always_place (tower_of tower) (rest_in run states n 0) (rule_at h.book l).formula kept n k size (says h) (omega arith));
       }
     where
@@ -189,7 +189,7 @@ module _ (tower nodes run states : List ℕ) (n : ℕ) (kept : List ℕ) (l k fo
   start_says : (h : IsHeld nodes) → (form ≡ 1 → ⊥) → (b : Bool) → b ≡ eqb (kept_in kept k 0) 1
       → judged_rule (tower_of tower) (rest_in run states n 0) (rule_at h.book l).form (rule_at h.book l).formula ≡ b
   unfolding judged_rule
-  start_says h not_one b judged = rw (rule_starts nodes h l low form form-at not_one) (sym (judged ∙ says h 0 ready.some_position))
+  start_says h not_one b judged = rw (rule_starts nodes h l low form form_at not_one) (sym (judged ∙ says h 0 ready.some_position))
 
   pub fails_never : (b : Bool) → (form ≡ 1 → ⊥) → b ≡ eqb (kept_in kept k 0) 1 → b ≡ true → LineFails n tower nodes run states n l
   fails_never b not_one judged holds =
@@ -205,7 +205,7 @@ module _ (tower nodes run states : List ℕ) (n : ℕ) (kept : List ℕ) (l k fo
       record {
         kept = λ h all. absurd (omega (arith, ready.some_position));
         broken = λ h inside. start_says h not_one b judged ∙ fails;
-        place = λ h inside. rw (rule_starts nodes h l low form form-at not_one) refl;
+        place = λ h inside. rw (rule_starts nodes h l low form form_at not_one) refl;
       }
 
 -- ---- the lowest line that fails
@@ -239,8 +239,8 @@ module _ (tower nodes run states : List ℕ) (n lines l : ℕ) (looking : Lookin
       record {
         all = looking.all;
         inside = omega arith;
-        before = λ h j below. whether (ltb j l) (λ yes-it-is. looking.before h j (ltb-true j l yes-it-is))
-            (λ it-is-not. let e : j ≡ l = omega (arith, ltb-false j l it-is-not) in rw e (fails.kept h kept));
+        before = λ h j below. whether (ltb j l) (λ yes_it_is. looking.before h j (ltb-true j l yes_it_is))
+            (λ it_is_not. let e : j ≡ l = omega (arith, ltb-false j l it_is_not) in rw e (fails.kept h kept));
       }
 
   pub looking_found : (r : ℕ) → LineFails r tower nodes run states n l → RunNoted tower run states n → l < lines → r < n

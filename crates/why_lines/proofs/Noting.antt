@@ -12,7 +12,7 @@ use lib.Dec.{ltb}
 use borrow.Author.Tests.{ltb-true, ltb-false}
 use Rattle.base.specs.Lists.{count_from}
 use Rattle.base.specs.Bytes.{byte_at, number_bytes}
-use Rattle.base.proofs.Lists.{whether, count_from_next, whether-there}
+use Rattle.base.proofs.Lists.{whether, count_from_next, whether_there}
 use Rattle.logic.specs.Tower.{Tower, Listed, FitTower, tower_of}
 use Rattle.logic.specs.Runs.{Moment, leads, IsRun, trace_from, trace}
 use Rattle.logic.proofs.Leads.{leads_out}
@@ -36,7 +36,7 @@ next_not_enabled o r x e f = rw (none_reached o r e f) refl
 next_low : (tower : List ℕ) (x a : ℕ) → FitTower tower → x < (tower_of tower).states
     → get_or ((tower_of tower).target x a) x < (tower_of tower).states
 next_low tower x a fit here =
-    whether-there ((tower_of tower).target x a) (λ e. rw e here) (λ y e. rw e ((fit_bounds fit).targets x a y here e))
+    whether_there ((tower_of tower).target x a) (λ e. rw e here) (λ y e. rw e ((fit_bounds fit).targets x a y here e))
 
 -- ---- the actions
 
@@ -141,8 +141,8 @@ module _ (tower run : List ℕ) (n : ℕ) (first states : List ℕ) (x i : ℕ) 
     put_low : (j : ℕ) → j < i + 1 → state_in after j < (tower_of tower).states
     put_low j below =
         whether (ltb j i)
-        (λ yes-it-is. let l : j < i = ltb-true j i yes-it-is in rw (put_before j l) (noting.states_low j l))
-        (λ it-is-not. let e : j ≡ i = omega (arith, ltb-false j i it-is-not) in rw (e, put_here) noting.here)
+        (λ yes_it_is. let l : j < i = ltb-true j i yes_it_is in rw (put_before j l) (noting.states_low j l))
+        (λ it_is_not. let e : j ≡ i = omega (arith, ltb-false j i it_is_not) in rw (e, put_here) noting.here)
 
     put_moments : map (moment_in run after) (count_from 0 (i + 1)) ≡ map (moment_in run states) (count_from 0 i) ++ (moment x (byte_at run i) ∷ [])
     unfolding moment_in

@@ -131,20 +131,20 @@ module _ (tower : Tower) (book : Book) (table : Table) where
 
 -- ---- the files
 
-module _ (tower-file text file : List ℕ) (tower : Tower) (book : Book) (table : Table) (fit : FitFiles tower-file text tower book)
+module _ (tower_file text file : List ℕ) (tower : Tower) (book : Book) (table : Table) (fit : FitFiles tower_file text tower book)
     (laid : FitTable tower file table) (e : judge tower book table ≡ give (not_good Broken)) where
   abbrev run : List ℕ
   run = shown_run tower book table
 
   known : Judgeable tower book table
-  known = judgeable tower-file text file tower book table fit laid
+  known = judgeable tower_file text file tower book table fit laid
 
   soonest : Soonest (AllowedBroken tower book table) run
   soonest = soonest_shown tower book table known (turned_down tower book table known e)
 
   -- What is shown is right.
   pub explained : (areas : List (List ℕ)) → long_enough check_areas areas ≡ true
-      → Explained tower-file text file areas run (lowest_line tower book run) (place_in tower book run (lowest_line tower book run))
+      → Explained tower_file text file areas run (lowest_line tower book run) (place_in tower book run (lowest_line tower book run))
   unfolding verdict
   explained areas enough =
       record {
@@ -154,8 +154,8 @@ module _ (tower-file text file : List ℕ) (tower : Tower) (book : Book) (table 
         fit = fit;
         laid = laid;
         turned_down =
-            subst (RightCheck tower-file text file areas)
-            (check_call tower-file text file areas tower book table fit laid enough ∙ ap verdict e) (check_right tower-file text file areas);
+            subst (RightCheck tower_file text file areas)
+            (check_call tower_file text file areas tower book table fit laid enough ∙ ap verdict e) (check_right tower_file text file areas);
         why = shows_why tower book table run soonest;
       }
 
@@ -163,7 +163,7 @@ module _ (tower-file text file : List ℕ) (tower : Tower) (book : Book) (table 
   abbrev shown : Shown
   shown = shown_of tower book run
 
-  pub files_why : (room : ℕ) → why_file tower-file text file room ≡ shown_in room shown
+  pub files_why : (room : ℕ) → why_file tower_file text file room ≡ shown_in room shown
   unfolding why_file FitTable why_behind
   files_why room = then_on _ fit.tower_read ∙ then_on _ fit.book_read ∙ then_on _ laid ∙ then_on _ e
 
@@ -206,100 +206,100 @@ broken_finding (give good_table) e = let z : ◌≡◌ {A = ℕ} 0 1 = cc in abs
 broken_finding (give (not_good q)) e = let same : q ≡ Broken = cc in ap (λ r. give (not_good r)) same
 
 -- The checker's own answer, where it is not 14 e.
-pub own_only : (tower-file text file list : List ℕ) (v : Verdict) → (v ≡ Check.NotGood Broken → ⊥) → verdict (checked_file tower-file text file) ≡ v
-    → (why_answer (why_file tower-file text file (length list)) ≡ own_answer v) × (why_list (why_file tower-file text file (length list)) list ≡ list)
+pub own_only : (tower_file text file list : List ℕ) (v : Verdict) → (v ≡ Check.NotGood Broken → ⊥) → verdict (checked_file tower_file text file) ≡ v
+    → (why_answer (why_file tower_file text file (length list)) ≡ own_answer v) × (why_list (why_file tower_file text file (length list)) list ≡ list)
 unfolding why_answer why_list verdict own_answer
-own_only tower-file text file list v other e =
-    why_by tower-file text file (length list)
+own_only tower_file text file list v other e =
+    why_by tower_file text file (length list)
     (λ o w. verdict o ≡ v → (why_answer w ≡ own_answer v) × (why_list w list ≡ list))
     (λ r f. (ap own_answer f, refl)) (λ f. (ap own_answer f, refl)) (λ q earlier f. (ap own_answer f, refl))
     (λ tower book table fit laid f g. absurd (other (sym g))) e
 
-module _ (tower-file text file list : List ℕ) (areas : List (List ℕ)) where
+module _ (tower_file text file list : List ℕ) (areas : List (List ℕ)) where
   abbrev Right : WhyAnswer → List ℕ → Type 0
-  Right = RightWhy tower-file text file list areas
+  Right = RightWhy tower_file text file list areas
 
   -- With areas that are long enough, and too short.
   pub why_enough : long_enough check_areas areas ≡ true
-      → ((why_outcome tower-file text file list areas).answer ≡ why_answer (why_file tower-file text file (length list)))
-      × ((why_outcome tower-file text file list areas).list ≡ why_list (why_file tower-file text file (length list)) list)
-      × ((why_outcome tower-file text file list areas).areas ≡ cleared areas)
+      → ((why_outcome tower_file text file list areas).answer ≡ why_answer (why_file tower_file text file (length list)))
+      × ((why_outcome tower_file text file list areas).list ≡ why_list (why_file tower_file text file (length list)) list)
+      × ((why_outcome tower_file text file list areas).areas ≡ cleared areas)
   unfolding why_outcome
   why_enough e = (rw e refl, rw e refl, rw e refl)
 
   pub why_short : long_enough check_areas areas ≡ false
-      → ((why_outcome tower-file text file list areas).answer ≡ Shows.Refused Area)
-      × ((why_outcome tower-file text file list areas).list ≡ list) × ((why_outcome tower-file text file list areas).areas ≡ areas)
+      → ((why_outcome tower_file text file list areas).answer ≡ Shows.Refused Area)
+      × ((why_outcome tower_file text file list areas).list ≡ list) × ((why_outcome tower_file text file list areas).areas ≡ areas)
   unfolding why_outcome why_answer
   why_short e = (rw e refl, rw e refl, rw e refl)
 
   -- the checker's own answer is right
-  checker_right : long_enough check_areas areas ≡ true → (o : Answer Finding) → checked_file tower-file text file ≡ o
-      → RightCheck tower-file text file areas (verdict o)
+  checker_right : long_enough check_areas areas ≡ true → (o : Answer Finding) → checked_file tower_file text file ≡ o
+      → RightCheck tower_file text file areas (verdict o)
   checker_right enough o e =
-      subst (RightCheck tower-file text file areas) ((check_enough tower-file text file areas enough).0 ∙ ap verdict e) (check_right tower-file text file areas)
+      subst (RightCheck tower_file text file areas) ((check_enough tower_file text file areas enough).0 ∙ ap verdict e) (check_right tower_file text file areas)
 
   right_enough : long_enough check_areas areas ≡ true
-      → Right (why_answer (why_file tower-file text file (length list))) (why_list (why_file tower-file text file (length list)) list)
+      → Right (why_answer (why_file tower_file text file (length list))) (why_list (why_file tower_file text file (length list)) list)
   unfolding why_answer why_list verdict own_answer shown_of
   right_enough enough =
-      why_by tower-file text file (length list)
-      (λ o w. checked_file tower-file text file ≡ o → Right (why_answer w) (why_list w list))
+      why_by tower_file text file (length list)
+      (λ o w. checked_file tower_file text file ≡ o → Right (why_answer w) (why_list w list))
       (λ r e. why_own (Check.Refused r) (checker_right enough (refuse r) e) (λ f. let z : ◌≡◌ {A = ℕ} 0 1 = cc in omega arith))
       (λ e. why_own Check.Good (checker_right enough (give good_table) e) (λ f. let z : ◌≡◌ {A = ℕ} 0 1 = cc in omega arith))
       (λ q earlier e. why_own (Check.NotGood q) (checker_right enough (give (not_good q)) e) (earlier_not q earlier))
       (λ tower book table fit laid e f. by tower book table fit laid e) refl
     where
-      by : (tower : Tower) (book : Book) (table : Table) → FitFiles tower-file text tower book → FitTable tower file table
+      by : (tower : Tower) (book : Book) (table : Table) → FitFiles tower_file text tower book → FitTable tower file table
           → judge tower book table ≡ give (not_good Broken)
           → Right (why_answer (shown_in (length list) (shown_of tower book (shown_run tower book table))))
           (why_list (shown_in (length list) (shown_of tower book (shown_run tower book table))) list)
       by tower book table fit laid e =
-          let ex = explained tower-file text file tower book table fit laid e areas enough in
+          let ex = explained tower_file text file tower book table fit laid e areas enough in
           whether (ltb (length list) (length (shown_run tower book table)))
           (λ short.
           let lt = ltb-true (length list) (length (shown_run tower book table)) short in
           subst (λ o. Right (why_answer o) (why_list o list))
-          (sym (no_room tower-file text file tower book table fit laid e (length list) lt)) (why_room _ _ _ ex lt))
+          (sym (no_room tower_file text file tower book table fit laid e (length list) lt)) (why_room _ _ _ ex lt))
           (λ long.
           let le = ltb-false (length list) (length (shown_run tower book table)) long in
           subst (λ o. Right (why_answer o) (why_list o list))
-          (sym (with_room tower-file text file tower book table fit laid e (length list) le)) (why_shown _ _ _ ex le))
+          (sym (with_room tower_file text file tower book table fit laid e (length list) le)) (why_shown _ _ _ ex le))
 
   -- The answer is right, with what the list holds.
-  pub why_right : Right (why_outcome tower-file text file list areas).answer (why_outcome tower-file text file list areas).list
+  pub why_right : Right (why_outcome tower_file text file list areas).answer (why_outcome tower_file text file list areas).list
   unfolding own_answer
   why_right =
       whether (long_enough check_areas areas)
       (λ enough.
       let (a, l, z) = why_enough enough in
-      subst (λ x. Right x (why_outcome tower-file text file list areas).list) (sym a)
-      (subst (Right (why_answer (why_file tower-file text file (length list)))) (sym l) (right_enough enough)))
+      subst (λ x. Right x (why_outcome tower_file text file list areas).list) (sym a)
+      (subst (Right (why_answer (why_file tower_file text file (length list)))) (sym l) (right_enough enough)))
       (λ short.
       let (a, l, z) = why_short short in
-      subst (λ x. Right x (why_outcome tower-file text file list areas).list) (sym a)
+      subst (λ x. Right x (why_outcome tower_file text file list areas).list) (sym a)
       (subst (Right (Shows.Refused Area)) (sym l)
       (why_own (Check.Refused Area)
-      (subst (RightCheck tower-file text file areas) (check_short tower-file text file areas short).0 (check_right tower-file text file areas)) not_area)))
+      (subst (RightCheck tower_file text file areas) (check_short tower_file text file areas short).0 (check_right tower_file text file areas)) not_area)))
 
   -- the areas are long enough where the checker says 14 e
-  told_enough : RightCheck tower-file text file areas (Check.NotGood Broken) → long_enough check_areas areas ≡ true
+  told_enough : RightCheck tower_file text file areas (Check.NotGood Broken) → long_enough check_areas areas ≡ true
   told_enough right =
       true_by (long_enough check_areas areas)
-      (λ short. not_area (sym (check_short tower-file text file areas short).0 ∙ check_only tower-file text file areas (Check.NotGood Broken) right))
+      (λ short. not_area (sym (check_short tower_file text file areas short).0 ∙ check_only tower_file text file areas (Check.NotGood Broken) right))
 
   -- and then its finding is this
-  told_finding : (w : List ℕ) (k : ℕ) (i : Position) (ex : Explained tower-file text file areas w k i)
+  told_finding : (w : List ℕ) (k : ℕ) (i : Position) (ex : Explained tower_file text file areas w k i)
       → judge ex.tower ex.book ex.table ≡ give (not_good Broken)
   told_finding w k i ex =
       broken_finding (judge ex.tower ex.book ex.table)
-      (sym (check_call tower-file text file areas ex.tower ex.book ex.table ex.fit ex.laid (told_enough ex.turned_down))
-      ∙ check_only tower-file text file areas (Check.NotGood Broken) ex.turned_down)
+      (sym (check_call tower_file text file areas ex.tower ex.book ex.table ex.fit ex.laid (told_enough ex.turned_down))
+      ∙ check_only tower_file text file areas (Check.NotGood Broken) ex.turned_down)
 
   -- What is shown has at most 1,000 actions.
-  pub explained_few : (w : List ℕ) (k : ℕ) (i : Position) → Explained tower-file text file areas w k i → length w ≤ most_pairs
+  pub explained_few : (w : List ℕ) (k : ℕ) (i : Position) → Explained tower_file text file areas w k i → length w ≤ most_pairs
   explained_few w k i ex =
-      let able = judgeable tower-file text file ex.tower ex.book ex.table ex.fit ex.laid in
+      let able = judgeable tower_file text file ex.tower ex.book ex.table ex.fit ex.laid in
       let down = turned_down ex.tower ex.book ex.table able (told_finding w k i ex) in
       let (v, is, short) =
       some_broken_run ex.tower ex.book ex.table (turned ex.tower ex.book ex.table able down) (broken_found ex.tower ex.book ex.table able down) in
@@ -307,36 +307,36 @@ module _ (tower-file text file list : List ℕ) (areas : List (List ℕ)) where
 
   -- No other answer is right, and nothing else in the list.
   pub why_only : (x : WhyAnswer) (l : List ℕ) → Right x l
-      → ((why_outcome tower-file text file list areas).answer ≡ x) × ((why_outcome tower-file text file list areas).list ≡ l)
+      → ((why_outcome tower_file text file list areas).answer ≡ x) × ((why_outcome tower_file text file list areas).list ≡ l)
   unfolding why_answer why_list own_answer shown_of
   why_only _ _ (why_own v right other) =
       whether (long_enough check_areas areas)
       (λ enough.
       let (a, b, z) = why_enough enough in
-      let (c, d) = own_only tower-file text file list v other (sym (check_enough tower-file text file areas enough).0 ∙ check_only tower-file text file areas v right) in
+      let (c, d) = own_only tower_file text file list v other (sym (check_enough tower_file text file areas enough).0 ∙ check_only tower_file text file areas v right) in
       (a ∙ c, b ∙ d))
       (λ short.
       let (a, b, z) = why_short short in
-      (a ∙ ap own_answer (sym (check_short tower-file text file areas short).0 ∙ check_only tower-file text file areas v right), b))
+      (a ∙ ap own_answer (sym (check_short tower_file text file areas short).0 ∙ check_only tower_file text file areas v right), b))
   why_only _ _ (why_room w k i ex lt) =
       let enough = told_enough ex.turned_down in
       let e = told_finding w k i ex in
       let (a, b, z) = why_enough enough in
-      let (same, at-line, at_place) = shown_only tower-file text file ex.tower ex.book ex.table ex.fit ex.laid e w k i ex.why in
-      let file-is =
-      files_why tower-file text file ex.tower ex.book ex.table ex.fit ex.laid e (length list)
-      ∙ no_room tower-file text file ex.tower ex.book ex.table ex.fit ex.laid e (length list) (subst (λ v. length list < length v) same lt) in
-      (a ∙ ap why_answer file-is, b ∙ ap (λ o. why_list o list) file-is)
+      let (same, at_line, at_place) = shown_only tower_file text file ex.tower ex.book ex.table ex.fit ex.laid e w k i ex.why in
+      let file_is =
+      files_why tower_file text file ex.tower ex.book ex.table ex.fit ex.laid e (length list)
+      ∙ no_room tower_file text file ex.tower ex.book ex.table ex.fit ex.laid e (length list) (subst (λ v. length list < length v) same lt) in
+      (a ∙ ap why_answer file_is, b ∙ ap (λ o. why_list o list) file_is)
   why_only _ _ (why_shown w k i ex le) =
       let enough = told_enough ex.turned_down in
       let e = told_finding w k i ex in
       let (a, b, z) = why_enough enough in
-      let (same, at-line, at_place) = shown_only tower-file text file ex.tower ex.book ex.table ex.fit ex.laid e w k i ex.why in
-      let file-is =
-      files_why tower-file text file ex.tower ex.book ex.table ex.fit ex.laid e (length list)
-      ∙ with_room tower-file text file ex.tower ex.book ex.table ex.fit ex.laid e (length list) (subst (λ v. length v ≤ length list) same le) in (
-        a ∙ ap why_answer file-is ∙ shown_same (length (shown_run ex.tower ex.book ex.table)) (length w) _ k _ i.0 (ap length (sym same)) (sym at-line) (ap (λ p. p.0) (sym at_place)),
-        b ∙ ap (λ o. why_list o list) file-is ∙ ap (λ v. v ++ drop (length v) list) (sym same),
+      let (same, at_line, at_place) = shown_only tower_file text file ex.tower ex.book ex.table ex.fit ex.laid e w k i ex.why in
+      let file_is =
+      files_why tower_file text file ex.tower ex.book ex.table ex.fit ex.laid e (length list)
+      ∙ with_room tower_file text file ex.tower ex.book ex.table ex.fit ex.laid e (length list) (subst (λ v. length v ≤ length list) same le) in (
+        a ∙ ap why_answer file_is ∙ shown_same (length (shown_run ex.tower ex.book ex.table)) (length w) _ k _ i.0 (ap length (sym same)) (sym at_line) (ap (λ p. p.0) (sym at_place)),
+        b ∙ ap (λ o. why_list o list) file_is ∙ ap (λ v. v ++ drop (length v) list) (sym same),
       )
     where
       shown_same : (n m k l p q : ℕ) → n ≡ m → k ≡ l → p ≡ q → Shows.Shown n k p ≡ Shows.Shown m l q
@@ -358,20 +358,20 @@ module _ (tower-file text file list : List ℕ) (areas : List (List ℕ)) where
   unfolding RefusesWith why_said refusal_said
   numbers _ _ (why_own v right other) number place inside e =
       with_16 number
-      (subst (λ u. RefusesWith check_numbers (verdict_said u)) (check_only tower-file text file areas v right) (check_refuses tower-file text file areas)
+      (subst (λ u. RefusesWith check_numbers (verdict_said u)) (check_only tower_file text file areas v right) (check_refuses tower_file text file areas)
       number place inside (sym (said_own v) ∙ e))
   numbers _ _ (why_room w k i ex lt) number place inside e =
       let is : 16 ≡ number = cc in subst (λ n. some_of (eqb n) why_numbers ≡ true) is (unfold why_numbers check_numbers some_of in refl)
   numbers _ _ (why_shown w k i ex le) number place inside e = let z : ◌≡◌ {A = ℕ} 0 1 = cc in absurd (omega arith)
 
   -- It refuses with no other number.
-  pub why_refuses : RefusesWith why_numbers (why_said (why_outcome tower-file text file list areas).answer)
+  pub why_refuses : RefusesWith why_numbers (why_said (why_outcome tower_file text file list areas).answer)
   why_refuses = numbers _ _ why_right
 
   area_only : (x : WhyAnswer) (l : List ℕ) → Right x l → x ≡ Shows.Refused Area → long_enough check_areas areas ≡ false
   unfolding own_answer
   area_only _ _ (why_own v right other) e =
-      (check_areas_right tower-file text file areas).exactly.0 (check_only tower-file text file areas v right ∙ own_area v e)
+      (check_areas_right tower_file text file areas).exactly.0 (check_only tower_file text file areas v right ∙ own_area v e)
     where
       own_area : (v : Verdict) → own_answer v ≡ Shows.Refused Area → v ≡ Check.Refused Area
       own_area Check.Good e = let z : ◌≡◌ {A = ℕ} 0 1 = cc in absurd (omega arith)
@@ -381,8 +381,8 @@ module _ (tower-file text file list : List ℕ) (areas : List (List ℕ)) where
   area_only _ _ (why_shown w k i ex le) e = let z : ◌≡◌ {A = ℕ} 0 1 = cc in absurd (omega arith)
 
   -- 15 is answered exactly if an area is too short, and then every area is as it was; else every area is zero.
-  pub why_areas_right : AreasRight check_areas areas ((why_outcome tower-file text file list areas).answer ≡ Shows.Refused Area)
-      (why_outcome tower-file text file list areas).areas
+  pub why_areas_right : AreasRight check_areas areas ((why_outcome tower_file text file list areas).answer ≡ Shows.Refused Area)
+      (why_outcome tower_file text file list areas).areas
   why_areas_right =
       record {
         exactly = (area_only _ _ why_right, λ short. (why_short short).0);
@@ -396,6 +396,6 @@ module _ (tower-file text file list : List ℕ) (areas : List (List ℕ)) where
   refused_list _ _ (why_shown w k i ex le) r e = let z : ◌≡◌ {A = ℕ} 0 1 = cc in absurd (omega arith)
 
   -- A refusal changes no byte of the list.
-  pub why_keeps_list : (r : Refusal) → (why_outcome tower-file text file list areas).answer ≡ Shows.Refused r
-      → (why_outcome tower-file text file list areas).list ≡ list
+  pub why_keeps_list : (r : Refusal) → (why_outcome tower_file text file list areas).answer ≡ Shows.Refused r
+      → (why_outcome tower_file text file list areas).list ≡ list
   why_keeps_list r e = refused_list _ _ why_right r e

@@ -10,7 +10,7 @@ use native.Mathlib.Omega.{arith}
 use lib.ListN.{length, length-append}
 use borrow.Author.Tests.{not-true}
 use Rattle.base.specs.Lists.{is_there}
-use Rattle.base.proofs.Lists.{not_in, and_left, and_right, and_both, some_none, some_at, some_below, mem_index, is_there_in, is_there_out, not_there, there_not, none-some, some_one, whether-there}
+use Rattle.base.proofs.Lists.{not_in, and_left, and_right, and_both, some_none, some_at, some_below, mem_index, is_there_in, is_there_out, not_there, there_not, none-some, some_one, whether_there}
 use Rattle.logic.specs.Tower.{Tower, Listed}
 use Rattle.logic.specs.Book.{Book}
 use Rattle.logic.specs.Runs.{leads, Unbroken, Broken}
@@ -189,7 +189,7 @@ module _ (tower : Tower) (book : Book) (table : Table) (turned : SizedRight towe
   walked (a ∷ w) i s l e =
       let v = pair_number rows book i in
       let (y, to, on) = leads_out (move table) v.state s a w e in
-      whether-there (pair_step rows book v a)
+      whether_there (pair_step rows book v a)
       (λ gone.
       inr (record {
         part = [];

@@ -30,50 +30,50 @@ use Rattle.why_outcome.specs.WhyShown.{ShownWell}
 use Rattle.why_outcome.proofs.Answering as Answering
 use Rattle.why_outcome.proofs.Explained.{soonest_some, soonest_beginnings}
 
-module _ (tower-file text file list : List ℕ) (areas : List (List ℕ)) where
+module _ (tower_file text file list : List ℕ) (areas : List (List ℕ)) where
   -- ---- Demand 1: 'the call refuses with the number that our paper gives; if it is fit .., the call answers.'
 
   -- The answer is x and the list then l exactly if they are the right ones of the cases in specs/WhyRight.antt. '16 comes last, if the list is
   -- shorter than the run.'
   pub whys_exactly : (x : WhyAnswer) (l : List ℕ)
-      → (((why_outcome tower-file text file list areas).answer ≡ x) × ((why_outcome tower-file text file list areas).list ≡ l))
-      ↔ RightWhy tower-file text file list areas x l
+      → (((why_outcome tower_file text file list areas).answer ≡ x) × ((why_outcome tower_file text file list areas).list ≡ l))
+      ↔ RightWhy tower_file text file list areas x l
   whys_exactly x l = (
     λ (e, f).
-        subst (λ y. RightWhy tower-file text file list areas y l) e
-        (subst (RightWhy tower-file text file list areas (why_outcome tower-file text file list areas).answer) f
-        (Answering.why_right tower-file text file list areas)),
-    Answering.why_only tower-file text file list areas x l,
+        subst (λ y. RightWhy tower_file text file list areas y l) e
+        (subst (RightWhy tower_file text file list areas (why_outcome tower_file text file list areas).answer) f
+        (Answering.why_right tower_file text file list areas)),
+    Answering.why_only tower_file text file list areas x l,
   )
 
   -- 15 is answered exactly if an area is too short, and then every area is as it was. In every other case every area is zero over its whole length.
-  pub why_areas_right : AreasRight check_areas areas ((why_outcome tower-file text file list areas).answer ≡ Shows.Refused Area)
-      (why_outcome tower-file text file list areas).areas
-  why_areas_right = Answering.why_areas_right tower-file text file list areas
+  pub why_areas_right : AreasRight check_areas areas ((why_outcome tower_file text file list areas).answer ≡ Shows.Refused Area)
+      (why_outcome tower_file text file list areas).areas
+  why_areas_right = Answering.why_areas_right tower_file text file list areas
 
   -- It refuses with no number that the paper does not list for it.
-  pub why_refuses : RefusesWith why_numbers (why_said (why_outcome tower-file text file list areas).answer)
-  why_refuses = Answering.why_refuses tower-file text file list areas
+  pub why_refuses : RefusesWith why_numbers (why_said (why_outcome tower_file text file list areas).answer)
+  why_refuses = Answering.why_refuses tower_file text file list areas
 
   -- 'A refusal changes no byte of the output'.
-  pub why_keeps_list : (r : Refusal) → (why_outcome tower-file text file list areas).answer ≡ Shows.Refused r
-      → (why_outcome tower-file text file list areas).list ≡ list
-  why_keeps_list r e = Answering.why_keeps_list tower-file text file list areas r e
+  pub why_keeps_list : (r : Refusal) → (why_outcome tower_file text file list areas).answer ≡ Shows.Refused r
+      → (why_outcome tower_file text file list areas).list ≡ list
+  why_keeps_list r e = Answering.why_keeps_list tower_file text file list areas r e
 
   -- ---- 02, item 4: 'On any other outcome the tool gives the checker's own answer.' The list is then as it was.
 
-  pub own_else : (v : Verdict) → (check_outcome tower-file text file areas).answer ≡ v → (v ≡ Check.NotGood Broken → ⊥)
-      → ((why_outcome tower-file text file list areas).answer ≡ own_answer v) × ((why_outcome tower-file text file list areas).list ≡ list)
+  pub own_else : (v : Verdict) → (check_outcome tower_file text file areas).answer ≡ v → (v ≡ Check.NotGood Broken → ⊥)
+      → ((why_outcome tower_file text file list areas).answer ≡ own_answer v) × ((why_outcome tower_file text file list areas).list ≡ list)
   own_else v e other =
-      Answering.why_only tower-file text file list areas (own_answer v) list
-      (why_own v (subst (RightCheck tower-file text file areas) e (check_right tower-file text file areas)) other)
+      Answering.why_only tower_file text file list areas (own_answer v) list
+      (why_own v (subst (RightCheck tower_file text file areas) e (check_right tower_file text file areas)) other)
 
   -- ---- 'For a table turned down with 14 e, its keeper wants to see a shortest allowed run that is broken; among those of one length, the first by
   -- action numbers compared from the left. The tool also gives the lowest line that the run breaks and, for an `always` line, the lowest position
   -- where it isn't kept; for a `start` line, 0. Each of these is proved.'
 
-  well : (w : List ℕ) (k : ℕ) (i : Position) → Explained tower-file text file areas w k i
-      → ShownWell tower-file text file list (w ++ drop (length w) list) (length w) k i.0
+  well : (w : List ℕ) (k : ℕ) (i : Position) → Explained tower_file text file areas w k i
+      → ShownWell tower_file text file list (w ++ drop (length w) list) (length w) k i.0
   unfolding Sooner most_pairs
   well w k i ex =
       record {
@@ -91,7 +91,7 @@ module _ (tower-file text file list : List ℕ) (areas : List (List ℕ)) where
         first = λ v allowed broken same lower. ex.why.run.none_sooner v (record { allowed = allowed; broken = broken }) (inr (same, lower));
         beginnings = soonest_beginnings ex.tower ex.book ex.table w ex.why.run;
         some_action = soonest_some ex.tower ex.book ex.table w ex.why.run;
-        few_actions = Answering.explained_few tower-file text file list areas w k i ex;
+        few_actions = Answering.explained_few tower_file text file list areas w k i ex;
         line = ex.why.line.inside;
         line_broken = ex.why.line.broken;
         lower_kept = ex.why.line.lower;
@@ -99,12 +99,12 @@ module _ (tower-file text file list : List ℕ) (areas : List (List ℕ)) where
       }
 
   abbrev ShownBy : WhyAnswer → List ℕ → Type 0
-  ShownBy (Shows.Shown n k p) l = ShownWell tower-file text file list l n k p
+  ShownBy (Shows.Shown n k p) l = ShownWell tower_file text file list l n k p
   ShownBy Shows.Good l = Unit {0}
   ShownBy (Shows.NotGood reason) l = Unit {0}
   ShownBy (Shows.Refused r) l = Unit {0}
 
-  shown_by : (x : WhyAnswer) (l : List ℕ) → RightWhy tower-file text file list areas x l → ShownBy x l
+  shown_by : (x : WhyAnswer) (l : List ℕ) → RightWhy tower_file text file list areas x l → ShownBy x l
   unfolding own_answer
   shown_by _ _ (why_own Check.Good right other) = tt
   shown_by _ _ (why_own (Check.NotGood reason) right other) = tt
@@ -112,29 +112,29 @@ module _ (tower-file text file list : List ℕ) (areas : List (List ℕ)) where
   shown_by _ _ (why_room w k i ex lt) = tt
   shown_by _ _ (why_shown w k i ex le) = well w k i ex
 
-  pub shows_well : (n k p : ℕ) → (why_outcome tower-file text file list areas).answer ≡ Shows.Shown n k p
-      → ShownWell tower-file text file list (why_outcome tower-file text file list areas).list n k p
+  pub shows_well : (n k p : ℕ) → (why_outcome tower_file text file list areas).answer ≡ Shows.Shown n k p
+      → ShownWell tower_file text file list (why_outcome tower_file text file list areas).list n k p
   shows_well n k p e =
-      subst (λ x. ShownBy x (why_outcome tower-file text file list areas).list) e (shown_by _ _ (Answering.why_right tower-file text file list areas))
+      subst (λ x. ShownBy x (why_outcome tower_file text file list areas).list) e (shown_by _ _ (Answering.why_right tower_file text file list areas))
 
   -- And so it is for every table that is turned down with 14 e: the run is shown, or the list is too short for it.
-  pub shown_or_room : (check_outcome tower-file text file areas).answer ≡ Check.NotGood Broken
-      → ((n k p : ℕ) × ((why_outcome tower-file text file list areas).answer ≡ Shows.Shown n k p))
-      ⊎ ((why_outcome tower-file text file list areas).answer ≡ Shows.Refused Output)
-  shown_or_room e = by _ _ (Answering.why_right tower-file text file list areas) refl
+  pub shown_or_room : (check_outcome tower_file text file areas).answer ≡ Check.NotGood Broken
+      → ((n k p : ℕ) × ((why_outcome tower_file text file list areas).answer ≡ Shows.Shown n k p))
+      ⊎ ((why_outcome tower_file text file list areas).answer ≡ Shows.Refused Output)
+  shown_or_room e = by _ _ (Answering.why_right tower_file text file list areas) refl
     where
-      by : (x : WhyAnswer) (l : List ℕ) → RightWhy tower-file text file list areas x l → (why_outcome tower-file text file list areas).answer ≡ x
-          → ((n k p : ℕ) × ((why_outcome tower-file text file list areas).answer ≡ Shows.Shown n k p))
-          ⊎ ((why_outcome tower-file text file list areas).answer ≡ Shows.Refused Output)
-      by _ _ (why_own v right other) f = absurd (other (sym (check_only tower-file text file areas v right) ∙ e))
+      by : (x : WhyAnswer) (l : List ℕ) → RightWhy tower_file text file list areas x l → (why_outcome tower_file text file list areas).answer ≡ x
+          → ((n k p : ℕ) × ((why_outcome tower_file text file list areas).answer ≡ Shows.Shown n k p))
+          ⊎ ((why_outcome tower_file text file list areas).answer ≡ Shows.Refused Output)
+      by _ _ (why_own v right other) f = absurd (other (sym (check_only tower_file text file areas v right) ∙ e))
       by _ _ (why_room w k i ex lt) f = inr f
       by _ _ (why_shown w k i ex le) f = inl (length w, k, i.0, f)
 
 -- 'and no entry relies on its caller to have tested anything.' The answer depends on how long list and areas are alone.
-pub same_why : (tower-file text file list other : List ℕ) (areas lent : List (List ℕ)) → long_enough check_areas areas ≡ true
+pub same_why : (tower_file text file list other : List ℕ) (areas lent : List (List ℕ)) → long_enough check_areas areas ≡ true
     → long_enough check_areas lent ≡ true → length list ≡ length other
-    → (why_outcome tower-file text file list areas).answer ≡ (why_outcome tower-file text file other lent).answer
-same_why tower-file text file list other areas lent enough lent-enough same =
-    (Answering.why_enough tower-file text file list areas enough).0
-    ∙ ap (λ n. why_answer (why_file tower-file text file n)) same
-    ∙ sym (Answering.why_enough tower-file text file other lent lent-enough).0
+    → (why_outcome tower_file text file list areas).answer ≡ (why_outcome tower_file text file other lent).answer
+same_why tower_file text file list other areas lent enough lent_enough same =
+    (Answering.why_enough tower_file text file list areas enough).0
+    ∙ ap (λ n. why_answer (why_file tower_file text file n)) same
+    ∙ sym (Answering.why_enough tower_file text file other lent lent_enough).0

@@ -22,24 +22,24 @@ own_answer (Check.NotGood reason) = Shows.NotGood reason
 own_answer (Check.Refused r) = Shows.Refused r
 
 -- The checker says 14 e of the table in the files, and this run, this line and this position show why.
-pub record Explained (tower-file text file : List ℕ) (areas : List (List ℕ)) (w : List ℕ) (k : ℕ) (i : Position) : Type 0 where
+pub record Explained (tower_file text file : List ℕ) (areas : List (List ℕ)) (w : List ℕ) (k : ℕ) (i : Position) : Type 0 where
   pub tower : Tower
   pub book : Book
   pub table : Table
-  pub fit : FitFiles tower-file text tower book
+  pub fit : FitFiles tower_file text tower book
   pub laid : FitTable tower file table
-  pub turned_down : RightCheck tower-file text file areas (Check.NotGood Broken)
+  pub turned_down : RightCheck tower_file text file areas (Check.NotGood Broken)
   pub why : ShowsWhy tower book table w k i
 
 -- The right answer, with what the list holds then: 'On any other outcome the tool gives the checker's own answer'; 16 'if the list is shorter than
 -- the run'; and else the run in 'a lent list, whose later bytes stay', with its length, the line and the position.
-pub data RightWhy (tower-file text file list : List ℕ) (areas : List (List ℕ)) : WhyAnswer → List ℕ → Type 0 where
-  why_own : (v : Verdict) → RightCheck tower-file text file areas v → (v ≡ Check.NotGood Broken → ⊥)
-      → RightWhy tower-file text file list areas (own_answer v) list
-  why_room : (w : List ℕ) (k : ℕ) (i : Position) → Explained tower-file text file areas w k i → length list < length w
-      → RightWhy tower-file text file list areas (Shows.Refused Output) list
-  why_shown : (w : List ℕ) (k : ℕ) (i : Position) → Explained tower-file text file areas w k i → length w ≤ length list
-      → RightWhy tower-file text file list areas (Shows.Shown (length w) k i.0) (w ++ drop (length w) list)
+pub data RightWhy (tower_file text file list : List ℕ) (areas : List (List ℕ)) : WhyAnswer → List ℕ → Type 0 where
+  why_own : (v : Verdict) → RightCheck tower_file text file areas v → (v ≡ Check.NotGood Broken → ⊥)
+      → RightWhy tower_file text file list areas (own_answer v) list
+  why_room : (w : List ℕ) (k : ℕ) (i : Position) → Explained tower_file text file areas w k i → length list < length w
+      → RightWhy tower_file text file list areas (Shows.Refused Output) list
+  why_shown : (w : List ℕ) (k : ℕ) (i : Position) → Explained tower_file text file areas w k i → length w ≤ length list
+      → RightWhy tower_file text file list areas (Shows.Shown (length w) k i.0) (w ++ drop (length w) list)
 
 -- the numbers that the entry may refuse with, in the papers' order: the checker's, and 16 last
 unfoldable pub why_numbers : List ℕ

@@ -10,16 +10,16 @@ use Rattle.logic.specs.Why.{Lower, rule_at, KeptLine, BrokenAt}
 use Rattle.outcome.specs.Calls.{FitFiles, FitTable}
 
 -- A run of n actions in the front of the list, line k and position p.
-pub record ShownWell (tower-file text file list list-after : List ℕ) (n k p : ℕ) : Type 0 where
+pub record ShownWell (tower_file text file list list_after : List ℕ) (n k p : ℕ) : Type 0 where
   pub tower : Tower
   pub book : Book
   pub table : Table
-  pub fit : FitFiles tower-file text tower book
+  pub fit : FitFiles tower_file text tower book
   pub laid : FitTable tower file table
   pub run : List ℕ
   -- 'The run goes to a lent list, whose later bytes stay; here and later, the answer gives the length of such a run.'
   pub size : length run ≡ n
-  pub written : list-after ≡ run ++ drop n list
+  pub written : list_after ≡ run ++ drop n list
   -- the run is allowed and broken;
   pub allowed : Allows table run
   pub broken : Broken tower book run

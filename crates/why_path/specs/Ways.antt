@@ -65,8 +65,8 @@ pub record WayLength (r : ℕ) (ways : List ℕ) (i : ℕ) : Type 0 where
   pub says : (w : List ℕ) → WayTo (from_in ways) (action_in ways) i w → r ≡ length w
 
 -- The run to pair i has been written to the front of the list; later bytes are as they were.
-pub record WayWritten (ways : List ℕ) (i : ℕ) (list list-after : List ℕ) : Type 0 where
-  pub says : (w : List ℕ) → WayTo (from_in ways) (action_in ways) i w → list-after ≡ w ++ drop (length w) list
+pub record WayWritten (ways : List ℕ) (i : ℕ) (list list_after : List ℕ) : Type 0 where
+  pub says : (w : List ℕ) → WayTo (from_in ways) (action_in ways) i w → list_after ≡ w ++ drop (length w) list
 
 -- What is answered of a list for a run: its length, or that the list is too short for it.
 unfoldable pub room_for : List ℕ → List ℕ → Written
@@ -77,7 +77,7 @@ unfoldable pub list_with : List ℕ → List ℕ → List ℕ
 list_with list run = pick (ltb (length list) (length run)) (λ _. list) (λ _. run ++ drop (length run) list)
 
 -- The run to pair i with action a behind it, written to the list if there is room for it. How each pair was first met is noted.
-pub record RunWritten (r : Written) (n actions : ℕ) (graph : List ℕ) (i a : ℕ) (ways list list-after : List ℕ) : Type 0 where
+pub record RunWritten (r : Written) (n actions : ℕ) (graph : List ℕ) (i a : ℕ) (ways list list_after : List ℕ) : Type 0 where
   pub noted : StepsNoted n actions graph 0 ways
   pub says : (w : List ℕ) → WayTo (from_in ways) (action_in ways) i w → r ≡ room_for list (w ++ (a ∷ []))
-  pub written : (w : List ℕ) → WayTo (from_in ways) (action_in ways) i w → list-after ≡ list_with list (w ++ (a ∷ []))
+  pub written : (w : List ℕ) → WayTo (from_in ways) (action_in ways) i w → list_after ≡ list_with list (w ++ (a ∷ []))

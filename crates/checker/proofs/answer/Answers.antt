@@ -16,4 +16,4 @@ pub returns-in-Refused : goal.returns-in-Refused
 returns-in-Refused c = search all
 
 pub returns-in-Broken : goal.returns-in-Broken
-returns-in-Broken c = answered _ _ _ c.enum_told-in-Broken-1.given.1 refl
+returns-in-Broken c = answered _ _ _ c.in-Broken.is refl

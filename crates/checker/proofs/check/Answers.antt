@@ -12,7 +12,7 @@ pub examine-found-requires : goal.examine-found-requires
 examine-found-requires c = room_there _ _ _ _ _ _ _ c.long_enough.ensures (search (not-false, c.if-not-long_enough.false-raw))
 
 pub returns : goal.returns
-returns c = let kept = c.examine-found.auto.1.1.1 in
+returns c = let kept = c.examine-found.auto in
     checked_all _ _ _ _ _ _ _ _ _ _ c.long_enough.ensures _ _ _ _ _ _ _ _ _ _ _ _ _ _ (search (not-false, c.if-not-long_enough.false-raw))
     c.answer.ensures c.examine-found.ensures c.clear.ensures
-    kept.0 kept.1.0 kept.1.1.0 kept.1.1.1.0 kept.1.1.1.1.0 kept.1.1.1.1.1.0
+    kept.nodes kept.pairs kept.index kept.graph kept.sets kept.room

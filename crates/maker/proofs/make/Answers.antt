@@ -15,28 +15,28 @@ pub shape_of-out : goal.shape_of-out
 shape_of-out c = search (c.make_files-answer.auto, c.out-1)
 
 pub shape_of-nodes : goal.shape_of-nodes
-shape_of-nodes c = search (kept_on, c.clear.auto.0, c.make_files-answer.auto.1.1.1.0)
+shape_of-nodes c = search (kept_on, c.clear.auto.nodes, c.make_files-answer.auto.nodes)
 
 pub shape_of-pairs : goal.shape_of-pairs
-shape_of-pairs c = search (kept_on, c.clear.auto.1.0, c.make_files-answer.auto.1.1.1.1.0)
+shape_of-pairs c = search (kept_on, c.clear.auto.pairs, c.make_files-answer.auto.pairs)
 
 pub shape_of-index : goal.shape_of-index
-shape_of-index c = search (kept_on, c.clear.auto.1.1.0, c.make_files-answer.auto.1.1.1.1.1.0)
+shape_of-index c = search (kept_on, c.clear.auto.index, c.make_files-answer.auto.index)
 
 pub shape_of-graph : goal.shape_of-graph
-shape_of-graph c = search (kept_on, c.clear.auto.1.1.1.0, c.make_files-answer.auto.1.1.1.1.1.1.0)
+shape_of-graph c = search (kept_on, c.clear.auto.graph, c.make_files-answer.auto.graph)
 
 pub shape_of-sets : goal.shape_of-sets
-shape_of-sets c = search (kept_on, c.clear.auto.1.1.1.1.0, c.make_files-answer.auto.1.1.1.1.1.1.1.0)
+shape_of-sets c = search (kept_on, c.clear.auto.sets, c.make_files-answer.auto.sets)
 
 pub shape_of-room : goal.shape_of-room
-shape_of-room c = search (kept_on, c.clear.auto.1.1.1.1.1.0, c.make_files-answer.auto.1.1.1.1.1.1.1.1.0)
+shape_of-room c = search (kept_on, c.clear.auto.room, c.make_files-answer.auto.room)
 
 pub shape_of-flags : goal.shape_of-flags
-shape_of-flags c = search (kept_on, c.clear.auto.1.1.1.1.1.1.0, c.make_files-answer.auto.1.1.1.1.1.1.1.1.1.0)
+shape_of-flags c = search (kept_on, c.clear.auto.flags, c.make_files-answer.auto.flags)
 
 pub shape_of-classes : goal.shape_of-classes
-shape_of-classes c = search (kept_on, c.clear.auto.1.1.1.1.1.1.1.0, c.make_files-answer.auto.1.1.1.1.1.1.1.1.1.1.0)
+shape_of-classes c = search (kept_on, c.clear.auto.classes, c.make_files-answer.auto.classes)
 
 pub returns : goal.returns
 returns c = search (
@@ -44,14 +44,14 @@ returns c = search (
   not-false,
   c.clear.ensures,
   c.make_files-answer.ensures,
-  c.make_files-answer.auto.1.1.1.0,
-  c.make_files-answer.auto.1.1.1.1.0,
-  c.make_files-answer.auto.1.1.1.1.1.0,
-  c.make_files-answer.auto.1.1.1.1.1.1.0,
-  c.make_files-answer.auto.1.1.1.1.1.1.1.0,
-  c.make_files-answer.auto.1.1.1.1.1.1.1.1.0,
-  c.make_files-answer.auto.1.1.1.1.1.1.1.1.1.0,
-  c.make_files-answer.auto.1.1.1.1.1.1.1.1.1.1.0,
+  c.make_files-answer.auto.nodes,
+  c.make_files-answer.auto.pairs,
+  c.make_files-answer.auto.index,
+  c.make_files-answer.auto.graph,
+  c.make_files-answer.auto.sets,
+  c.make_files-answer.auto.room,
+  c.make_files-answer.auto.flags,
+  c.make_files-answer.auto.classes,
   c.if-not-long_enough.false-raw,
   c.long_enough.ensures,
 )
