@@ -1,6 +1,6 @@
 /* A clavier in small: reads a tower file and a rule book, makes the table, prints its listing, checks
  * it, and plays a performance of the actions that follow. From the repository's folder, once
- * `rt staticlib succoryvise` has made the archive:
+ * `tools/build archives` has made the archive:
  *
  *     mkdir -p build
  *     cc -std=c99 -Iinclude examples/c/clavier.c target/staticlib/libsuccoryvise.a -o build/clavier

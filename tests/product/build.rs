@@ -1,5 +1,5 @@
-//! Links the inner functions: the archive that `rt staticlib` writes for the crate `testing`, in the
-//! folder in which `succoryvise-sys` has found the one of the entries.
+//! Links the inner functions: the archive `libtesting.a`, which `tools/build archives` makes of the crate
+//! `testing_c`, in the folder in which `succoryvise-sys` has found the one of the entries.
 
 use std::env;
 use std::path::Path;

@@ -1,6 +1,6 @@
 //! A clavier in small: reads a tower file and a rule book, makes the table, prints its listing, checks
 //! it, and plays a performance of the actions that follow. From the folder `wrapper`, once
-//! `rt staticlib succoryvise` has made the archive:
+//! `tools/build archives` has made the archive:
 //!
 //! ```sh
 //! PROVED_LIBRARIES=../target/staticlib cargo run --example clavier -- ../examples/small-tower/tower.bin ../examples/small-tower/book-1.txt 0 1 0 2 3 4

@@ -1,6 +1,6 @@
-//! Links the proved functions: PROVED_LIBRARIES is the folder of the archive that `rt staticlib`
-//! writes for the crate `succoryvise`. A folder that is not absolute is one of the folder in which
-//! cargo was called. Build scripts of crates above get it whole, as DEP_SUCCORYVISE_FOLDER.
+//! Links the proved functions: PROVED_LIBRARIES is the folder of `libsuccoryvise.a`, which
+//! `tools/build archives` makes of the crate `succoryvise_c`. A folder that is not absolute is one of the
+//! folder in which cargo was called. Build scripts of crates above get it whole, as DEP_SUCCORYVISE_FOLDER.
 
 use std::env;
 use std::path::{Path, PathBuf};
