@@ -99,7 +99,8 @@ def turned(path, text, names, stay):
         return "".join(out) + WORD.sub(word, t[at:])
 
     if path.endswith(".md"):
-        return re.sub(r"`[^`\n]+`", lambda m: WORD.sub(word, m.group(0)), text)
+        # a file's name stays
+        return re.sub(r"`[^`\n]+`", lambda m: m.group(0) if re.search(r"/|\.(txt|bin|listing|md|rs|edit)\b", m.group(0)) else WORD.sub(word, m.group(0)), text)
     if path.endswith(".rt"):
         return "\n".join(outside_strings(l) for l in text.split("\n"))
     return WORD.sub(word, text)
