@@ -88,8 +88,8 @@ def foreign(text, crates):
 
 def turned(path, text, names, stay):
     def word(m):
-        w = m.group(0)
-        return respelled(w) if w in names and w not in stay else w
+        parts = m.group(0).split("◌")
+        return "◌".join(respelled(w) if w in names and w not in stay else w for w in parts)
 
     def outside_strings(t):
         out, at = [], 0

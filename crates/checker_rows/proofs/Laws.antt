@@ -10,7 +10,7 @@ use Rattle.base.specs.Answers.{Answer}
 use Rattle.base.specs.declared.Reason.TheVariants.{Start, Withheld, WrongStep, Stopped}
 use Rattle.logic.specs.Tower.{Tower}
 use Rattle.logic.specs.Tables.{Table}
-use Rattle.outcome.specs.Check.{Finding, ◌found-if◌else◌, wrong_start, stopped, judge_row, judge_rows, rows_judged}
+use Rattle.outcome.specs.Check.{Finding, ◌found_if◌else◌, wrong_start, stopped, judge_row, judge_rows, rows_judged}
 use Rattle.checker_rows.specs.RowVerdict.{some_withheld, some_wrong_step, row_verdict, rows_from, rows_verdict, answer_after}
 use Rattle.checker_rows.specs.declared.RowVerdict.{RowVerdict}
 use Rattle.checker_rows.specs.declared.RowVerdict.TheVariants.{Wrong}
@@ -18,7 +18,7 @@ use Rattle.checker_rows.specs.declared.RowVerdict.TheVariants.{Wrong}
 -- One row.
 pub judge_row_after : (tower : Tower) (table : Table) (r : ℕ) (v : RowVerdict) (after : Answer Finding)
     → judge_row tower table r (answer_after v after) ≡ answer_after (row_verdict tower table r v) after
-unfolding judge_row row_verdict some_withheld some_wrong_step ◌found-if◌else◌ answer_after
+unfolding judge_row row_verdict some_withheld some_wrong_step ◌found_if◌else◌ answer_after
 judge_row_after tower table r v after =
     go (some_withheld tower table r) (some_wrong_step tower table r) (stopped tower table r)
   where
@@ -41,7 +41,7 @@ judge_rows_after tower table (r ∷ rs) after =
 
 -- What the rows say, and else what comes after them.
 pub rows_after : (tower : Tower) (table : Table) (after : Answer Finding) → rows_judged tower table after ≡ answer_after (rows_verdict tower table) after
-unfolding rows_verdict ◌found-if◌else◌ answer_after
+unfolding rows_verdict ◌found_if◌else◌ answer_after
 rows_after tower table after = go (wrong_start tower table)
   where
     go : (b : Bool)

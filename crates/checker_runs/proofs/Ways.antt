@@ -28,7 +28,7 @@ use Rattle.reading.specs.BookReading.{read_book}
 use Rattle.reading.specs.TableReading.{read_table, table_of}
 use Rattle.reading.proofs.FitInput.{laid_out_read}
 use Rattle.outcome.specs.ReadBook.{book_answer}
-use Rattle.outcome.specs.Check.{Finding, good_table, not_good, ◌found-if◌else◌, judge_row, judge_rows, rows_judged, over_items, judge, verdict, checked_file}
+use Rattle.outcome.specs.Check.{Finding, good_table, not_good, ◌found_if◌else◌, judge_row, judge_rows, rows_judged, over_items, judge, verdict, checked_file}
 use Rattle.file_tower.specs.TowerRead.{tower_read}
 use Rattle.file_tower.specs.declared.TowerRead.{TowerRead}
 use Rattle.file_tower.specs.declared.TowerRead.TheVariants as Fits
@@ -187,7 +187,7 @@ module _ (tower table nodes graph : List ℕ) where
   runs_say : (found : Found) (r : Examined) → FoundExamined graph (tower_of tower).actions found r
       → Explored found (walked tower table true) nodes graph → (h : IsHeld nodes)
       → verdict_of r ≡ verdict (runs_answer (tower_of tower) h.book (table_of table))
-  unfolding runs_answer over_items verdict ◌if◌else◌ ◌found-if◌else◌ rows_tower
+  unfolding runs_answer over_items verdict ◌if◌else◌ ◌found_if◌else◌ rows_tower
   runs_say _ _ too_many explored h = let many = said TooMany explored h in sym (rw many)
   runs_say _ _ too_wide explored h = let narrow = said TooWide explored h in sym (rw (narrow.0, narrow.1))
   runs_say _ _ (first_broken n i a first) explored h =
@@ -225,7 +225,7 @@ checked_is tower book table = refl
 -- A chain of other reasons does not end with e, if what is behind it does not,
 not_e_on : (q : Reason) (b : Bool) (o : Answer Finding) → (q ≡ Why.Broken → ⊥) → (o ≡ give (not_good Why.Broken) → ⊥)
     → (q found_if b else o) ≡ give (not_good Why.Broken) → ⊥
-unfolding ◌found-if◌else◌
+unfolding ◌found_if◌else◌
 not_e_on q true o other behind e = let same : q ≡ Why.Broken = cc in other same
 not_e_on q false o other behind e = behind e
 

@@ -12,7 +12,7 @@ use Rattle.logic.specs.Tables.{Table, rows_tower}
 use Rattle.reading.specs.BookReading.{read_book}
 use Rattle.reading.specs.TableReading.{read_table, table_of}
 use Rattle.alternatives.specs.Pairs.{over_alternatives}
-use Rattle.outcome.specs.Check.{Finding, good_table, ◌found-if◌else◌, over_items, some_broken, judge, verdict, checked_file}
+use Rattle.outcome.specs.Check.{Finding, good_table, ◌found_if◌else◌, over_items, some_broken, judge, verdict, checked_file}
 use Rattle.book_progression.specs.NodeBytes.{IsHeld}
 use Rattle.pair_graph.specs.Steps.{HoldsGraph}
 use Rattle.pair_search.specs.Explored.{HoldsPairs}

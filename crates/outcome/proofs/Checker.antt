@@ -17,7 +17,7 @@ use Rattle.logic.specs.Tables.{Table, rows_tower, NoneBroken, Good}
 use Rattle.logic.proofs.Canonical.{FollowsRuns}
 use Rattle.alternatives.specs.Pairs.{most_pairs, over_alternatives}
 use Rattle.alternatives.proofs.Theorems.{tried_unbroken}
-use Rattle.outcome.specs.Check.{Finding, good_table, not_good, ◌found-if◌else◌, rows_judged, judge, over_items, some_broken}
+use Rattle.outcome.specs.Check.{Finding, good_table, not_good, ◌found_if◌else◌, rows_judged, judge, over_items, some_broken}
 use Rattle.outcome.specs.Reached.{ReachedItem, MoreThan, GivesOver}
 use Rattle.outcome.specs.VerdictRight.{Judgeable, RightBelow, FirstOfRows, FirstReason, by_rows, too_many, too_wide, reason_e, good}
 use Rattle.outcome.proofs.RowReasons.{found_on, found_here, rows_decided, rows_say, rows_pass}

@@ -36,7 +36,7 @@ use Rattle.alternatives.specs.Least.{without, placed, with_one_more, with_more, 
 use Rattle.alternatives.specs.Alternatives.{first_cell, later_cells, no_more_ticks, no_more_cell, asks_no_more, cell_number, earlier, set_of, both_cells, both, together, most_alternatives, counted, combined, joined_with}
 use Rattle.alternatives.specs.Progression.{nothing_pending, alone_pending, if_so, alternatives_of, combined_nodes, combined_rule, combined_rules, alternatives_behind, joined_behind, progressed_set, first_set}
 use Rattle.outcome.specs.Areas.{check_areas, make_areas}
-use Rattle.outcome.specs.Check.{not_good, ◌found-if◌else◌, wrong_start, withheld, wrong_step, stopped, judge_row, judge_rows, over_items, broken_step, breaks, some_broken, judge, checked_file, verdict, check_outcome}
+use Rattle.outcome.specs.Check.{not_good, ◌found_if◌else◌, wrong_start, withheld, wrong_step, stopped, judge_row, judge_rows, over_items, broken_step, breaks, some_broken, judge, checked_file, verdict, check_outcome}
 use Rattle.outcome.specs.Game.{forced_right, can_go, fine, safe_through, last_removal, safe, safe_step}
 use Rattle.outcome.specs.Make.{table_for, made_file, fitting, written, make_outcome}
 use Rattle.alternatives.specs.Pairs.{same_pair, pair_weight, most_pairs, first_pair, alternatives_by, pair_at, tried_step, is_over, over_full, pair_step, pair_followers, pairs, over_pairs, over_alternatives}
@@ -48,7 +48,7 @@ file_for book = made_file small_tower (ascii book)
 
 -- every definition on the way from bytes to bytes, opened
 unfoldable pub opened : Answer (List ℕ)
-unfolding small_tower bind refusal_said reason_said make_said verdict_said ◌if◌else◌ ◌then◌ number_at number_bytes every some_of count_from below present total is_there there_with only_if same_option same_list place_of joined leading begins to_depth run new_ones search_on search_from rest_round ascii compares within timed timed_right parts size nodes second_part first_part most_rows rows_at row_size step_size steps_at all_steps step_bytes row_bytes header_bytes table_file row_at step_to move rows_tower minus at_most same_ticks longer shorter controllable goes_on last_kind most_actions most_marks in_range narrow layout_of states_of start_of actions_offset states_offset states_at state_size state_at length_of kind_of mask_of target_of not_enabled bit no_header bad_counts bad_size bad_actions bad_targets bad_masks tower_of most_bytes most_nodes most_brackets most_ticks ended worded line_at over_number over_mark over_limit judge_line lines_step read_lines read_book connectives connective usual_bound onward behind bounded compared_with number_or_usual bound_at formula_one formula_two joining bracketed two_parts with_bound led marked_unit unit_at read_level read_step rank calls_left formula_at table_layout row_place row_state row_count row_first step_place step_action step_target header_right steps_right rows_right laid_out step_of row_of_table table_of read_table stands skip is_digit digits value numeral number_token mark_named mark_at mark_token with_equals comparison_token read_tower same_pending holds fresh merge coming put root none_pending begin_rule begin_rules first_pending without placed with_one_more with_more least first_cell later_cells no_more_ticks no_more_cell asks_no_more cell_number earlier set_of both_cells both together most_alternatives counted combined joined_with nothing_pending alone_pending if_so alternatives_of combined_nodes combined_rule combined_rules alternatives_behind joined_behind progressed_set first_set ◌found-if◌else◌ wrong_start withheld wrong_step stopped judge_row judge_rows over_items broken_step breaks some_broken judge checked_file verdict forced_right can_go fine safe_through last_removal safe safe_step table_for made_file fitting same_pair pair_weight most_pairs first_pair alternatives_by pair_at tried_step is_over over_full pair_step pair_followers pairs over_pairs over_alternatives alike_for twos last_split one_row safe_followers row_pairs row_step made_row made_table
+unfolding small_tower bind refusal_said reason_said make_said verdict_said ◌if◌else◌ ◌then◌ number_at number_bytes every some_of count_from below present total is_there there_with only_if same_option same_list place_of joined leading begins to_depth run new_ones search_on search_from rest_round ascii compares within timed timed_right parts size nodes second_part first_part most_rows rows_at row_size step_size steps_at all_steps step_bytes row_bytes header_bytes table_file row_at step_to move rows_tower minus at_most same_ticks longer shorter controllable goes_on last_kind most_actions most_marks in_range narrow layout_of states_of start_of actions_offset states_offset states_at state_size state_at length_of kind_of mask_of target_of not_enabled bit no_header bad_counts bad_size bad_actions bad_targets bad_masks tower_of most_bytes most_nodes most_brackets most_ticks ended worded line_at over_number over_mark over_limit judge_line lines_step read_lines read_book connectives connective usual_bound onward behind bounded compared_with number_or_usual bound_at formula_one formula_two joining bracketed two_parts with_bound led marked_unit unit_at read_level read_step rank calls_left formula_at table_layout row_place row_state row_count row_first step_place step_action step_target header_right steps_right rows_right laid_out step_of row_of_table table_of read_table stands skip is_digit digits value numeral number_token mark_named mark_at mark_token with_equals comparison_token read_tower same_pending holds fresh merge coming put root none_pending begin_rule begin_rules first_pending without placed with_one_more with_more least first_cell later_cells no_more_ticks no_more_cell asks_no_more cell_number earlier set_of both_cells both together most_alternatives counted combined joined_with nothing_pending alone_pending if_so alternatives_of combined_nodes combined_rule combined_rules alternatives_behind joined_behind progressed_set first_set ◌found_if◌else◌ wrong_start withheld wrong_step stopped judge_row judge_rows over_items broken_step breaks some_broken judge checked_file verdict forced_right can_go fine safe_through last_removal safe safe_step table_for made_file fitting same_pair pair_weight most_pairs first_pair alternatives_by pair_at tried_step is_over over_full pair_step pair_followers pairs over_pairs over_alternatives alike_for twos last_split one_row safe_followers row_pairs row_step made_row made_table
 opened = refuse NoTable
 
 pub file_1 : file_for book_1 ≡ give table_1

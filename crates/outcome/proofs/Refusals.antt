@@ -35,7 +35,7 @@ use Rattle.outcome.specs.Game.{safe}
 use Rattle.outcome.specs.Rows.{made_table}
 use Rattle.outcome.specs.ReadBook.{book_answer, book_under, read_outcome}
 use Rattle.outcome.specs.Make.{table_for, made_file, fitting, written, make_outcome}
-use Rattle.outcome.specs.Check.{Finding, good_table, not_good, ◌found-if◌else◌, judge_row, judge_rows, rows_judged, judge, checked_file, verdict, check_outcome}
+use Rattle.outcome.specs.Check.{Finding, good_table, not_good, ◌found_if◌else◌, judge_row, judge_rows, rows_judged, judge, checked_file, verdict, check_outcome}
 use Rattle.outcome.specs.Follow.{stepped, row_after, follow_answer, follow_outcome}
 use Rattle.outcome.specs.Log.{LogFinding, wrong_table, comes_to, log_after, logged_file, log_answer, log_outcome}
 use Rattle.outcome.specs.declared.Course.TheVariants.{Fits, Fails}
@@ -138,7 +138,7 @@ module _ (P : Refusal → Type 0) where
 
   -- the checker: 11, 20
   found_only : (q : Reason) (b : Bool) (o : Answer Finding) → Only P o → Only P (q found_if b else o)
-  unfolding ◌found-if◌else◌
+  unfolding ◌found_if◌else◌
   found_only q true o rest = give_only (not_good q)
   found_only q false o rest = rest
 

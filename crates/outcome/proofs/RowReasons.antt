@@ -15,17 +15,17 @@ use Rattle.base.specs.declared.Reason.TheVariants as Why
 use Rattle.logic.specs.Tower.{Tower, Listed}
 use Rattle.logic.specs.Tables.{Table, row_at, IsTable, GoodStart}
 use Rattle.logic.proofs.Canonical.{below_suc}
-use Rattle.outcome.specs.Check.{Finding, not_good, ◌found-if◌else◌, wrong_start, withheld, wrong_step, stopped, judge_row, judge_rows, rows_judged}
+use Rattle.outcome.specs.Check.{Finding, not_good, ◌found_if◌else◌, wrong_start, withheld, wrong_step, stopped, judge_row, judge_rows, rows_judged}
 use Rattle.outcome.specs.VerdictRight.{RowRight, RightBelow, FirstOfRows, reason_a, reason_b, reason_c, reason_d}
 use Rattle.outcome.proofs.Reasons.{start_right, none_withheld, steps_right, goes_right}
 
 -- a chain goes on where its test fails, and ends with its reason where the test holds
 pub found_on : (q : Reason) {b : Bool} (o : Answer Finding) → b ≡ false → (q found_if b else o) ≡ o
-unfolding ◌found-if◌else◌
+unfolding ◌found_if◌else◌
 found_on q o e = rw e
 
 pub found_here : (q : Reason) {b : Bool} (o : Answer Finding) → b ≡ true → (q found_if b else o) ≡ give (not_good q)
-unfolding ◌found-if◌else◌
+unfolding ◌found_if◌else◌
 found_here q o e = rw e
 
 module _ (tower : Tower) (table : Table) (listed : Listed tower) (is_table : IsTable table) where

@@ -24,10 +24,10 @@ pub data Finding : Type 0 where
   good_table : Finding
   not_good : Reason → Finding
 
-infixr 10 ◌found-if◌else◌
+infixr 10 ◌found_if◌else◌
 -- 'q found_if b else o': reason q is found if b holds, and else o
-unfoldable pub ◌found-if◌else◌ : Reason → Bool → Answer Finding → Answer Finding
-◌found-if◌else◌ q b o = pick b (λ _. give (not_good q)) (λ _. o)
+unfoldable pub ◌found_if◌else◌ : Reason → Bool → Answer Finding → Answer Finding
+◌found_if◌else◌ q b o = pick b (λ _. give (not_good q)) (λ _. o)
 
 -- ---- reasons a to d
 
