@@ -15,10 +15,7 @@ pub read_lines-book-requires : goal.read_lines-book-requires
 read_lines-book-requires c = (search rules, search (rules, marks_few, fit_of))
 
 pub make_table-requires : goal.make_table-requires
-make_table-requires c = let read = c.read_lines-book in
-    let marked = c.marks.ensures in
-    let fit = fit_of _ _ c.read_tower-read.ensures (search c.in_default) in
-    (record { fit = fit; held = search (is_held, marks_few _ _ fit marked, read.ensures, read.auto.1.1.0, c.enum_told-in-Read-1.given.1, c.requires.lent.nodes_room) }, search rules)
+make_table-requires c = let read = c.read_lines-book in let marked = c.marks.ensures in let fit = fit_of _ _ c.read_tower-read.ensures (search c.in_default) in record { tower_with_book = record { fit = fit; held = search (is_held, marks_few _ _ fit marked, read.ensures, read.auto.area, c.in-Read.is, c.requires.lent.nodes_room) }; room = search rules }
 
 pub returns-in-Refused-book : goal.returns-in-Refused-book
 returns-in-Refused-book c = let fit = fit_of _ _ c.read_tower-read.ensures (search c.in_default) in
@@ -29,4 +26,4 @@ returns-in-Read c = let read = c.read_lines-book in
     let marked = c.marks.ensures in
     let fit = fit_of _ _ c.read_tower-read.ensures (search c.in_default) in
     book_good _ _ _ _ _ fit marked _ _ c.make_table.ensures
-    (search (book_held, marks_few _ _ fit marked, read.ensures, read.auto.1.1.0, c.enum_told-in-Read-1.given.1, c.requires.lent.nodes_room))
+    (search (book_held, marks_few _ _ fit marked, read.ensures, read.auto.area, c.in-Read.is, c.requires.lent.nodes_room))

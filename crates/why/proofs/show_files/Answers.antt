@@ -4,7 +4,7 @@ use Rattle.why.proofs.Ways.{files_good, files_wrong, files_refused, files_told, 
 use Rattle.why.proofs.show_files.Goals as goal
 
 pub show_run-requires : goal.show_run-requires
-show_run-requires c = (files_told _ _ _ _ _ _ _ _ _ c.examine.ensures (search rules), (search rules, (search rules, search rules)))
+show_run-requires c = record { told_broken_some = files_told _ _ _ _ _ _ _ _ _ c.examine.ensures (search rules); pairs_area_in_bounds = search rules; index_area_in_bounds = search rules; room_area_in_bounds = search rules }
 
 pub returns-in-Good : goal.returns-in-Good
 returns-in-Good c = search (rules, files_good)

@@ -1,8 +1,0 @@
--- `succoryvise::succoryvise_read_book_v2` meets its contract.
-use borrow.Author.Rules.{rules}
-use Rattle.succoryvise.proofs.Laws.{book_by}
-use Rattle.succoryvise.proofs.succoryvise_read_book_v2.Statement.{statement}
-use Rattle.succoryvise.proofs.succoryvise_read_book_v2.Tie as tie
-
-pub succoryvise-read-book-v2-spec : {M : Type 1} → statement M
-succoryvise-read-book-v2-spec = tie.close (tie.spec (λ c κs. search rules) (λ c κs. search rules) (λ c. search rules) (λ c. search book_by))
