@@ -197,11 +197,11 @@ int unlink(const char *path) {
     return status;
 }
 
-int stat(const char *path, struct stat *about) {
+int statx(int from, const char *restrict path, int flags, unsigned mask, struct statx *restrict about) {
     bool here = hindered("stat");
     if (fails(here, EIO))
         return -1;
-    int status = REAL(stat)(path, about);
+    int status = REAL(statx)(from, path, flags, mask, about);
     after(here);
     return status;
 }

@@ -7,9 +7,13 @@ ghost use Rattle.outcome.specs.Check.{verdict, checked_file};
 
 use base::Verdict;
 use program_files::Contents;
+use std::env::Env;
+use std::fs::Files;
+use std::io::{Eprint, Print};
 
 // Prints the answer.
-fn tell(
+fn tell<R: Print + Eprint>(
+    rt: &R,
     answer: Verdict,
     tower: &[u8],
     book: &[u8],
@@ -20,13 +24,13 @@ fn tell(
 ) {
     match answer {
         Verdict::Good => {
-            program_files::print(b"good\n");
+            program_files::print(rt, b"good\n");
         }
         Verdict::NotGood(reason) => {
-            words_refusal::not_good(reason, table, tower_bytes, table_bytes);
+            words_refusal::not_good(rt, reason, table, tower_bytes, table_bytes);
         }
         Verdict::Refused(why) => {
-            words_refusal::refuse(why, tower, book, table, tower_bytes, text, table_bytes);
+            words_refusal::refuse(rt, why, tower, book, table, tower_bytes, text, table_bytes);
         }
     }
 }
@@ -48,58 +52,62 @@ fn check(tower: &[u8], text: &[u8], table: &[u8]) -> Verdict
 
 // Reads the table and checks it. In each area there is room for one byte more than the longest file
 // that is fit, so that a longer one is refused for its length.
-fn check_from(tower_bytes: &[u8], text: &[u8], tower: &[u8], book: &[u8], table: &[u8]) {
+fn check_from<R: Files + Print + Eprint>(
+    rt: &R,
+    tower_bytes: &[u8],
+    text: &[u8],
+    tower: &[u8],
+    book: &[u8],
+    table: &[u8],
+) {
     let mut table_bytes = [0u8; program_limits::TABLE];
-    let Contents::Bytes(n) = program_files::read_file(table, &mut table_bytes) else {
+    let Contents::Bytes(n) = program_files::read_file(rt, table, &mut table_bytes) else {
         return;
     };
     let bytes = &table_bytes[..n];
     let answer = check(tower_bytes, text, bytes);
-    tell(answer, tower, book, table, tower_bytes, text, bytes);
+    tell(rt, answer, tower, book, table, tower_bytes, text, bytes);
 }
 
 // Reads the tower and the book first.
-fn run(tower: &[u8], book: &[u8], table: &[u8]) {
+fn run<R: Files + Print + Eprint>(rt: &R, tower: &[u8], book: &[u8], table: &[u8]) {
     let mut tower_bytes = [0u8; program_limits::TOWER];
-    let Contents::Bytes(t) = program_files::read_file(tower, &mut tower_bytes) else {
+    let Contents::Bytes(t) = program_files::read_file(rt, tower, &mut tower_bytes) else {
         return;
     };
     let mut text = [0u8; program_limits::BOOK];
-    let Contents::Bytes(b) = program_files::read_file(book, &mut text) else {
+    let Contents::Bytes(b) = program_files::read_file(rt, book, &mut text) else {
         return;
     };
-    check_from(&tower_bytes[..t], &text[..b], tower, book, table);
+    check_from(rt, &tower_bytes[..t], &text[..b], tower, book, table);
 }
 
 // The names are the arguments.
-fn run_named() {
+fn run_named<R: Env + Files + Print + Eprint>(rt: &R) {
     let mut tower = [0u8; 4096];
-    let Contents::Bytes(t) = program_files::argument(1, b"TOWER", &mut tower) else {
+    let Contents::Bytes(t) = program_files::argument(rt, 1, b"TOWER", &mut tower) else {
         return;
     };
     let mut book = [0u8; 4096];
-    let Contents::Bytes(b) = program_files::argument(2, b"BOOK", &mut book) else {
+    let Contents::Bytes(b) = program_files::argument(rt, 2, b"BOOK", &mut book) else {
         return;
     };
     let mut table = [0u8; 4096];
-    let Contents::Bytes(n) = program_files::argument(3, b"TABLE", &mut table) else {
+    let Contents::Bytes(n) = program_files::argument(rt, 3, b"TABLE", &mut table) else {
         return;
     };
-    run(&tower[..t], &book[..b], &table[..n]);
+    run(rt, &tower[..t], &book[..b], &table[..n]);
 }
 
-fn main() {
-    let count = os::arg_count();
+fn main(rt: HostRuntime) {
+    let count = program_files::argument_count(&rt);
     if count == 1 {
-        run(b"tower.bin", b"book.txt", b"table.bin");
+        run(&rt, b"tower.bin", b"book.txt", b"table.bin");
         return;
     }
     if count == 4 {
-        run_named();
+        run_named(&rt);
         return;
     }
-    io::write_all(
-        libc::STDERR_FILENO,
-        b"usage: check_table [TOWER BOOK TABLE]\n",
-    );
+    program_saying::say(&rt, b"usage: check_table [TOWER BOOK TABLE]\n");
 }

@@ -34,7 +34,6 @@ use Rattle.outcome.specs.declared.Due.{Due}
 use Rattle.outcome.specs.declared.Due.TheVariants.{Free, At}
 use Rattle.outcome.specs.declared.LogPlace.{LogPlace}
 use Rattle.outcome.specs.declared.Course.{Course}
-use Rattle.outcome.specs.declared.Course.TheVariants as Course
 use Rattle.file_table.specs.Moves.{target_read}
 use Rattle.file_table.specs.declared.Target.{Target}
 use Rattle.file_table.specs.declared.Target.TheVariants.{Row, Nothing}

@@ -9,37 +9,41 @@ ghost use Rattle.make_table.specs.Files.{MadeFile};
 
 use base::{MakeAnswer, Refusal};
 use program_files::Contents;
+use std::env::Env;
+use std::fs::Files;
+use std::io::{Eprint, Print};
+use std::random::RandomSource;
 
 // The bytes of the longest table.
 const LONGEST_TABLE: usize = 52012;
 
 // Prints the listing's first line.
-fn print_head(table: &[u8]) -> bool
+fn print_head<R: Print + Eprint>(rt: &R, table: &[u8]) -> bool
     requires { laid_out table.now ≡ true }
 {
     let mut line = [0u8; 4096];
     let n = program_listing::head(file_table::rows(table), file_table::steps(table), &mut line);
-    program_files::print(&line[..n])
+    program_files::print(rt, &line[..n])
 }
 
 // Prints a row.
-fn print_row(table: &[u8], row: usize) -> bool
+fn print_row<R: Print + Eprint>(rt: &R, table: &[u8], row: usize) -> bool
     requires table_value { laid_out table.now ≡ true }
     requires row_bound { row < rows_of table.now }
 {
     let mut line = [0u8; 4096];
     let n = program_listing::row(table, row, &mut line);
-    program_files::print(&line[..n])
+    program_files::print(rt, &line[..n])
 }
 
 // Prints the rows one after the other.
-fn print_rows(table: &[u8]) -> bool
+fn print_rows<R: Print + Eprint>(rt: &R, table: &[u8]) -> bool
     requires { laid_out table.now ≡ true }
 {
     let rows = file_table::rows(table);
     let mut row = 0;
     while row < rows {
-        if !print_row(table, row) {
+        if !print_row(rt, table, row) {
             return false;
         }
         row += 1;
@@ -48,13 +52,13 @@ fn print_rows(table: &[u8]) -> bool
 }
 
 // Prints the listing of a table.
-fn print_listing(table: &[u8]) -> bool
+fn print_listing<R: Print + Eprint>(rt: &R, table: &[u8]) -> bool
     requires { laid_out table.now ≡ true }
 {
-    if !print_head(table) {
+    if !print_head(rt, table) {
         return false;
     }
-    print_rows(table)
+    print_rows(rt, table)
 }
 
 // The answer, with work areas (docs/WORK-AREAS.md).
@@ -93,47 +97,48 @@ fn no_file(table: &[u8]) -> bool {
 }
 
 // Says that no table was written, where one was to be.
-fn unchanged(table: &[u8]) {
+fn unchanged<R: Eprint>(rt: &R, table: &[u8]) {
     if !no_file(table) {
-        program_files::unchanged(table);
+        program_files::unchanged(rt, table);
     }
 }
 
 // Whether the table may be written under its name; says why not.
-fn may_write(tower: &[u8], book: &[u8], table: &[u8]) -> bool {
+fn may_write<R: Files + Eprint>(rt: &R, tower: &[u8], book: &[u8], table: &[u8]) -> bool {
     if no_file(table) {
         return true;
     }
-    program_target::allowed(table, tower, book)
+    program_target::allowed(rt, table, tower, book)
 }
 
 // Writes the table to its file, if it has one.
-fn save(table: &[u8], bytes: &[u8]) -> bool {
+fn save<R: Files + RandomSource + Eprint>(rt: &R, table: &[u8], bytes: &[u8]) -> bool {
     if no_file(table) {
         return true;
     }
-    program_files::save(table, bytes)
+    program_files::save(rt, table, bytes)
 }
 
 // Says what is worth knowing of a table that was made: the pairs, and the actions that no row allows.
-fn say_notes(name: &[u8], bytes: &[u8], tower_bytes: &[u8], text: &[u8]) {
-    words_notes::pairs(name, pair_count::pairs(tower_bytes, text));
-    words_notes::unused(name, bytes);
+fn say_notes<R: Eprint>(rt: &R, name: &[u8], bytes: &[u8], tower_bytes: &[u8], text: &[u8]) {
+    words_notes::pairs(rt, name, pair_count::pairs(tower_bytes, text));
+    words_notes::unused(rt, name, bytes);
 }
 
 // The same by the name of the table, if it has one.
-fn say_of(table: &[u8], bytes: &[u8], tower_bytes: &[u8], text: &[u8]) {
+fn say_of<R: Eprint>(rt: &R, table: &[u8], bytes: &[u8], tower_bytes: &[u8], text: &[u8]) {
     if no_file(table) {
-        say_notes(b"the table", bytes, tower_bytes, text);
+        say_notes(rt, b"the table", bytes, tower_bytes, text);
         return;
     }
-    say_notes(table, bytes, tower_bytes, text);
+    say_notes(rt, table, bytes, tower_bytes, text);
 }
 
 // The listing could not be printed.
-fn not_printed(table: &[u8]) {
+fn not_printed<R: Eprint>(rt: &R, table: &[u8]) {
     if !no_file(table) {
         program_saying::in_file(
+            rt,
             table,
             b"the new table is in place; its listing is not printed whole",
         );
@@ -141,17 +146,23 @@ fn not_printed(table: &[u8]) {
 }
 
 // Writes the table to its file, then prints its listing and says what is worth knowing.
-fn finish(bytes: &[u8], table: &[u8], tower_bytes: &[u8], text: &[u8])
+fn finish<R: Files + RandomSource + Print + Eprint>(
+    rt: &R,
+    bytes: &[u8],
+    table: &[u8],
+    tower_bytes: &[u8],
+    text: &[u8],
+)
     requires { laid_out bytes.now ≡ true }
 {
-    if !save(table, bytes) {
+    if !save(rt, table, bytes) {
         return;
     }
-    if !print_listing(bytes) {
-        not_printed(table);
+    if !print_listing(rt, bytes) {
+        not_printed(rt, table);
         return;
     }
-    say_of(table, bytes, tower_bytes, text);
+    say_of(rt, table, bytes, tower_bytes, text);
 }
 
 // No table is good for the tower under a book without a rule: a dead end of the tower itself.
@@ -190,7 +201,8 @@ fn is_no_table(why: Refusal) -> bool {
 
 // Says why there is no good table. Where the tower alone has none, the rules are not to blame; else they
 // leave only the player to go on, or cannot be kept.
-fn refuse_none(
+fn refuse_none<R: Print + Eprint>(
+    rt: &R,
     why: Refusal,
     tower: &[u8],
     book: &[u8],
@@ -199,95 +211,112 @@ fn refuse_none(
     text: &[u8],
 ) {
     if dead_end(tower_bytes) {
-        words_refusal::refuse_tower(why, tower, tower_bytes);
+        words_refusal::refuse_tower(rt, why, tower, tower_bytes);
         return;
     }
     let state = waiting_state(tower_bytes, text);
     if state < NONE {
-        words_refusal::refuse_waiting(why, book, state);
+        words_refusal::refuse_waiting(rt, why, book, state);
         return;
     }
-    words_refusal::refuse(why, tower, book, table, tower_bytes, text, b"");
+    words_refusal::refuse(rt, why, tower, book, table, tower_bytes, text, b"");
 }
 
 // Says why the tower or the rules are refused.
-fn refuse(why: Refusal, tower: &[u8], book: &[u8], table: &[u8], tower_bytes: &[u8], text: &[u8]) {
+fn refuse<R: Print + Eprint>(
+    rt: &R,
+    why: Refusal,
+    tower: &[u8],
+    book: &[u8],
+    table: &[u8],
+    tower_bytes: &[u8],
+    text: &[u8],
+) {
     if is_no_table(why) {
-        refuse_none(why, tower, book, table, tower_bytes, text);
+        refuse_none(rt, why, tower, book, table, tower_bytes, text);
         return;
     }
-    words_refusal::refuse(why, tower, book, table, tower_bytes, text, b"");
+    words_refusal::refuse(rt, why, tower, book, table, tower_bytes, text, b"");
 }
 
 // Makes the table; where it is made, writes it to its file and then prints its listing.
-fn make_from(tower_bytes: &[u8], text: &[u8], tower: &[u8], book: &[u8], table: &[u8]) {
+fn make_from<R: Files + RandomSource + Print + Eprint>(
+    rt: &R,
+    tower_bytes: &[u8],
+    text: &[u8],
+    tower: &[u8],
+    book: &[u8],
+    table: &[u8],
+) {
     let mut out = [0u8; LONGEST_TABLE];
     match make(tower_bytes, text, &mut out) {
         MakeAnswer::Made(n) => {
-            finish(&out[..n], table, tower_bytes, text);
+            finish(rt, &out[..n], table, tower_bytes, text);
         }
         MakeAnswer::Refused(why) => {
-            refuse(why, tower, book, table, tower_bytes, text);
-            unchanged(table);
+            refuse(rt, why, tower, book, table, tower_bytes, text);
+            unchanged(rt, table);
         }
     }
 }
 
 // Reads the files and makes the table; false if a file cannot be read. Each area has room for one byte
 // more than the longest file that is fit, so that a longer one is refused for its length.
-fn run_files(tower: &[u8], book: &[u8], table: &[u8]) -> bool {
+fn run_files<R: Files + RandomSource + Print + Eprint>(
+    rt: &R,
+    tower: &[u8],
+    book: &[u8],
+    table: &[u8],
+) -> bool {
     let mut tower_bytes = [0u8; program_limits::TOWER];
-    let Contents::Bytes(t) = program_files::read_file(tower, &mut tower_bytes) else {
+    let Contents::Bytes(t) = program_files::read_file(rt, tower, &mut tower_bytes) else {
         return false;
     };
     let mut text = [0u8; program_limits::BOOK];
-    let Contents::Bytes(b) = program_files::read_file(book, &mut text) else {
+    let Contents::Bytes(b) = program_files::read_file(rt, book, &mut text) else {
         return false;
     };
-    make_from(&tower_bytes[..t], &text[..b], tower, book, table);
+    make_from(rt, &tower_bytes[..t], &text[..b], tower, book, table);
     true
 }
 
 // Looks first at what the table's name leads to.
-fn run(tower: &[u8], book: &[u8], table: &[u8]) {
-    if !may_write(tower, book, table) {
-        unchanged(table);
+fn run<R: Files + RandomSource + Print + Eprint>(rt: &R, tower: &[u8], book: &[u8], table: &[u8]) {
+    if !may_write(rt, tower, book, table) {
+        unchanged(rt, table);
         return;
     }
-    if !run_files(tower, book, table) {
-        unchanged(table);
+    if !run_files(rt, tower, book, table) {
+        unchanged(rt, table);
     }
 }
 
 // The names are the arguments.
-fn run_named() {
+fn run_named<R: Env + Files + RandomSource + Print + Eprint>(rt: &R) {
     let mut tower = [0u8; 4096];
-    let Contents::Bytes(t) = program_files::argument(1, b"TOWER", &mut tower) else {
+    let Contents::Bytes(t) = program_files::argument(rt, 1, b"TOWER", &mut tower) else {
         return;
     };
     let mut book = [0u8; 4096];
-    let Contents::Bytes(b) = program_files::argument(2, b"BOOK", &mut book) else {
+    let Contents::Bytes(b) = program_files::argument(rt, 2, b"BOOK", &mut book) else {
         return;
     };
     let mut table = [0u8; 4096];
-    let Contents::Bytes(n) = program_files::argument(3, b"TABLE", &mut table) else {
+    let Contents::Bytes(n) = program_files::argument(rt, 3, b"TABLE", &mut table) else {
         return;
     };
-    run(&tower[..t], &book[..b], &table[..n]);
+    run(rt, &tower[..t], &book[..b], &table[..n]);
 }
 
-fn main() {
-    let count = os::arg_count();
+fn main(rt: HostRuntime) {
+    let count = program_files::argument_count(&rt);
     if count == 1 {
-        run(b"tower.bin", b"book.txt", b"table.bin");
+        run(&rt, b"tower.bin", b"book.txt", b"table.bin");
         return;
     }
     if count == 4 {
-        run_named();
+        run_named(&rt);
         return;
     }
-    io::write_all(
-        libc::STDERR_FILENO,
-        b"usage: make_table [TOWER BOOK TABLE]\n",
-    );
+    program_saying::say(&rt, b"usage: make_table [TOWER BOOK TABLE]\n");
 }

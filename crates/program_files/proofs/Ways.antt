@@ -6,95 +6,12 @@ use native.Mathlib.Omega.{arith}
 use native.Mathlib.Decide.{dec_lt}
 use lib.ListN.{length, get_or, take}
 use lib.Seq.{length-take-le}
-use Rattle.io.specs.Counts as Io
 use Rattle.base.specs.Text.{byte, ascii}
 use Rattle.base.specs.Bytes.{number_at}
 use Rattle.program_texts.specs.Decimal.{decimal}
 use Rattle.program_texts.specs.Putting.{Puts, PrintedLine}
 use Rattle.program_texts.proofs.Fitting.{more, last, line_cut}
-use Rattle.program_files.specs.declared.reading.Contents.{Contents}
-use Rattle.program_files.specs.declared.reading.Contents.TheVariants as Contents
-use Rattle.program_files.specs.declared.reading.Progress.{Progress}
-use Rattle.program_files.specs.declared.reading.Progress.TheVariants as Progress
-use Rattle.program_files.specs.declared.writing.Written.{Written}
-use Rattle.program_files.specs.declared.writing.Written.TheVariants as Written
-use Rattle.program_files.specs.Counts.{Counts, HoldsContents, Goes, WritesBytes}
 use Rattle.program_files.specs.Names.{temporary_name, FolderEnd}
-
--- ---- reading
-
-pub goes_on : (n most : ℕ) → n ≤ most → Goes (Progress.On n) most
-goes_on n most l = record { within = λ m e. go m e }
-  where
-    back : Progress → ℕ
-    back (Progress.On m) = m
-    back Progress.End = 0
-    back Progress.Failed = 0
-
-    go : (m : ℕ) → Progress.On n ≡ Progress.On m → m ≤ most
-    go m e = let f : n ≡ m = ap back e in omega arith
-
-pub goes_end : (most : ℕ) → Goes Progress.End most
-goes_end most = record { within = λ m e. absurd (let z : ◌≡◌ {A = ℕ} 0 1 = cc in omega arith) }
-
-pub goes_failed : (most : ℕ) → Goes Progress.Failed most
-goes_failed most = record { within = λ m e. absurd (let z : ◌≡◌ {A = ℕ} 0 1 = cc in omega arith) }
-
--- The bytes read so far are inside the area.
-pub record FileReadSoFar (area₀ area : List ℕ) (done : ℕ) : Type 0 where
-  pub within : done ≤ length area
-  pub same_length : length area ≡ length area₀
-
-pub read_held : (area : List ℕ) (held : ℕ) → held ≤ length area → FileReadSoFar area area held
-read_held area held l = record { within = l; same_length = refl }
-
-pub read_more : (area₀ area after : List ℕ) (done n : ℕ) (p : Progress) → FileReadSoFar area₀ area done → p ≡ Progress.On n → Goes p (length area)
-    → length after ≡ length area → FileReadSoFar area₀ after n
-read_more area₀ area after done n p s e g l = record { within = omega (arith, g.within n e); same_length = l ∙ s.same_length }
-
-holds_bytes : (n : ℕ) (area : List ℕ) → n ≤ length area → HoldsContents (Contents.Bytes n) area
-holds_bytes n area l = record { counts = λ m e. go m e }
-  where
-    back : Contents → ℕ
-    back (Contents.Bytes m) = m
-    back Contents.Failed = 0
-
-    go : (m : ℕ) → Contents.Bytes n ≡ Contents.Bytes m → Counts m area
-    go m e =
-        let f : n ≡ m = ap back e in
-        let k : m ≤ length area = omega arith in
-        record { within = k; taken = sym (length-take-le m area k) }
-
-pub read_ended : (area₀ area after : List ℕ) (done : ℕ) → FileReadSoFar area₀ area done → length after ≡ length area
-    → HoldsContents (Contents.Bytes done) after
-read_ended area₀ area after done s e = holds_bytes done after (omega (arith, s.within))
-
-pub read_full : (area₀ area : List ℕ) (done : ℕ) → FileReadSoFar area₀ area done → HoldsContents (Contents.Bytes done) area
-read_full area₀ area done s = holds_bytes done area s.within
-
-pub argument_read : (n : ℕ) (area : List ℕ) → Io.IsPrefixLen n area → HoldsContents (Contents.Bytes n) area
-argument_read n area c = holds_bytes n area c.0
-
-pub holds_nothing : (area : List ℕ) → HoldsContents Contents.Failed area
-holds_nothing area = record { counts = λ m e. absurd (let z : ◌≡◌ {A = ℕ} 0 1 = cc in omega arith) }
-
--- ---- writing
-
-pub writes_on : (n most : ℕ) → n ≤ most → WritesBytes (Written.On n) most
-writes_on n most l = record { within = λ m e. go m e }
-  where
-    back : Written → ℕ
-    back (Written.On m) = m
-    back Written.Failed = 0
-
-    go : (m : ℕ) → Written.On n ≡ Written.On m → m ≤ most
-    go m e = let f : n ≡ m = ap back e in omega arith
-
-pub writes_failed : (most : ℕ) → WritesBytes Written.Failed most
-writes_failed most = record { within = λ m e. absurd (let z : ◌≡◌ {A = ℕ} 0 1 = cc in omega arith) }
-
-pub written_within : (w : Written) (n most : ℕ) → w ≡ Written.On n → WritesBytes w most → n ≤ most
-written_within w n most e h = h.within n e
 
 -- ---- names
 
@@ -159,5 +76,3 @@ temporary_way path k o₀ o₁ o₂ o₃ o₄ n r₁ r₂ r₃ r₄ s r e q p f 
     (more r₁ r₄ 0 path ((46 ∷ []) ∷ decimal k ∷ ascii ".tmp" ∷ []) o₀ o₁ o₄ p
     (more r₂ r₄ r₁ (46 ∷ []) (decimal k ∷ ascii ".tmp" ∷ []) o₁ o₂ o₄ q
     (more r₃ r₄ r₂ (decimal k) (ascii ".tmp" ∷ []) o₂ o₃ o₄ (rw e at r) (last r₄ r₃ (ascii ".tmp") o₃ o₄ s)))))
-
--- ---- for the programs

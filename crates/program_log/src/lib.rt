@@ -12,6 +12,7 @@ use log_course::Followed;
 use logic::Position;
 use outcome::Course;
 use program_files::Contents;
+use std::io::{Eprint, Read};
 
 // The bytes of a part.
 pub const PART: usize = 65536;
@@ -24,7 +25,7 @@ const MOST_LINES: usize = 4611686018427387904;
 
 // How reading goes on behind a part: with what is left of it at its start, not at all since the answer
 // is known, or not at all since it cannot.
-#[derive(Clone, Copy)]
+#[derive(Drop)]
 pub enum Part {
     On {
         held: usize,
@@ -56,8 +57,9 @@ fn keep(part: &mut [u8], from: usize, end: usize) -> usize
 }
 
 // One part: read behind what is held, and followed.
-fn read_part(
-    fd: i32,
+fn read_part<R: Eprint, F: Read>(
+    rt: &R,
+    file: &mut F,
     path: &[u8],
     tower: &[u8],
     table: &[u8],
@@ -79,7 +81,7 @@ fn read_part(
     if MOST_LINES < line.0 {
         return Part::TooLong;
     }
-    let Contents::Bytes(bytes) = program_files::fill(fd, path, part, held) else {
+    let Contents::Bytes(bytes) = program_files::fill(rt, file, path, part, held) else {
         return Part::Failed;
     };
     let followed = log_course::follow_lines(tower, table, &part[..bytes], known, line, course);
@@ -101,8 +103,9 @@ fn read_part(
 }
 
 // All parts, with the moves that are noted on the way.
-fn read_noting(
-    fd: i32,
+fn read_noting<R: Eprint, F: Read>(
+    rt: &R,
+    file: &mut F,
     path: &[u8],
     tower: &[u8],
     table: &[u8],
@@ -120,7 +123,9 @@ fn read_noting(
     let mut turns = u64::MAX;
     while turns > 0 {
         turns -= 1;
-        let after = read_part(fd, path, tower, table, known, part, held, line, course);
+        let after = read_part(
+            rt, file, path, tower, table, known, part, held, line, course,
+        );
         match after {
             Part::On {
                 held: left,
@@ -146,11 +151,18 @@ fn read_noting(
 }
 
 // All parts. The last one stays in the area that was lent for it.
-pub fn read_parts(fd: i32, path: &[u8], tower: &[u8], table: &[u8], part: &mut [u8]) -> Part
+pub fn read_parts<R: Eprint, F: Read>(
+    rt: &R,
+    file: &mut F,
+    path: &[u8],
+    tower: &[u8],
+    table: &[u8],
+    part: &mut [u8],
+) -> Part
     requires rows_judgeable { RowsJudgeable tower.now table.now }
     requires part_len { length part.old ≡ 65536 }
     ensures { InPart result part.new }
 {
     let mut known = [0u16; log_course::MOVES];
-    read_noting(fd, path, tower, table, &mut known, part)
+    read_noting(rt, file, path, tower, table, &mut known, part)
 }

@@ -2,16 +2,35 @@
 // names of one file are told.
 #![tactic(auto)]
 
-ghost use Rattle.libc.specs.Io.{Ended};
+ghost use Rattle.std.specs.Prelude.{◌<◌};
+ghost use Rattle.program_status.specs.Paths.{Ended};
 
-// The kind of file is in the mode; 0, which is no file's, where the system answers nothing, and errno
-// then says why.
+use std::fs::{Files, Metadata};
+use std::os::unix::fs::MetadataExt;
+use std::{fs, io};
+
+// The kind of file is in the mode; 0, which is no file's, where the system answers nothing, and
+// `failure` then says why.
 #[derive(Clone, Copy)]
 pub struct Status {
     pub mode: u32,
     pub device: u64,
     pub number: u64,
+    pub failure: Option<io::Error>,
 }
+
+// The bits of a mode that say the kind of file, and the kinds that are told apart.
+const KINDS: u32 = 0o170000;
+
+pub const REGULAR: u32 = 0o100000;
+
+pub const FOLDER: u32 = 0o040000;
+
+pub const PIPE: u32 = 0o010000;
+
+pub const CHARACTER_DEVICE: u32 = 0o020000;
+
+pub const BLOCK_DEVICE: u32 = 0o060000;
 
 // The path as C takes it, as much as goes before the last byte, which is a zero.
 fn ended(path: &[u8]) -> [u8; 4096]
@@ -30,51 +49,49 @@ fn ended(path: &[u8]) -> [u8; 4096]
     out
 }
 
-fn no_time() -> libc::types::timespec {
-    libc::types::timespec {
-        tv_sec: 0,
-        tv_nsec: 0,
+// How many bytes of such a path stand before its first zero.
+fn name_length(path: &[u8; 4096]) -> usize
+    requires { Ended path.now }
+    ensures { result < 4096 }
+{
+    let mut n = 0;
+    while path[n] != 0 {
+        n += 1;
     }
+    n
+}
+
+// Asks the system. Links are followed.
+fn look<R: Files>(rt: &R, path: &[u8; 4096]) -> io::Result<Metadata>
+    requires { Ended path.now }
+{
+    let n = name_length(path);
+    let name = program_saying::file_name(&path[..n])?;
+    fs::metadata(rt, name)
 }
 
 // An answer that no file has.
-fn nothing() -> libc::types::stat {
-    libc::types::stat {
-        st_dev: 0,
-        st_ino: 0,
-        st_nlink: 0,
-        st_mode: 0,
-        st_uid: 0,
-        st_gid: 0,
-        __pad: 0,
-        st_rdev: 0,
-        st_size: 0,
-        st_blksize: 0,
-        st_blocks: 0,
-        st_atim: no_time(),
-        st_mtim: no_time(),
-        st_ctim: no_time(),
-        __unused: [0; 3],
+fn nothing(failure: io::Error) -> Status {
+    Status {
+        mode: 0,
+        device: 0,
+        number: 0,
+        failure: Some(failure),
     }
-}
-
-// Asks the system, which leaves the answer as it was where it fails. Links are followed.
-fn look(path: &[u8; 4096], mut about: libc::types::stat) -> libc::types::stat
-    requires { Ended path.now }
-{
-    libc::stat(path, &mut about);
-    about
 }
 
 // The status of the file at a path; links are followed. A path that is too long for the system is
 // left to the call that opens it.
-pub fn status_of(path: &[u8]) -> Status {
+pub fn status_of<R: Files>(rt: &R, path: &[u8]) -> Status {
     let whole = ended(path);
-    let about = look(&whole, nothing());
-    Status {
-        mode: about.st_mode,
-        device: about.st_dev,
-        number: about.st_ino,
+    match look(rt, &whole) {
+        Ok(about) => Status {
+            mode: about.mode(),
+            device: about.dev(),
+            number: about.ino(),
+            failure: None,
+        },
+        Err(failure) => nothing(failure),
     }
 }
 
@@ -91,7 +108,7 @@ pub fn same(a: Status, b: Status) -> bool {
     a.number == b.number
 }
 
-// The kind of file, a bit pattern as libc::S_IFREG.
+// The kind of file, one of those above or another.
 pub fn kind(status: Status) -> u32 {
-    status.mode & libc::S_IFMT
+    status.mode & KINDS
 }

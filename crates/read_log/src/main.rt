@@ -12,20 +12,23 @@ use log_course::Followed;
 use outcome::Course;
 use program_files::Contents;
 use program_log::Part;
+use std::env::Env;
+use std::fs::Files;
+use std::io::{Eprint, Print, Read};
 
 // Prints the answer.
-fn print(answer: LogAnswer) -> bool {
+fn print<R: Print + Eprint>(rt: &R, answer: LogAnswer) -> bool {
     let mut line = [0u8; 4096];
     let n = program_listing::log_answer(answer, &mut line);
-    program_files::print(&line[..n])
+    program_files::print(rt, &line[..n])
 }
 
 // Says what is wrong with the log, if anything is. `bytes` are those of the part that was read last.
-fn explain(followed: Followed, log: &[u8], bytes: &[u8], table_bytes: &[u8]) {
+fn explain<R: Eprint>(rt: &R, followed: Followed, log: &[u8], bytes: &[u8], table_bytes: &[u8]) {
     let next = followed.next;
     let line = followed.line;
     if next < bytes.len() {
-        words_log::form(log, line.0, bytes, next);
+        words_log::form(rt, log, line.0, bytes, next);
         return;
     }
     let course = followed.course;
@@ -35,29 +38,42 @@ fn explain(followed: Followed, log: &[u8], bytes: &[u8], table_bytes: &[u8]) {
         stroke,
     } = course
     {
-        words_log::misfit(log, first.0, place, stroke, table_bytes);
+        words_log::misfit(rt, log, first.0, place, stroke, table_bytes);
     }
 }
 
 // Prints what the log comes to, and says what is wrong with it.
-fn tell(followed: Followed, log: &[u8], bytes: &[u8], table_bytes: &[u8]) {
-    if print(log_reader::ended(followed, bytes.len())) {
-        explain(followed, log, bytes, table_bytes);
+fn tell<R: Print + Eprint>(
+    rt: &R,
+    followed: Followed,
+    log: &[u8],
+    bytes: &[u8],
+    table_bytes: &[u8],
+) {
+    if print(rt, log_reader::ended(followed, bytes.len())) {
+        explain(rt, followed, log, bytes, table_bytes);
     }
 }
 
 // Reads the log that is open, part by part, and tells what it comes to.
-fn read_open(fd: i32, log: &[u8], tower: &[u8], table: &[u8])
+fn read_open<R: Print + Eprint, F: Read>(
+    rt: &R,
+    file: &mut F,
+    log: &[u8],
+    tower: &[u8],
+    table: &[u8],
+)
     requires { RowsJudgeable tower.now table.now }
 {
     let mut part = [0u8; program_log::PART];
-    match program_log::read_parts(fd, log, tower, table, &mut part) {
+    match program_log::read_parts(rt, file, log, tower, table, &mut part) {
         Part::Over { followed, bytes } => {
-            tell(followed, log, &part[..bytes], table);
+            tell(rt, followed, log, &part[..bytes], table);
         }
         Part::Failed => {}
         _ => {
             program_saying::in_file(
+                rt,
                 log,
                 b"the log has more lines than can be counted; nothing was answered",
             );
@@ -66,8 +82,9 @@ fn read_open(fd: i32, log: &[u8], tower: &[u8], table: &[u8])
 }
 
 // Tests tower and table, and reads the log that is open.
-fn read_from(
-    fd: i32,
+fn read_from<R: Print + Eprint, F: Read>(
+    rt: &R,
+    file: &mut F,
     tower: &[u8],
     table: &[u8],
     log: &[u8],
@@ -75,9 +92,16 @@ fn read_from(
     table_bytes: &[u8],
 ) {
     match checker_files::test_files(tower_bytes, table_bytes) {
-        Tested::Sound => read_open(fd, log, tower_bytes, table_bytes),
-        Tested::NotGood(reason) => words_refusal::not_good(reason, table, tower_bytes, table_bytes),
+        Tested::Sound => read_open(rt, file, log, tower_bytes, table_bytes),
+        Tested::NotGood(reason) => words_refusal::not_good(
+            rt,
+            reason,
+            table,
+            tower_bytes,
+            table_bytes,
+        ),
         Tested::Refused(why) => words_refusal::refuse(
+            rt,
             why,
             tower,
             b"",
@@ -90,55 +114,60 @@ fn read_from(
 }
 
 // Opens the log first, so that a log that cannot be read is told before anything is answered.
-fn run_read(tower: &[u8], table: &[u8], log: &[u8], tower_bytes: &[u8], table_bytes: &[u8]) {
-    let fd = program_files::open(log);
-    if fd < 0 {
+fn run_read<R: Files + Print + Eprint>(
+    rt: &R,
+    tower: &[u8],
+    table: &[u8],
+    log: &[u8],
+    tower_bytes: &[u8],
+    table_bytes: &[u8],
+) {
+    let Some(mut file) = program_files::open(rt, log) else {
         return;
-    }
-    read_from(fd, tower, table, log, tower_bytes, table_bytes);
-    libc::close(fd);
+    };
+    read_from(rt, &mut file, tower, table, log, tower_bytes, table_bytes);
 }
 
 // Reads tower and table. In each area there is room for one byte more than the longest file that is
 // fit, so that a longer one is refused for its length.
-fn run(tower: &[u8], table: &[u8], log: &[u8]) {
+fn run<R: Files + Print + Eprint>(rt: &R, tower: &[u8], table: &[u8], log: &[u8]) {
     let mut tower_bytes = [0u8; program_limits::TOWER];
-    let Contents::Bytes(t) = program_files::read_file(tower, &mut tower_bytes) else {
+    let Contents::Bytes(t) = program_files::read_file(rt, tower, &mut tower_bytes) else {
         return;
     };
     let mut table_bytes = [0u8; program_limits::TABLE];
-    let Contents::Bytes(n) = program_files::read_file(table, &mut table_bytes) else {
+    let Contents::Bytes(n) = program_files::read_file(rt, table, &mut table_bytes) else {
         return;
     };
-    run_read(tower, table, log, &tower_bytes[..t], &table_bytes[..n]);
+    run_read(rt, tower, table, log, &tower_bytes[..t], &table_bytes[..n]);
 }
 
 // The names are the arguments.
-fn run_named() {
+fn run_named<R: Env + Files + Print + Eprint>(rt: &R) {
     let mut tower = [0u8; 4096];
-    let Contents::Bytes(t) = program_files::argument(1, b"TOWER", &mut tower) else {
+    let Contents::Bytes(t) = program_files::argument(rt, 1, b"TOWER", &mut tower) else {
         return;
     };
     let mut table = [0u8; 4096];
-    let Contents::Bytes(n) = program_files::argument(2, b"TABLE", &mut table) else {
+    let Contents::Bytes(n) = program_files::argument(rt, 2, b"TABLE", &mut table) else {
         return;
     };
     let mut log = [0u8; 4096];
-    let Contents::Bytes(l) = program_files::argument(3, b"LOG", &mut log) else {
+    let Contents::Bytes(l) = program_files::argument(rt, 3, b"LOG", &mut log) else {
         return;
     };
-    run(&tower[..t], &table[..n], &log[..l]);
+    run(rt, &tower[..t], &table[..n], &log[..l]);
 }
 
-fn main() {
-    let count = os::arg_count();
+fn main(rt: HostRuntime) {
+    let count = program_files::argument_count(&rt);
     if count == 1 {
-        run(b"tower.bin", b"table.bin", b"log.txt");
+        run(&rt, b"tower.bin", b"table.bin", b"log.txt");
         return;
     }
     if count == 4 {
-        run_named();
+        run_named(&rt);
         return;
     }
-    io::write_all(libc::STDERR_FILENO, b"usage: read_log [TOWER TABLE LOG]\n");
+    program_saying::say(&rt, b"usage: read_log [TOWER TABLE LOG]\n");
 }

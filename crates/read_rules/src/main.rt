@@ -9,19 +9,29 @@ ghost use Rattle.read_rules.specs.Rules.{rules_answer};
 use base::BookAnswer;
 use file_tower::TowerRead;
 use program_files::Contents;
+use std::env::Env;
+use std::fs::Files;
+use std::io::{Eprint, Print};
 
 // Prints the answer.
-fn tell(answer: BookAnswer, tower: &[u8], book: &[u8], tower_bytes: &[u8], text: &[u8]) {
+fn tell<R: Print + Eprint>(
+    rt: &R,
+    answer: BookAnswer,
+    tower: &[u8],
+    book: &[u8],
+    tower_bytes: &[u8],
+    text: &[u8],
+) {
     match answer {
         BookAnswer::Read { lines, nodes } => {
             let mut line = [0u8; 4096];
             let n = program_listing::sizes(lines, nodes, &mut line);
-            if program_files::print(&line[..n]) {
-                words_notes::left_out(book, text, lines);
+            if program_files::print(rt, &line[..n]) {
+                words_notes::left_out(rt, book, text, lines);
             }
         }
         BookAnswer::Refused(why) => {
-            words_refusal::refuse(why, tower, book, b"", tower_bytes, text, b"");
+            words_refusal::refuse(rt, why, tower, book, b"", tower_bytes, text, b"");
         }
     }
 }
@@ -40,47 +50,47 @@ fn read(tower: &[u8], text: &[u8]) -> BookAnswer
 }
 
 // Answers for what the files hold.
-fn answer(tower: &[u8], book: &[u8], tower_bytes: &[u8], text: &[u8]) {
+fn answer<R: Print + Eprint>(rt: &R, tower: &[u8], book: &[u8], tower_bytes: &[u8], text: &[u8]) {
     let read = read(tower_bytes, text);
-    tell(read, tower, book, tower_bytes, text);
+    tell(rt, read, tower, book, tower_bytes, text);
 }
 
 // Reads the files. Each area has room for one byte more than the longest file that is fit, so that a
 // longer one is refused for its length.
-fn run(tower: &[u8], book: &[u8]) {
+fn run<R: Files + Print + Eprint>(rt: &R, tower: &[u8], book: &[u8]) {
     let mut tower_bytes = [0u8; program_limits::TOWER];
-    let Contents::Bytes(t) = program_files::read_file(tower, &mut tower_bytes) else {
+    let Contents::Bytes(t) = program_files::read_file(rt, tower, &mut tower_bytes) else {
         return;
     };
     let mut text = [0u8; program_limits::BOOK];
-    let Contents::Bytes(b) = program_files::read_file(book, &mut text) else {
+    let Contents::Bytes(b) = program_files::read_file(rt, book, &mut text) else {
         return;
     };
-    answer(tower, book, &tower_bytes[..t], &text[..b]);
+    answer(rt, tower, book, &tower_bytes[..t], &text[..b]);
 }
 
 // The names are the arguments.
-fn run_named() {
+fn run_named<R: Env + Files + Print + Eprint>(rt: &R) {
     let mut tower = [0u8; 4096];
-    let Contents::Bytes(t) = program_files::argument(1, b"TOWER", &mut tower) else {
+    let Contents::Bytes(t) = program_files::argument(rt, 1, b"TOWER", &mut tower) else {
         return;
     };
     let mut book = [0u8; 4096];
-    let Contents::Bytes(b) = program_files::argument(2, b"BOOK", &mut book) else {
+    let Contents::Bytes(b) = program_files::argument(rt, 2, b"BOOK", &mut book) else {
         return;
     };
-    run(&tower[..t], &book[..b]);
+    run(rt, &tower[..t], &book[..b]);
 }
 
-fn main() {
-    let count = os::arg_count();
+fn main(rt: HostRuntime) {
+    let count = program_files::argument_count(&rt);
     if count == 1 {
-        run(b"tower.bin", b"book.txt");
+        run(&rt, b"tower.bin", b"book.txt");
         return;
     }
     if count == 3 {
-        run_named();
+        run_named(&rt);
         return;
     }
-    io::write_all(libc::STDERR_FILENO, b"usage: read_rules [TOWER BOOK]\n");
+    program_saying::say(&rt, b"usage: read_rules [TOWER BOOK]\n");
 }

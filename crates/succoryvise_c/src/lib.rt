@@ -48,7 +48,9 @@ pub extern "C" fn succoryvise_make_v2(
 ) -> Answer
     ensures { MakeShown result tower.now text.now out.old nodes.old pairs.old index.old graph.old sets.old room.old flags.old classes.old out.new nodes.new pairs.new index.new graph.new sets.new room.new flags.new classes.new }
 {
-    succoryvise::succoryvise_make_v2(tower, text, out, nodes, pairs, index, graph, sets, room, flags, classes)
+    succoryvise::succoryvise_make_v2(
+        tower, text, out, nodes, pairs, index, graph, sets, room, flags, classes,
+    )
 }
 
 // Whether the table is good for the tower and the book, or the first reason why not. Refused with
@@ -107,5 +109,7 @@ pub extern "C" fn succoryvise_why_v2(
 ) -> Answer
     ensures { WhyShown result tower.now text.now table.now list.old nodes.old pairs.old index.old graph.old sets.old room.old list.new nodes.new pairs.new index.new graph.new sets.new room.new }
 {
-    succoryvise::succoryvise_why_v2(tower, text, table, list, nodes, pairs, index, graph, sets, room)
+    succoryvise::succoryvise_why_v2(
+        tower, text, table, list, nodes, pairs, index, graph, sets, room,
+    )
 }

@@ -12,35 +12,38 @@ use base::WhyAnswer;
 use logic::Position;
 use program_files::Contents;
 use program_run::Point;
+use std::env::Env;
+use std::fs::Files;
+use std::io::{Eprint, Print};
 
 // The most actions of a run that is shown.
 const LONGEST_RUN: usize = 1000;
 
 // Prints the first line.
-fn print_head(line: usize, place: Position, n: usize) -> bool {
+fn print_head<R: Print + Eprint>(rt: &R, line: usize, place: Position, n: usize) -> bool {
     let mut out = [0u8; 4096];
     let size = program_run::head(line, place, n, &mut out);
-    program_files::print(&out[..size])
+    program_files::print(rt, &out[..size])
 }
 
 // Prints the line of an action.
-fn print_step(tower: &[u8], run: &[u8], n: usize, point: Point) -> bool
+fn print_step<R: Print + Eprint>(rt: &R, tower: &[u8], run: &[u8], n: usize, point: Point) -> bool
     requires run_in_list { RunInList tower.now run.now n }
     requires on_run { OnRun point tower.now run.now n point.position }
     requires position_lt_n { point.position.0 < n }
 {
     let mut out = [0u8; 4096];
     let size = program_run::step(tower, run, n, point, &mut out);
-    program_files::print(&out[..size])
+    program_files::print(rt, &out[..size])
 }
 
 // Prints the lines of the actions one after the other.
-fn print_steps(tower: &[u8], run: &[u8], n: usize) -> bool
+fn print_steps<R: Print + Eprint>(rt: &R, tower: &[u8], run: &[u8], n: usize) -> bool
     requires { RunInList tower.now run.now n }
 {
     let mut point = program_run::first(tower, run, n);
     while point.position.0 < n {
-        if !print_step(tower, run, n, point) {
+        if !print_step(rt, tower, run, n, point) {
             return false;
         }
         point = program_run::next(tower, run, n, point);
@@ -49,17 +52,25 @@ fn print_steps(tower: &[u8], run: &[u8], n: usize) -> bool
 }
 
 // Prints the run of n actions, with the line that it breaks and the position.
-fn print_run(tower: &[u8], run: &[u8], n: usize, line: usize, place: Position) -> bool
+fn print_run<R: Print + Eprint>(
+    rt: &R,
+    tower: &[u8],
+    run: &[u8],
+    n: usize,
+    line: usize,
+    place: Position,
+) -> bool
     requires { RunInList tower.now run.now n }
 {
-    if !print_head(line, place, n) {
+    if !print_head(rt, line, place, n) {
         return false;
     }
-    print_steps(tower, run, n)
+    print_steps(rt, tower, run, n)
 }
 
 // The same, and in words.
-fn tell_run(
+fn tell_run<R: Print + Eprint>(
+    rt: &R,
     book: &[u8],
     table: &[u8],
     tower_bytes: &[u8],
@@ -71,13 +82,14 @@ fn tell_run(
 )
     requires { RunInList tower_bytes.now run.now n }
 {
-    if print_run(tower_bytes, run, n, line, place) {
-        words_run::show(table, book, tower_bytes, text, run, n, line, place);
+    if print_run(rt, tower_bytes, run, n, line, place) {
+        words_run::show(rt, table, book, tower_bytes, text, run, n, line, place);
     }
 }
 
 // Prints the answer.
-fn tell(
+fn tell<R: Print + Eprint>(
+    rt: &R,
     answer: WhyAnswer,
     tower: &[u8],
     book: &[u8],
@@ -96,6 +108,7 @@ fn tell(
             position,
         } => {
             tell_run(
+                rt,
                 book,
                 table,
                 tower_bytes,
@@ -107,13 +120,13 @@ fn tell(
             );
         }
         WhyAnswer::Good => {
-            program_files::print(b"good\n");
+            program_files::print(rt, b"good\n");
         }
         WhyAnswer::NotGood(reason) => {
-            words_refusal::not_good(reason, table, tower_bytes, table_bytes);
+            words_refusal::not_good(rt, reason, table, tower_bytes, table_bytes);
         }
         WhyAnswer::Refused(why) => {
-            words_refusal::refuse(why, tower, book, table, tower_bytes, text, table_bytes);
+            words_refusal::refuse(rt, why, tower, book, table, tower_bytes, text, table_bytes);
         }
     }
 }
@@ -136,7 +149,8 @@ fn show(tower: &[u8], text: &[u8], table: &[u8], list: &mut [u8; LONGEST_RUN]) -
 }
 
 // Finds the answer with a list that is lent, and prints it.
-fn show_with(
+fn show_with<R: Print + Eprint>(
+    rt: &R,
     tower: &[u8],
     book: &[u8],
     table: &[u8],
@@ -147,6 +161,7 @@ fn show_with(
 ) {
     let answer = show(tower_bytes, text, table_bytes, list);
     tell(
+        rt,
         answer,
         tower,
         book,
@@ -160,13 +175,21 @@ fn show_with(
 
 // Reads the table. In each area there is room for one byte more than the longest file that is fit, so
 // that a longer one is refused for its length.
-fn show_from(tower_bytes: &[u8], text: &[u8], tower: &[u8], book: &[u8], table: &[u8]) {
+fn show_from<R: Files + Print + Eprint>(
+    rt: &R,
+    tower_bytes: &[u8],
+    text: &[u8],
+    tower: &[u8],
+    book: &[u8],
+    table: &[u8],
+) {
     let mut table_bytes = [0u8; program_limits::TABLE];
-    let Contents::Bytes(n) = program_files::read_file(table, &mut table_bytes) else {
+    let Contents::Bytes(n) = program_files::read_file(rt, table, &mut table_bytes) else {
         return;
     };
     let mut list = [0u8; LONGEST_RUN];
     show_with(
+        rt,
         tower,
         book,
         table,
@@ -178,44 +201,44 @@ fn show_from(tower_bytes: &[u8], text: &[u8], tower: &[u8], book: &[u8], table: 
 }
 
 // Reads the tower and the book first.
-fn run(tower: &[u8], book: &[u8], table: &[u8]) {
+fn run<R: Files + Print + Eprint>(rt: &R, tower: &[u8], book: &[u8], table: &[u8]) {
     let mut tower_bytes = [0u8; program_limits::TOWER];
-    let Contents::Bytes(t) = program_files::read_file(tower, &mut tower_bytes) else {
+    let Contents::Bytes(t) = program_files::read_file(rt, tower, &mut tower_bytes) else {
         return;
     };
     let mut text = [0u8; program_limits::BOOK];
-    let Contents::Bytes(b) = program_files::read_file(book, &mut text) else {
+    let Contents::Bytes(b) = program_files::read_file(rt, book, &mut text) else {
         return;
     };
-    show_from(&tower_bytes[..t], &text[..b], tower, book, table);
+    show_from(rt, &tower_bytes[..t], &text[..b], tower, book, table);
 }
 
 // The names are the arguments.
-fn run_named() {
+fn run_named<R: Env + Files + Print + Eprint>(rt: &R) {
     let mut tower = [0u8; 4096];
-    let Contents::Bytes(t) = program_files::argument(1, b"TOWER", &mut tower) else {
+    let Contents::Bytes(t) = program_files::argument(rt, 1, b"TOWER", &mut tower) else {
         return;
     };
     let mut book = [0u8; 4096];
-    let Contents::Bytes(b) = program_files::argument(2, b"BOOK", &mut book) else {
+    let Contents::Bytes(b) = program_files::argument(rt, 2, b"BOOK", &mut book) else {
         return;
     };
     let mut table = [0u8; 4096];
-    let Contents::Bytes(n) = program_files::argument(3, b"TABLE", &mut table) else {
+    let Contents::Bytes(n) = program_files::argument(rt, 3, b"TABLE", &mut table) else {
         return;
     };
-    run(&tower[..t], &book[..b], &table[..n]);
+    run(rt, &tower[..t], &book[..b], &table[..n]);
 }
 
-fn main() {
-    let count = os::arg_count();
+fn main(rt: HostRuntime) {
+    let count = program_files::argument_count(&rt);
     if count == 1 {
-        run(b"tower.bin", b"book.txt", b"table.bin");
+        run(&rt, b"tower.bin", b"book.txt", b"table.bin");
         return;
     }
     if count == 4 {
-        run_named();
+        run_named(&rt);
         return;
     }
-    io::write_all(libc::STDERR_FILENO, b"usage: why_not [TOWER BOOK TABLE]\n");
+    program_saying::say(&rt, b"usage: why_not [TOWER BOOK TABLE]\n");
 }

@@ -3,56 +3,61 @@
 
 use place_bytes::{down, two_at};
 use program_saying::{of_file, say, say_number};
+use std::io::Eprint;
 
 // The longest tower file; the programs read one byte more of a longer one.
 const LONGEST: usize = 3640;
 
 // So many bytes, or more than the longest file has.
-fn say_length(length: usize) {
+fn say_length<R: Eprint>(rt: &R, length: usize) {
     if LONGEST < length {
-        say(b"more than 3640 bytes");
+        say(rt, b"more than 3640 bytes");
         return;
     }
-    say_number(length);
-    say(b" bytes");
+    say_number(rt, length);
+    say(rt, b" bytes");
 }
 
 // An offset that is wrong.
-fn offset(file: &[u8], name: &[u8], value: usize, right: usize) {
-    of_file(file);
-    say(name);
-    say(b" is ");
-    say_number(value);
-    say(b"; it must be ");
-    say_number(right);
-    say(b"\n");
+fn offset<R: Eprint>(rt: &R, file: &[u8], name: &[u8], value: usize, right: usize) {
+    of_file(rt, file);
+    say(rt, name);
+    say(rt, b" is ");
+    say_number(rt, value);
+    say(rt, b"; it must be ");
+    say_number(rt, right);
+    say(rt, b"\n");
 }
 
 // The length is not that of the counts.
-fn length(file: &[u8], bytes: &[u8]) {
-    of_file(file);
-    say(b"the file has ");
-    say_length(bytes.len());
-    say(b"; with ");
-    say_number(place_tower::states(bytes));
-    say(b" states and ");
-    say_number(place_tower::actions(bytes));
-    say(b" actions it must have ");
-    say_number(place_tower::state_place(bytes, place_tower::states(bytes)));
-    say(b"\n");
+fn length<R: Eprint>(rt: &R, file: &[u8], bytes: &[u8]) {
+    of_file(rt, file);
+    say(rt, b"the file has ");
+    say_length(rt, bytes.len());
+    say(rt, b"; with ");
+    say_number(rt, place_tower::states(bytes));
+    say(rt, b" states and ");
+    say_number(rt, place_tower::actions(bytes));
+    say(rt, b" actions it must have ");
+    say_number(
+        rt,
+        place_tower::state_place(bytes, place_tower::states(bytes)),
+    );
+    say(rt, b"\n");
 }
 
 // 1: no header, an offset, or the length.
-pub fn size(file: &[u8], bytes: &[u8]) {
+pub fn size<R: Eprint>(rt: &R, file: &[u8], bytes: &[u8]) {
     if bytes.len() < 8 {
-        of_file(file);
-        say(b"the file has ");
-        say_length(bytes.len());
-        say(b"; a tower file begins with a header of 8\n");
+        of_file(rt, file);
+        say(rt, b"the file has ");
+        say_length(rt, bytes.len());
+        say(rt, b"; a tower file begins with a header of 8\n");
         return;
     }
     if two_at(bytes, 4) != 8 {
         offset(
+            rt,
             file,
             b"the offset of the actions (bytes 4 and 5)",
             two_at(bytes, 4),
@@ -62,6 +67,7 @@ pub fn size(file: &[u8], bytes: &[u8]) {
     }
     if two_at(bytes, 6) != place_tower::states_place(bytes) {
         offset(
+            rt,
             file,
             b"the offset of the states (bytes 6 and 7)",
             two_at(bytes, 6),
@@ -69,18 +75,18 @@ pub fn size(file: &[u8], bytes: &[u8]) {
         );
         return;
     }
-    length(file, bytes);
+    length(rt, file, bytes);
 }
 
 // A count that is out of range.
-fn count(file: &[u8], name: &[u8], value: usize, right: &[u8]) {
-    of_file(file);
-    say(name);
-    say(b" is ");
-    say_number(value);
-    say(b"; it must be ");
-    say(right);
-    say(b"\n");
+fn count<R: Eprint>(rt: &R, file: &[u8], name: &[u8], value: usize, right: &[u8]) {
+    of_file(rt, file);
+    say(rt, name);
+    say(rt, b" is ");
+    say_number(rt, value);
+    say(rt, b"; it must be ");
+    say(rt, right);
+    say(rt, b"\n");
 }
 
 // Whether a number is from 1 to a limit.
@@ -92,107 +98,123 @@ fn from_1(n: usize, most: usize) -> bool {
 }
 
 // 2: a count, or the start state.
-pub fn range(file: &[u8], bytes: &[u8]) {
+pub fn range<R: Eprint>(rt: &R, file: &[u8], bytes: &[u8]) {
     let states = place_tower::states(bytes);
     if !from_1(states, 200) {
-        count(file, b"the number of states (byte 0)", states, b"1 to 200");
+        count(
+            rt,
+            file,
+            b"the number of states (byte 0)",
+            states,
+            b"1 to 200",
+        );
         return;
     }
     let actions = place_tower::actions(bytes);
     if !from_1(actions, 16) {
-        count(file, b"the number of actions (byte 1)", actions, b"1 to 16");
+        count(
+            rt,
+            file,
+            b"the number of actions (byte 1)",
+            actions,
+            b"1 to 16",
+        );
         return;
     }
     let marks = place_tower::marks(bytes);
     if 16 < marks {
-        count(file, b"the number of marks (byte 2)", marks, b"0 to 16");
+        count(rt, file, b"the number of marks (byte 2)", marks, b"0 to 16");
         return;
     }
-    of_file(file);
-    say(b"the start state (byte 3) is ");
-    say_number(place_tower::start(bytes));
-    say(b"; it must be a state, 0 to ");
-    say_number(down(states));
-    say(b"\n");
+    of_file(rt, file);
+    say(rt, b"the start state (byte 3) is ");
+    say_number(rt, place_tower::start(bytes));
+    say(rt, b"; it must be a state, 0 to ");
+    say_number(rt, down(states));
+    say(rt, b"\n");
 }
 
 // 3: the length or the kind of an action.
-pub fn action(file: &[u8], bytes: &[u8]) {
+pub fn action<R: Eprint>(rt: &R, file: &[u8], bytes: &[u8]) {
     let spot = place_tower::bad_action(bytes);
-    of_file(file);
-    say(b"action ");
-    say_number(spot.action);
+    of_file(rt, file);
+    say(rt, b"action ");
+    say_number(rt, spot.action);
     if spot.value == 0 {
-        say(b": its length (byte ");
-        say_number(spot.at);
-        say(b") is 0; it must be 1 to 255\n");
+        say(rt, b": its length (byte ");
+        say_number(rt, spot.at);
+        say(rt, b") is 0; it must be 1 to 255\n");
         return;
     }
-    say(b": its kind (byte ");
-    say_number(spot.at);
-    say(b") is ");
-    say_number(spot.value);
-    say(b"; it must be 0, the player's, 1, ours, or 2, sure to come\n");
+    say(rt, b": its kind (byte ");
+    say_number(rt, spot.at);
+    say(rt, b") is ");
+    say_number(rt, spot.value);
+    say(
+        rt,
+        b"; it must be 0, the player's, 1, ours, or 2, sure to come\n",
+    );
 }
 
 // 4: a target.
-pub fn target(file: &[u8], bytes: &[u8]) {
+pub fn target<R: Eprint>(rt: &R, file: &[u8], bytes: &[u8]) {
     let spot = place_tower::bad_target(bytes);
-    of_file(file);
-    say(b"state ");
-    say_number(spot.state);
-    say(b", action ");
-    say_number(spot.action);
-    say(b": its target (byte ");
-    say_number(spot.at);
-    say(b") is ");
-    say_number(spot.value);
-    say(b"; it must be a state, 0 to ");
-    say_number(down(place_tower::states(bytes)));
-    say(b", or 255 where the action is not enabled\n");
+    of_file(rt, file);
+    say(rt, b"state ");
+    say_number(rt, spot.state);
+    say(rt, b", action ");
+    say_number(rt, spot.action);
+    say(rt, b": its target (byte ");
+    say_number(rt, spot.at);
+    say(rt, b") is ");
+    say_number(rt, spot.value);
+    say(rt, b"; it must be a state, 0 to ");
+    say_number(rt, down(place_tower::states(bytes)));
+    say(rt, b", or 255 where the action is not enabled\n");
 }
 
 // The marks that there are.
-pub fn say_marks(marks: usize) {
+pub fn say_marks<R: Eprint>(rt: &R, marks: usize) {
     if marks == 0 {
-        say(b"the tower has no marks\n");
+        say(rt, b"the tower has no marks\n");
         return;
     }
     if marks == 1 {
-        say(b"the tower has 1 mark, p0\n");
+        say(rt, b"the tower has 1 mark, p0\n");
         return;
     }
-    say(b"the tower has ");
-    say_number(marks);
-    say(b" marks, p0 to p");
-    say_number(down(marks));
-    say(b"\n");
+    say(rt, b"the tower has ");
+    say_number(rt, marks);
+    say(rt, b" marks, p0 to p");
+    say_number(rt, down(marks));
+    say(rt, b"\n");
 }
 
 // 5: a mark of a state.
-pub fn mask(file: &[u8], bytes: &[u8]) {
+pub fn mask<R: Eprint>(rt: &R, file: &[u8], bytes: &[u8]) {
     let spot = place_tower::bad_mask(bytes);
-    of_file(file);
-    say(b"state ");
-    say_number(spot.state);
-    say(b" (bytes from ");
-    say_number(spot.at);
-    say(b" on) has mark p");
-    say_number(spot.value);
-    say(b"; ");
-    say_marks(place_tower::marks(bytes));
+    of_file(rt, file);
+    say(rt, b"state ");
+    say_number(rt, spot.state);
+    say(rt, b" (bytes from ");
+    say_number(rt, spot.at);
+    say(rt, b" on) has mark p");
+    say_number(rt, spot.value);
+    say(rt, b"; ");
+    say_marks(rt, place_tower::marks(bytes));
 }
 
 // 12 without a rule.
-pub fn dead_end(file: &[u8], bytes: &[u8]) {
-    of_file(file);
+pub fn dead_end<R: Eprint>(rt: &R, file: &[u8], bytes: &[u8]) {
+    of_file(rt, file);
     say(
+        rt,
         b"no table is good for this tower, even without any rule: a dead end cannot be kept away from, a state that no action leaves but the player's",
     );
     let state = place_tower::stuck(bytes);
     if state < place_tower::states(bytes) {
-        say(b", such as state ");
-        say_number(state);
+        say(rt, b", such as state ");
+        say_number(rt, state);
     }
-    say(b"; the rules are not to blame\n");
+    say(rt, b"; the rules are not to blame\n");
 }

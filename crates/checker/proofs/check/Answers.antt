@@ -1,5 +1,4 @@
 -- `checker::check` meets its contract.
-use borrow.Author.Rules.{rules}
 use borrow.Author.Tests.{not-true, not-false}
 use Rattle.search_areas.proofs.Laws.{room_there}
 use Rattle.checker.proofs.Ways.{too_short, checked_all}

@@ -1,5 +1,4 @@
 -- `checker_runs::broken_at` meets its contract.
-use borrow.Author.Rules.{rules}
 use Rattle.checker_runs.proofs.Ways.{broken_read}
 use Rattle.checker_runs.proofs.broken_at.Goals as goal
 

@@ -1,7 +1,4 @@
 use borrow.Author.Rules.{rules}
-use Prim.Native.Nat.{◌-◌, ◌≤◌}
-use Rattle.logic.specs.Tower.{tower_of}
-use Rattle.checker_runs.specs.Breaks.{NoBreak}
 use Rattle.checker_runs.proofs.Ways.{steps_actions, no_pairs, pair_more, pair_breaks, pairs_end}
 use Rattle.checker_runs.proofs.examine_steps.Goals as goal
 

@@ -1,6 +1,4 @@
 use borrow.Author.Rules.{rules}
-use Prim.Native.Nat.{◌-◌, ◌≤◌}
-use Rattle.checker_runs.specs.Breaks.{FirstAction}
 use Rattle.checker_runs.proofs.Ways.{no_actions, action_more, action_broken, actions_end}
 use Rattle.checker_runs.proofs.first_broken_action.Goals as goal
 

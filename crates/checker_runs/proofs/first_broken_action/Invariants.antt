@@ -1,8 +1,6 @@
 -- Of the actions before this one none makes a broken step. Those that are left become fewer.
-use borrow.Author.Rules.{rules}
 use Prim.Native.Nat.{◌-◌, ◌≤◌}
 use Rattle.checker_runs.specs.Breaks.{FirstAction}
-use Rattle.checker_runs.proofs.Ways.{no_actions, action_more, action_broken, actions_end}
 use Rattle.checker_runs.proofs.first_broken_action.Given as goal
 
 abbrev pub invariant-loop-a : goal.invariant-loop-a

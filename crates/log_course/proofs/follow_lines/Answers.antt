@@ -1,7 +1,5 @@
-use Prim.Native.Nat.{◌-◌}
-use lib.ListN.{length}
 use borrow.Author.Rules.{rules}
-use Rattle.log_course.proofs.Ways.{LinesLeft, end_ahead, lines_start, row_there, noted_there, room_there, lines_end, lines_stop, tick_small, line_fits_word, at_falls, lines_more}
+use Rattle.log_course.proofs.Ways.{end_ahead, lines_start, row_there, noted_there, room_there, lines_end, lines_stop, tick_small, line_fits_word, at_falls, lines_more}
 use Rattle.log_course.proofs.follow_lines.Goals as goal
 
 ruleset all = (rules, lines_start)

@@ -1,8 +1,7 @@
 -- `log_course::follow_lines` meets its contract.
 use Prim.Native.Nat.{◌-◌}
 use lib.ListN.{length}
-use borrow.Author.Rules.{rules}
-use Rattle.log_course.proofs.Ways.{LinesLeft, end_ahead, lines_start, row_there, noted_there, room_there, lines_end, lines_stop, tick_small, line_fits_word, at_falls, lines_more}
+use Rattle.log_course.proofs.Ways.{LinesLeft}
 use Rattle.log_course.proofs.follow_lines.Given as goal
 
 abbrev pub invariant-loop-at : goal.invariant-loop-at

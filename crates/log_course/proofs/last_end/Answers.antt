@@ -1,7 +1,4 @@
-use Prim.Native.Nat.{◌≤◌}
-use lib.ListN.{length}
 use borrow.Author.Rules.{rules}
-use Rattle.log_course.specs.Following.{NoEnd}
 use Rattle.log_course.proofs.Ways.{no_end_past, no_end_before, end_found, end_none}
 use Rattle.log_course.proofs.last_end.Goals as goal
 

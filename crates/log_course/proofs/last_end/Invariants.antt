@@ -1,9 +1,7 @@
 -- `log_course::last_end` meets its contract.
 use Prim.Native.Nat.{◌≤◌}
 use lib.ListN.{length}
-use borrow.Author.Rules.{rules}
 use Rattle.log_course.specs.Following.{NoEnd}
-use Rattle.log_course.proofs.Ways.{no_end_past, no_end_before, end_found, end_none}
 use Rattle.log_course.proofs.last_end.Given as goal
 
 abbrev pub invariant-loop-end : goal.invariant-loop-end

@@ -1,5 +1,4 @@
 -- `maker::make` meets its contract.
-use borrow.Author.Rules.{rules}
 use borrow.Author.Tests.{not-true, not-false}
 use Rattle.maker_areas.proofs.Laws.{room_there}
 use Rattle.maker.proofs.Ways.{too_short, kept_on, made_all}

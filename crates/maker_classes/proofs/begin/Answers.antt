@@ -1,6 +1,5 @@
 -- `maker_classes::begin` meets its contract.
 use Rattle.maker_classes.proofs.Rounds.{begun}
-use borrow.Author.Rules.{rules}
 use Rattle.maker_classes.proofs.begin.Goals as goal
 
 pub returns : goal.returns

@@ -3,8 +3,7 @@
 use Prim.Native.Nat.{suc, ◌-◌}
 use mathlib.Core.Path.{◌≡◌}
 use lib.ListN.{length}
-use Rattle.maker_classes.proofs.Rounds.{Refining, refining_start, made_fits, made_falls, refining_more, refining_end}
-use borrow.Author.Rules.{rules}
+use Rattle.maker_classes.proofs.Rounds.{Refining}
 use Rattle.maker_classes.proofs.classify.Given as goal
 
 abbrev pub invariant-loop-separated : goal.invariant-loop-separated

@@ -1,6 +1,5 @@
-use Prim.Native.Nat.{◌-◌}
 use borrow.Author.Rules.{rules}
-use Rattle.maker_file.proofs.Going.{Counting, counting_start, counting_more, counting_fits, counting_end}
+use Rattle.maker_file.proofs.Going.{counting_start, counting_more, counting_fits, counting_end}
 use Rattle.maker_file.proofs.step_count.Goals as goal
 
 ruleset all = (rules, counting_start, counting_more, counting_fits, counting_end)

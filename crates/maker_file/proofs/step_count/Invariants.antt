@@ -1,8 +1,7 @@
 -- `maker_file::step_count` meets its contract.
 -- The invariant: the actions below the counter are counted. The measure: how many are left.
 use Prim.Native.Nat.{◌-◌}
-use borrow.Author.Rules.{rules}
-use Rattle.maker_file.proofs.Going.{Counting, counting_start, counting_more, counting_fits, counting_end}
+use Rattle.maker_file.proofs.Going.{Counting}
 use Rattle.maker_file.proofs.step_count.Given as goal
 
 abbrev pub invariant-loop-a : goal.invariant-loop-a

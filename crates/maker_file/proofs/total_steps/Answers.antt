@@ -1,6 +1,5 @@
-use Prim.Native.Nat.{◌-◌}
 use borrow.Author.Rules.{rules}
-use Rattle.maker_file.proofs.Going.{Totalling, pair_below, totalling_start, totalling_more, totalling_fits, totalling_end}
+use Rattle.maker_file.proofs.Going.{pair_below, totalling_start, totalling_more, totalling_fits, totalling_end}
 use Rattle.maker_file.proofs.total_steps.Goals as goal
 
 ruleset all = (rules, pair_below, totalling_start, totalling_more, totalling_fits, totalling_end)

@@ -1,8 +1,7 @@
 -- `maker_file::total_steps` meets its contract.
 -- The invariant: the steps of the rows below the counter are counted. The measure: how many rows are left.
 use Prim.Native.Nat.{◌-◌}
-use borrow.Author.Rules.{rules}
-use Rattle.maker_file.proofs.Going.{Totalling, pair_below, totalling_start, totalling_more, totalling_fits, totalling_end}
+use Rattle.maker_file.proofs.Going.{Totalling}
 use Rattle.maker_file.proofs.total_steps.Given as goal
 
 abbrev pub invariant-loop-r : goal.invariant-loop-r

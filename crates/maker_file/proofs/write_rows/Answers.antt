@@ -1,6 +1,5 @@
 use borrow.Author.Rules.{rules}
-use Prim.Native.Nat.{◌-◌}
-use Rattle.maker_file.proofs.Filling.{ListingSteps, listing_start, listing_more, listing_end, row_place}
+use Rattle.maker_file.proofs.Filling.{listing_start, listing_more, listing_end, row_place}
 use Rattle.maker_file.proofs.Going.{pair_below, pair_inside, totalling_fits}
 use Rattle.maker_file.proofs.write_rows.Goals as goal
 

@@ -1,9 +1,7 @@
 -- `maker_file::write_rows` meets its contract.
 -- The invariant: to write the rows that are left is to write them all. The measure: how many are left.
-use borrow.Author.Rules.{rules}
 use Prim.Native.Nat.{◌-◌}
-use Rattle.maker_file.proofs.Filling.{ListingSteps, listing_start, listing_more, listing_end, row_place}
-use Rattle.maker_file.proofs.Going.{pair_below, pair_inside, totalling_fits}
+use Rattle.maker_file.proofs.Filling.{ListingSteps}
 use Rattle.maker_file.proofs.write_rows.Given as goal
 
 abbrev pub invariant-loop-row : goal.invariant-loop-row

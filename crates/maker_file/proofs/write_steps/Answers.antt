@@ -1,6 +1,5 @@
-use Prim.Native.Nat.{◌-◌}
 use borrow.Author.Rules.{rules}
-use Rattle.maker_file.proofs.Filling.{Packing, packing_start, packing_room, packing_more, packing_end}
+use Rattle.maker_file.proofs.Filling.{packing_start, packing_room, packing_more, packing_end}
 use Rattle.maker_file.proofs.Going.{pair_is_row}
 use Rattle.maker_file.proofs.write_steps.Goals as goal
 

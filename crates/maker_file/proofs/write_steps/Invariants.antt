@@ -1,9 +1,7 @@
 -- `maker_file::write_steps` meets its contract.
 -- The invariant: to write the steps that are left is to write them all. The measure: how many rows are left.
 use Prim.Native.Nat.{◌-◌}
-use borrow.Author.Rules.{rules}
-use Rattle.maker_file.proofs.Filling.{Packing, packing_start, packing_room, packing_more, packing_end}
-use Rattle.maker_file.proofs.Going.{pair_is_row}
+use Rattle.maker_file.proofs.Filling.{Packing}
 use Rattle.maker_file.proofs.write_steps.Given as goal
 
 abbrev pub invariant-loop-done : goal.invariant-loop-done

@@ -1,9 +1,5 @@
-use Prim.Native.Nat.{◌-◌}
 use borrow.Author.Rules.{rules}
-use Rattle.maker_order.proofs.Rest.{rest}
-use Rattle.maker_order.specs.Orders.{classes_part, order_of}
-use Rattle.maker_file.proofs.Filling.{Filling, pair_start, pair_room, pair_more, pair_end}
-use Rattle.maker_file.specs.Writing.{step_from, steps_in}
+use Rattle.maker_file.proofs.Filling.{pair_start, pair_room, pair_more, pair_end}
 use Rattle.maker_file.proofs.write_steps_of.Goals as goal
 
 ruleset all = (rules, pair_start, pair_room, pair_more, pair_end)

@@ -1,10 +1,9 @@
 -- `maker_file::write_steps_of` meets its contract.
 -- The invariant: to write the steps that are left is to write them all. The measure: how many actions are left.
 use Prim.Native.Nat.{◌-◌}
-use borrow.Author.Rules.{rules}
 use Rattle.maker_order.proofs.Rest.{rest}
 use Rattle.maker_order.specs.Orders.{classes_part, order_of}
-use Rattle.maker_file.proofs.Filling.{Filling, pair_start, pair_room, pair_more, pair_end}
+use Rattle.maker_file.proofs.Filling.{Filling}
 use Rattle.maker_file.specs.Writing.{step_from, steps_in}
 use Rattle.maker_file.proofs.write_steps_of.Given as goal
 

@@ -1,4 +1,4 @@
-use Rattle.maker_marks.proofs.Ways.{MarkingBefore, before_start, before_cell, before_pair, before_falls, before_more, before_end}
+use Rattle.maker_marks.proofs.Ways.{before_start, before_cell, before_pair, before_falls, before_more, before_end}
 use borrow.Author.Rules.{rules}
 use Rattle.maker_marks.proofs.mark_before.Goals as goal
 

@@ -1,7 +1,6 @@
 -- `maker_marks::mark_before` meets its contract.
 -- The invariant: the pairs of the cells from the present one on are marked. The measure: the cell.
-use Rattle.maker_marks.proofs.Ways.{MarkingBefore, before_start, before_cell, before_pair, before_falls, before_more, before_end}
-use borrow.Author.Rules.{rules}
+use Rattle.maker_marks.proofs.Ways.{MarkingBefore}
 use Rattle.maker_marks.proofs.mark_before.Given as goal
 
 abbrev pub invariant-loop-at : goal.invariant-loop-at

@@ -1,7 +1,4 @@
-use Prim.Native.Nat.{◌-◌}
-use mathlib.Core.Path.{◌≡◌, refl}
-use lib.ListN.{length}
-use Rattle.maker_marks.specs.Marks.{MarkedBeforeAll}
+use mathlib.Core.Path.{refl}
 use Rattle.maker_marks.proofs.Ways.{all_start, entry_there, all_more, all_end}
 use borrow.Author.Rules.{rules}
 use Rattle.maker_marks.proofs.mark_before_all.Goals as goal

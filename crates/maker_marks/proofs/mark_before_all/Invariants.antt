@@ -1,11 +1,9 @@
 -- `maker_marks::mark_before_all` meets its contract.
 -- The invariant: the entries below the counter are done. The measure: how many are left.
 use Prim.Native.Nat.{◌-◌}
-use mathlib.Core.Path.{◌≡◌, refl}
+use mathlib.Core.Path.{◌≡◌}
 use lib.ListN.{length}
 use Rattle.maker_marks.specs.Marks.{MarkedBeforeAll}
-use Rattle.maker_marks.proofs.Ways.{all_start, entry_there, all_more, all_end}
-use borrow.Author.Rules.{rules}
 use Rattle.maker_marks.proofs.mark_before_all.Given as goal
 
 abbrev pub invariant-loop-p : goal.invariant-loop-p

@@ -1,5 +1,4 @@
-use Prim.Native.Nat.{◌-◌}
-use Rattle.maker_marks.proofs.Ways.{MarkingSafe, safe_start, safe_more, safe_end}
+use Rattle.maker_marks.proofs.Ways.{safe_start, safe_more, safe_end}
 use borrow.Author.Rules.{rules}
 use Rattle.maker_marks.proofs.mark_safe.Goals as goal
 

@@ -1,5 +1,4 @@
-use Prim.Native.Nat.{◌-◌}
-use Rattle.maker_marks.proofs.Ways.{MarkingFirsts, firsts_none, firsts_start, firsts_most, firsts_more, firsts_end}
+use Rattle.maker_marks.proofs.Ways.{firsts_none, firsts_start, firsts_most, firsts_more, firsts_end}
 use borrow.Author.Rules.{rules}
 use Rattle.maker_marks.proofs.mark_with_firsts.Goals as goal
 

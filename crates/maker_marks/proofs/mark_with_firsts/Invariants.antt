@@ -1,8 +1,7 @@
 -- `maker_marks::mark_with_firsts` meets its contract.
 -- The invariant: the pairs below the counter are marked where their first is. The measure: how many are left.
 use Prim.Native.Nat.{◌-◌}
-use Rattle.maker_marks.proofs.Ways.{MarkingFirsts, firsts_none, firsts_start, firsts_most, firsts_more, firsts_end}
-use borrow.Author.Rules.{rules}
+use Rattle.maker_marks.proofs.Ways.{MarkingFirsts}
 use Rattle.maker_marks.proofs.mark_with_firsts.Given as goal
 
 abbrev pub invariant-loop-i : goal.invariant-loop-i

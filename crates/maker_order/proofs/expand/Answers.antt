@@ -1,6 +1,5 @@
-use Prim.Native.Nat.{◌-◌}
 use borrow.Author.Rules.{rules}
-use Rattle.maker_order.proofs.Ways.{Expanding, expand_start, expand_more, expand_end}
+use Rattle.maker_order.proofs.Ways.{expand_start, expand_more, expand_end}
 use Rattle.maker_order.proofs.expand.Goals as goal
 
 ruleset all = (rules, expand_start, expand_more, expand_end)

@@ -1,8 +1,7 @@
 -- `maker_order::expand` meets its contract.
 -- The invariant: the actions below the counter are done. The measure: how many are left.
 use Prim.Native.Nat.{◌-◌}
-use borrow.Author.Rules.{rules}
-use Rattle.maker_order.proofs.Ways.{Expanding, expand_start, expand_more, expand_end}
+use Rattle.maker_order.proofs.Ways.{Expanding}
 use Rattle.maker_order.proofs.expand.Given as goal
 
 abbrev pub invariant-loop-a : goal.invariant-loop-a

@@ -1,6 +1,5 @@
-use Prim.Native.Nat.{◌-◌}
 use borrow.Author.Rules.{rules}
-use Rattle.maker_order.proofs.Ways.{SearchingRows, searching_start, searching_more, searching_end, listed_below}
+use Rattle.maker_order.proofs.Ways.{searching_start, searching_more, searching_end, listed_below}
 use Rattle.maker_order.proofs.expand_all.Goals as goal
 
 ruleset all = (rules, searching_start, searching_more, searching_end, listed_below)

@@ -1,8 +1,7 @@
 -- `maker_order::expand_all` meets its contract.
 -- The invariant: the rows below the counter are expanded. The measure: how many pairs could still be rows.
 use Prim.Native.Nat.{◌-◌}
-use borrow.Author.Rules.{rules}
-use Rattle.maker_order.proofs.Ways.{SearchingRows, searching_start, searching_more, searching_end, listed_below}
+use Rattle.maker_order.proofs.Ways.{SearchingRows}
 use Rattle.maker_order.proofs.expand_all.Given as goal
 
 abbrev pub invariant-loop-r : goal.invariant-loop-r

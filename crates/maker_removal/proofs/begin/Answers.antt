@@ -1,5 +1,4 @@
-use Prim.Native.Nat.{◌-◌}
-use Rattle.maker_removal.proofs.Flags.{Flagging, flagging_start, flagging_more, flagging_end}
+use Rattle.maker_removal.proofs.Flags.{flagging_start, flagging_more, flagging_end}
 use borrow.Author.Rules.{rules}
 use Rattle.maker_removal.proofs.begin.Goals as goal
 

@@ -1,8 +1,7 @@
 -- `maker_removal::begin` meets its contract.
 -- The invariant: the pairs below the counter are safe. The measure: how many are left.
 use Prim.Native.Nat.{◌-◌}
-use Rattle.maker_removal.proofs.Flags.{Flagging, flagging_start, flagging_more, flagging_end}
-use borrow.Author.Rules.{rules}
+use Rattle.maker_removal.proofs.Flags.{Flagging}
 use Rattle.maker_removal.proofs.begin.Given as goal
 
 abbrev pub invariant-loop-i : goal.invariant-loop-i

@@ -1,6 +1,4 @@
-use Prim.Native.Nat.{◌-◌}
-use Rattle.logic.specs.Tower.{tower_of}
-use Rattle.maker_removal.proofs.Turns.{ScanningCells, scan_start, scan_more, scan_end}
+use Rattle.maker_removal.proofs.Turns.{scan_start, scan_more, scan_end}
 use borrow.Author.Rules.{rules}
 use Rattle.maker_removal.proofs.visit_all.Goals as goal
 

@@ -2,8 +2,7 @@
 -- The invariant: the pairs below the counter have been looked at. The measure: how many are left.
 use Prim.Native.Nat.{◌-◌}
 use Rattle.logic.specs.Tower.{tower_of}
-use Rattle.maker_removal.proofs.Turns.{ScanningCells, scan_start, scan_more, scan_end}
-use borrow.Author.Rules.{rules}
+use Rattle.maker_removal.proofs.Turns.{ScanningCells}
 use Rattle.maker_removal.proofs.visit_all.Given as goal
 
 abbrev pub invariant-loop-next : goal.invariant-loop-next

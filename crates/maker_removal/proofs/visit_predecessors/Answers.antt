@@ -1,8 +1,4 @@
-use Prim.Native.Nat.{◌+◌}
-use Rattle.logic.specs.Tower.{tower_of}
-use Rattle.pair_graph.specs.Steps.{safe_in}
-use Rattle.pair_graph.specs.Counting.{count}
-use Rattle.maker_removal.proofs.Turns.{Following, follow_start, follow_ready, follow_cell, follow_pair, follow_falls, follow_more, follow_end}
+use Rattle.maker_removal.proofs.Turns.{follow_start, follow_ready, follow_cell, follow_pair, follow_falls, follow_more, follow_end}
 use borrow.Author.Rules.{rules}
 use Rattle.maker_removal.proofs.visit_predecessors.Goals as goal
 

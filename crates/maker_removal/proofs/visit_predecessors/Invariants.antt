@@ -4,8 +4,7 @@ use Prim.Native.Nat.{◌+◌}
 use Rattle.logic.specs.Tower.{tower_of}
 use Rattle.pair_graph.specs.Steps.{safe_in}
 use Rattle.pair_graph.specs.Counting.{count}
-use Rattle.maker_removal.proofs.Turns.{Following, follow_start, follow_ready, follow_cell, follow_pair, follow_falls, follow_more, follow_end}
-use borrow.Author.Rules.{rules}
+use Rattle.maker_removal.proofs.Turns.{Following}
 use Rattle.maker_removal.proofs.visit_predecessors.Given as goal
 
 abbrev pub invariant-loop-at : goal.invariant-loop-at

@@ -1,8 +1,4 @@
-use Prim.Native.Nat.{◌+◌}
-use Rattle.logic.specs.Tower.{tower_of}
-use Rattle.pair_graph.specs.Steps.{safe_in}
-use Rattle.pair_graph.specs.Counting.{count}
-use Rattle.maker_removal.proofs.Turns.{Working, work_start, work_ready, work_more, work_end}
+use Rattle.maker_removal.proofs.Turns.{work_start, work_ready, work_more, work_end}
 use borrow.Author.Rules.{rules}
 use Rattle.maker_removal.proofs.work_off.Goals as goal
 

@@ -1,8 +1,5 @@
-use Prim.Native.Nat.{◌-◌}
 use borrow.Author.Tests.{not-true, not-false}
-use Rattle.base.specs.Lists.{every}
-use Rattle.area_bytes.proofs.Scans.{Left, left_below, every_more}
-use Rattle.maker_view.specs.View.{same_shows}
+use Rattle.area_bytes.proofs.Scans.{left_below, every_more}
 use Rattle.maker_view.proofs.Looks.{other_state, other_class, other_step, all_same}
 use borrow.Author.Rules.{rules}
 use Rattle.maker_view.proofs.alike.Goals as goal

@@ -1,12 +1,9 @@
 -- `maker_view::alike` meets its contract.
 -- The invariant: the actions from `a` on decide. The measure: how many there are.
 use Prim.Native.Nat.{◌-◌}
-use borrow.Author.Tests.{not-true, not-false}
 use Rattle.base.specs.Lists.{every}
-use Rattle.area_bytes.proofs.Scans.{Left, left_below, every_more}
+use Rattle.area_bytes.proofs.Scans.{Left}
 use Rattle.maker_view.specs.View.{same_shows}
-use Rattle.maker_view.proofs.Looks.{other_state, other_class, other_step, all_same}
-use borrow.Author.Rules.{rules}
 use Rattle.maker_view.proofs.alike.Given as goal
 
 abbrev pub invariant-loop-a : goal.invariant-loop-a

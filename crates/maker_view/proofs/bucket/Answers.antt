@@ -1,6 +1,4 @@
-use Prim.Native.Nat.{◌-◌, ◌≤◌}
-use Rattle.maker_view.specs.View.{view_of}
-use Rattle.maker_view.proofs.Looks.{first_fits, both_fit, Summing, sum_start, sum_more, sum_end}
+use Rattle.maker_view.proofs.Looks.{first_fits, both_fit, sum_start, sum_more, sum_end}
 use borrow.Author.Rules.{rules}
 use Rattle.maker_view.proofs.bucket.Goals as goal
 

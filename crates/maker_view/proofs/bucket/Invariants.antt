@@ -2,8 +2,7 @@
 -- The invariant: the sum is that of the actions before `next`. The measure: how many are left.
 use Prim.Native.Nat.{◌-◌, ◌≤◌}
 use Rattle.maker_view.specs.View.{view_of}
-use Rattle.maker_view.proofs.Looks.{first_fits, both_fit, Summing, sum_start, sum_more, sum_end}
-use borrow.Author.Rules.{rules}
+use Rattle.maker_view.proofs.Looks.{Summing}
 use Rattle.maker_view.proofs.bucket.Given as goal
 
 abbrev pub invariant-loop-next : goal.invariant-loop-next

@@ -1,5 +1,4 @@
 use borrow.Author.Rules.{rules}
-use Prim.Native.Nat.{◌-◌, ◌≤◌}
 use Rattle.pair_repeats.proofs.Ways.{before_found, before_none}
 use Rattle.pair_repeats.proofs.led_before.Goals as goal
 

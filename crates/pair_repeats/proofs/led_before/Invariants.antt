@@ -1,7 +1,5 @@
 -- The loop goes over the actions before a. They become fewer.
-use borrow.Author.Rules.{rules}
 use Prim.Native.Nat.{◌-◌, ◌≤◌}
-use Rattle.pair_repeats.proofs.Ways.{before_found, before_none}
 use Rattle.pair_repeats.proofs.led_before.Given as goal
 
 abbrev pub invariant-loop-b : goal.invariant-loop-b

@@ -1,9 +1,5 @@
 use borrow.Author.Rules.{rules}
-use Prim.Native.Nat.{◌-◌}
-use mathlib.Core.Path.{◌≡◌}
-use lib.ListN.{length}
-use Rattle.pair_trial.specs.Walked.{walked}
-use Rattle.pair_search.proofs.Exploring.{Exploring, explore_start, explore_ready, explore_head, explore_size, explore_many, explore_more, explore_wide, explore_done}
+use Rattle.pair_search.proofs.Exploring.{explore_start, explore_ready, explore_head, explore_size, explore_many, explore_more, explore_wide, explore_done}
 use Rattle.pair_search.proofs.explore_on.Goals as goal
 
 ruleset all = (rules, explore_start, explore_ready, explore_head, explore_size, explore_many, explore_more, explore_wide, explore_done)

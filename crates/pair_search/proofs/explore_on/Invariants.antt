@@ -1,10 +1,9 @@
 -- The loop keeps what `Exploring` says: the search from here on finds what it finds in all. The pairs that there may be left become fewer.
-use borrow.Author.Rules.{rules}
 use Prim.Native.Nat.{◌-◌}
 use mathlib.Core.Path.{◌≡◌}
 use lib.ListN.{length}
 use Rattle.pair_trial.specs.Walked.{walked}
-use Rattle.pair_search.proofs.Exploring.{Exploring, explore_start, explore_ready, explore_head, explore_size, explore_many, explore_more, explore_wide, explore_done}
+use Rattle.pair_search.proofs.Exploring.{Exploring}
 use Rattle.pair_search.proofs.explore_on.Given as goal
 
 abbrev pub invariant-loop-i : goal.invariant-loop-i

@@ -1,11 +1,9 @@
 -- The loop keeps what `Growing` says: the actions that are left decide what is new. They become fewer.
-use borrow.Author.Rules.{rules}
 use Prim.Native.Nat.{◌-◌}
 use mathlib.Core.Path.{◌≡◌}
 use lib.ListN.{length}
 use Rattle.pair_trial.specs.Walked.{walked}
-use Rattle.pair_trial.proofs.Walking.{actions_read}
-use Rattle.pair_search.proofs.Growing.{Growing, grow_start, grow_ready, grow_listed, grow_end, grow_head, grow_size, grow_more, grow_many}
+use Rattle.pair_search.proofs.Growing.{Growing}
 use Rattle.pair_search.proofs.follow_all.Given as goal
 
 abbrev pub invariant-loop-a : goal.invariant-loop-a

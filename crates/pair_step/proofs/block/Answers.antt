@@ -1,8 +1,6 @@
 use borrow.Author.Rules.{rules}
-use Prim.Native.Nat.{◌-◌}
-use Rattle.pair_trial.specs.Walked.{walked}
 use Rattle.pair_trial.proofs.Walking.{actions_read}
-use Rattle.pair_step.proofs.Blocking.{Blocking, block_start, block_state, block_listed, block_room, block_next, block_end}
+use Rattle.pair_step.proofs.Blocking.{block_start, block_state, block_listed, block_room, block_next, block_end}
 use Rattle.pair_step.proofs.block.Goals as goal
 
 ruleset all = (rules, actions_read, block_start, block_state, block_listed, block_room, block_next, block_end)

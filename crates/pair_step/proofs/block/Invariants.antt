@@ -1,9 +1,7 @@
 -- The loop keeps what `Blocking` says: the moves of the actions so far are written. They become fewer.
-use borrow.Author.Rules.{rules}
 use Prim.Native.Nat.{◌-◌}
 use Rattle.pair_trial.specs.Walked.{walked}
-use Rattle.pair_trial.proofs.Walking.{actions_read}
-use Rattle.pair_step.proofs.Blocking.{Blocking, block_start, block_state, block_listed, block_room, block_next, block_end}
+use Rattle.pair_step.proofs.Blocking.{Blocking}
 use Rattle.pair_step.proofs.block.Given as goal
 
 abbrev pub invariant-loop-a : goal.invariant-loop-a

@@ -1,5 +1,4 @@
 use borrow.Author.Rules.{rules}
-use Prim.Native.Nat.{◌-◌, ◌≤◌}
 use Rattle.pair_step.proofs.Entering.{action_room_below, earlier_found, earlier_none}
 use Rattle.pair_step.proofs.earlier.Goals as goal
 

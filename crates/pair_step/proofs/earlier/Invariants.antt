@@ -1,7 +1,5 @@
 -- The loop goes over the actions before a. They become fewer.
-use borrow.Author.Rules.{rules}
 use Prim.Native.Nat.{◌-◌, ◌≤◌}
-use Rattle.pair_step.proofs.Entering.{action_room_below, earlier_found, earlier_none}
 use Rattle.pair_step.proofs.earlier.Given as goal
 
 abbrev pub invariant-loop-b : goal.invariant-loop-b

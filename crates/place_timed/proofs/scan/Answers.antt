@@ -1,7 +1,4 @@
 use borrow.Author.Rules.{rules}
-use lib.ListN.{length}
-use Prim.Native.Nat.{◌-◌}
-use mathlib.Core.Path.{◌≡◌}
 use Rattle.place_timed.proofs.scan.Goals as goal
 
 ruleset all = (rules)

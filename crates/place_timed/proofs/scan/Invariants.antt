@@ -1,5 +1,4 @@
 -- The area keeps its length; the end comes nearer.
-use borrow.Author.Rules.{rules}
 use lib.ListN.{length}
 use Prim.Native.Nat.{◌-◌}
 use mathlib.Core.Path.{◌≡◌}

@@ -1,5 +1,4 @@
 -- `program_listing::named` meets its contract.
-use borrow.Author.Rules.{rules}
 use Rattle.program_listing.proofs.Ways.{named_way}
 use Rattle.program_listing.proofs.named.Goals as goal
 

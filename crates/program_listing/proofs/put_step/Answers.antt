@@ -1,5 +1,4 @@
 -- `program_listing::put_step` meets its contract.
-use borrow.Author.Rules.{rules}
 use Rattle.program_listing.proofs.Ways.{step_way}
 use Rattle.program_listing.proofs.put_step.Goals as goal
 

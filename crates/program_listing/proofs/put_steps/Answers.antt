@@ -1,7 +1,6 @@
 use borrow.Author.Rules.{rules}
-use Prim.Native.Nat.{◌-◌}
 use Rattle.file_table.proofs.Laws.{header_of}
-use Rattle.program_listing.proofs.Ways.{StepsToPrint, steps_start, steps_fit, next_fits, steps_on, steps_end}
+use Rattle.program_listing.proofs.Ways.{steps_start, steps_fit, next_fits, steps_on, steps_end}
 use Rattle.program_listing.proofs.put_steps.Goals as goal
 
 ruleset all = (rules, header_of, steps_start, steps_fit, next_fits, steps_on, steps_end)

@@ -1,8 +1,6 @@
 -- The loop keeps `StepsToPrint`, and fewer steps are left at each turn.
-use borrow.Author.Rules.{rules}
 use Prim.Native.Nat.{◌-◌}
-use Rattle.file_table.proofs.Laws.{header_of}
-use Rattle.program_listing.proofs.Ways.{StepsToPrint, steps_start, steps_fit, next_fits, steps_on, steps_end}
+use Rattle.program_listing.proofs.Ways.{StepsToPrint}
 use Rattle.program_listing.proofs.put_steps.Given as goal
 
 abbrev pub invariant-loop-i : goal.invariant-loop-i

@@ -1,5 +1,4 @@
 -- `program_run::numbers` meets its contract.
-use borrow.Author.Rules.{rules}
 use Rattle.program_run.proofs.Ways.{numbers_way}
 use Rattle.program_run.proofs.numbers.Goals as goal
 

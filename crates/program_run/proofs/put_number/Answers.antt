@@ -1,5 +1,4 @@
 -- `program_run::put_number` meets its contract.
-use borrow.Author.Rules.{rules}
 use Rattle.program_run.proofs.Ways.{number_way}
 use Rattle.program_run.proofs.put_number.Goals as goal
 

@@ -1,7 +1,5 @@
 use borrow.Author.Rules.{rules}
-use Prim.Native.Nat.{◌-◌}
-use lib.ListN.{length}
-use Rattle.program_texts.proofs.Ways.{Going, going_start, going_on, going_end}
+use Rattle.program_texts.proofs.Ways.{going_start, going_on, going_end}
 use Rattle.program_texts.proofs.put_bytes.Goals as goal
 
 ruleset all = (rules, going_start, going_on, going_end)

@@ -1,8 +1,7 @@
 -- The loop keeps `Going`, and fewer bytes are left at each turn.
-use borrow.Author.Rules.{rules}
 use Prim.Native.Nat.{◌-◌}
 use lib.ListN.{length}
-use Rattle.program_texts.proofs.Ways.{Going, going_start, going_on, going_end}
+use Rattle.program_texts.proofs.Ways.{Going}
 use Rattle.program_texts.proofs.put_bytes.Given as goal
 
 abbrev pub invariant-loop-i : goal.invariant-loop-i

@@ -1,6 +1,5 @@
-use Prim.Native.Nat.{◌-◌}
 use borrow.Author.Rules.{rules}
-use Rattle.why_lines.proofs.Failing.{KeptSoFar, so_far_first, so_far_found, so_far_next, so_far_end}
+use Rattle.why_lines.proofs.Failing.{so_far_first, so_far_found, so_far_next, so_far_end}
 use Rattle.why_lines.proofs.first_failing.Goals as goal
 
 ruleset all = (rules, so_far_first, so_far_next)

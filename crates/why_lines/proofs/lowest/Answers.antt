@@ -1,7 +1,6 @@
-use Prim.Native.Nat.{◌-◌}
 use native.Mathlib.Omega.{arith}
 use borrow.Author.Rules.{rules}
-use Rattle.why_lines.proofs.Failing.{Looking, looking_first, looking_found, looking_next, looking_end}
+use Rattle.why_lines.proofs.Failing.{looking_first, looking_found, looking_next, looking_end}
 use Rattle.why_lines.proofs.lowest.Goals as goal
 
 ruleset all = (rules, looking_next, looking_end)

@@ -1,8 +1,6 @@
 -- The loop keeps what `Looking` says: the lines before this one are kept. Those that are left become fewer.
 use Prim.Native.Nat.{◌-◌}
-use native.Mathlib.Omega.{arith}
-use borrow.Author.Rules.{rules}
-use Rattle.why_lines.proofs.Failing.{Looking, looking_first, looking_found, looking_next, looking_end}
+use Rattle.why_lines.proofs.Failing.{Looking}
 use Rattle.why_lines.proofs.lowest.Given as goal
 
 abbrev pub invariant-loop-l : goal.invariant-loop-l

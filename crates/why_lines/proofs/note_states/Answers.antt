@@ -1,7 +1,6 @@
-use Prim.Native.Nat.{◌-◌}
 use borrow.Author.Rules.{rules}
 use Rattle.area_bytes.proofs.Numbers.{cast_byte}
-use Rattle.why_lines.proofs.Noting.{Noting, noting_first, noting_action, noting_next, noting_end}
+use Rattle.why_lines.proofs.Noting.{noting_first, noting_action, noting_next, noting_end}
 use Rattle.why_lines.proofs.note_states.Goals as goal
 
 ruleset all = (rules, cast_byte, noting_first, noting_action, noting_next, noting_end)

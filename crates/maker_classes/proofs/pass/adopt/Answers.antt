@@ -1,5 +1,4 @@
-use Prim.Native.Nat.{◌-◌}
-use Rattle.maker_classes.proofs.Ways.{Adopting, adopt_start, adopt_entry, adopt_fits, adopt_place, adopt_new, adopt_class, adopt_more, adopt_end}
+use Rattle.maker_classes.proofs.Ways.{adopt_start, adopt_entry, adopt_fits, adopt_place, adopt_new, adopt_class, adopt_more, adopt_end}
 use borrow.Author.Rules.{rules}
 use Rattle.maker_classes.proofs.pass.adopt.Goals as goal
 

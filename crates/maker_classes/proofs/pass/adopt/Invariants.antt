@@ -1,8 +1,7 @@
 -- `maker_classes::pass::adopt` meets its contract.
 -- The invariant: the entries before `p` are adopted. The measure: how many are left.
 use Prim.Native.Nat.{◌-◌}
-use Rattle.maker_classes.proofs.Ways.{Adopting, adopt_start, adopt_entry, adopt_fits, adopt_place, adopt_new, adopt_class, adopt_more, adopt_end}
-use borrow.Author.Rules.{rules}
+use Rattle.maker_classes.proofs.Ways.{Adopting}
 use Rattle.maker_classes.proofs.pass.adopt.Given as goal
 
 abbrev pub invariant-loop-p : goal.invariant-loop-p

@@ -1,6 +1,4 @@
-use lib.ListN.{take}
-use Rattle.maker_view.specs.View.{view_of}
-use Rattle.maker_classes.proofs.Ways.{part_long, part_room, Seeking, seek_start, seek_falls, seek_on, seek_hit, seek_end, seek_pair}
+use Rattle.maker_classes.proofs.Ways.{part_long, part_room, seek_start, seek_falls, seek_on, seek_hit, seek_end, seek_pair}
 use borrow.Author.Rules.{rules}
 use Rattle.maker_classes.proofs.pass.found.Goals as goal
 

@@ -2,8 +2,7 @@
 -- The invariant: whatever looks the same is still ahead in the bucket. The measure: the number that the walk has come to.
 use lib.ListN.{take}
 use Rattle.maker_view.specs.View.{view_of}
-use Rattle.maker_classes.proofs.Ways.{part_long, part_room, Seeking, seek_start, seek_falls, seek_on, seek_hit, seek_end, seek_pair}
-use borrow.Author.Rules.{rules}
+use Rattle.maker_classes.proofs.Ways.{Seeking}
 use Rattle.maker_classes.proofs.pass.found.Given as goal
 
 abbrev pub invariant-loop-at : goal.invariant-loop-at

@@ -1,7 +1,3 @@
-use Prim.Native.Nat.{◌-◌, ◌≤◌}
-use mathlib.Core.Path.{◌≡◌}
-use lib.ListN.{length}
-use Rattle.maker_classes.specs.Passes.{PassedFrom}
 use Rattle.maker_classes.proofs.Ways.{pass_start, pass_more, pass_end}
 use borrow.Author.Rules.{rules}
 use Rattle.maker_classes.proofs.pass.look_all.Goals as goal

@@ -1,10 +1,5 @@
-use Prim.Native.Nat.{◌-◌}
-use Rattle.base.specs.Lists.{every}
-use Rattle.logic.specs.Tower.{tower_of}
-use Rattle.pair_graph.specs.Steps.{safe_in}
-use Rattle.maker_removal.specs.Removal.{not_forced_at}
 use borrow.Author.Tests.{not-true, not-false}
-use Rattle.area_bytes.proofs.Scans.{Left, left_below, every_fails, every_more, every_end}
+use Rattle.area_bytes.proofs.Scans.{left_below, every_fails, every_more, every_end}
 use Rattle.maker_removal.proofs.Moves.{scan_forced}
 use borrow.Author.Rules.{rules}
 use Rattle.maker_removal.proofs.fine.none_forced.Goals as goal

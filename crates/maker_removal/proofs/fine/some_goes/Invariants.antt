@@ -5,9 +5,7 @@ use Rattle.base.specs.Lists.{some_of}
 use Rattle.logic.specs.Tower.{tower_of}
 use Rattle.pair_graph.specs.Steps.{safe_in}
 use Rattle.maker_removal.specs.Removal.{goes_at}
-use Rattle.area_bytes.proofs.Scans.{Left, left_below, some_found, some_more, some_end}
-use Rattle.maker_removal.proofs.Moves.{scan_goes}
-use borrow.Author.Rules.{rules}
+use Rattle.area_bytes.proofs.Scans.{Left}
 use Rattle.maker_removal.proofs.fine.some_goes.Given as goal
 
 abbrev pub invariant-loop-a : goal.invariant-loop-a

@@ -1,6 +1,4 @@
 use borrow.Author.Rules.{rules}
-use mathlib.Core.Path.{◌≡◌}
-use lib.ListN.{length}
 use Rattle.place_book.proofs.grammar.formula.Goals as goal
 
 ruleset all = (rules)

@@ -1,5 +1,4 @@
 -- The stack keeps its length; the number of turns left falls.
-use borrow.Author.Rules.{rules}
 use mathlib.Core.Path.{◌≡◌}
 use lib.ListN.{length}
 use Rattle.place_book.proofs.grammar.formula.Given as goal

@@ -1,6 +1,4 @@
 use borrow.Author.Rules.{rules}
-use lib.ListN.{length}
-use Prim.Native.Nat.{◌-◌}
 use Rattle.place_book.proofs.words.stands_at.Goals as goal
 
 ruleset all = (rules)

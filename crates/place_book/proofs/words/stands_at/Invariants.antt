@@ -1,5 +1,4 @@
 -- Nothing has to hold from turn to turn; fewer letters are left.
-use borrow.Author.Rules.{rules}
 use lib.ListN.{length}
 use Prim.Native.Nat.{◌-◌}
 use Rattle.place_book.proofs.words.stands_at.Given as goal

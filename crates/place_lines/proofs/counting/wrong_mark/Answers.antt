@@ -1,5 +1,4 @@
 use borrow.Author.Rules.{rules}
-use Prim.Native.Nat.{◌-◌}
 use Rattle.place_lines.proofs.counting.wrong_mark.Goals as goal
 
 ruleset all = (rules)

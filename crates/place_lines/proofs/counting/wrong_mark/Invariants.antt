@@ -1,5 +1,4 @@
 -- Nothing has to hold from turn to turn; the end comes nearer.
-use borrow.Author.Rules.{rules}
 use Prim.Native.Nat.{◌-◌}
 use Rattle.place_lines.proofs.counting.wrong_mark.Given as goal
 

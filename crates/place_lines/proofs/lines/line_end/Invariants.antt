@@ -1,5 +1,4 @@
 -- Nothing has to hold from turn to turn; fewer bytes are left.
-use borrow.Author.Rules.{rules}
 use lib.ListN.{length}
 use Prim.Native.Nat.{◌-◌}
 use Rattle.place_lines.proofs.lines.line_end.Given as goal

@@ -1,6 +1,4 @@
 use borrow.Author.Rules.{rules}
-use lib.ListN.{length}
-use Prim.Native.Nat.{◌-◌}
 use Rattle.place_lines.proofs.lines.line_start.Goals as goal
 
 ruleset all = (rules)

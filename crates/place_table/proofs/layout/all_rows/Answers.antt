@@ -1,5 +1,4 @@
 use borrow.Author.Rules.{rules}
-use Prim.Native.Nat.{◌-◌}
 use Rattle.place_table.proofs.layout.all_rows.Goals as goal
 
 ruleset all = (rules)

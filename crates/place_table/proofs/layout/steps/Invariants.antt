@@ -1,5 +1,4 @@
 -- Nothing has to hold from turn to turn; fewer steps are left.
-use borrow.Author.Rules.{rules}
 use Prim.Native.Nat.{◌-◌}
 use Rattle.place_table.proofs.layout.steps.Given as goal
 

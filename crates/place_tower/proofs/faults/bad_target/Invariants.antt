@@ -1,5 +1,4 @@
 -- Nothing has to hold from turn to turn; fewer states are left.
-use borrow.Author.Rules.{rules}
 use Prim.Native.Nat.{◌-◌}
 use Rattle.place_tower.proofs.faults.bad_target.Given as goal
 

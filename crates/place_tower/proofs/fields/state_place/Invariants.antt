@@ -1,5 +1,4 @@
 -- Nothing has to hold from turn to turn; fewer states are left.
-use borrow.Author.Rules.{rules}
 use Rattle.place_tower.proofs.fields.state_place.Given as goal
 
 abbrev pub invariant-loop-left : goal.invariant-loop-left

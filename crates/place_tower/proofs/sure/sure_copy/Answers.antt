@@ -1,7 +1,4 @@
 use borrow.Author.Rules.{rules}
-use Prim.Native.Nat.{◌-◌, ◌≤◌}
-use mathlib.Core.Path.{◌≡◌}
-use lib.ListN.{length}
 use Rattle.place_tower.proofs.sure.sure_copy.Goals as goal
 
 pub loop-i-init : goal.loop-i-init

@@ -1,5 +1,4 @@
 -- The copy keeps its length, and what is copied is inside it; fewer bytes are left at each turn.
-use borrow.Author.Rules.{rules}
 use Prim.Native.Nat.{◌-◌, ◌≤◌}
 use mathlib.Core.Path.{◌≡◌}
 use lib.ListN.{length}
