@@ -51,7 +51,7 @@
 //!
 //! While cargo builds, the environment variable `PROVED_LIBRARIES` names the folder of
 //! `libsuccoryvise.a`, which `tools/build archives` writes: absolute, or relative to the folder in
-//! which cargo is called. The archive is for Linux on x86-64-v2. One of another version of the interface
+//! which cargo is called. The archive is for x86-64 Linux. One of another version of the interface
 //! does not link. The crate needs nothing else, no registry and no network.
 
 #![deny(missing_docs)]
