@@ -4,7 +4,6 @@ use mathlib.Core.Path.{◌≡◌}
 use mathlib.Core.List.{List}
 use lib.ListN.{length, take}
 use Rattle.program_files.specs.declared.reading.Contents.{Contents}
-use Rattle.program_files.specs.declared.reading.Contents.TheVariants as Contents
 use Rattle.program_files.specs.Counts.{HoldsContents}
 
 -- What was read is a part of the area.

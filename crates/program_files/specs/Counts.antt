@@ -1,11 +1,8 @@
 -- How far reading and writing have come.
 use Rattle.std.specs.Prelude.{ℕ, ◌≤◌, ◌≡◌, List, length, take}
 use Rattle.program_files.specs.declared.reading.Contents.{Contents}
-use Rattle.program_files.specs.declared.reading.Contents.TheVariants as Contents
 use Rattle.program_files.specs.declared.reading.Progress.{Progress}
-use Rattle.program_files.specs.declared.reading.Progress.TheVariants as Progress
 use Rattle.program_files.specs.declared.writing.Written.{Written}
-use Rattle.program_files.specs.declared.writing.Written.TheVariants as Written
 
 -- n counts bytes at the start of the area; the second part follows from the first
 pub record Counts (n : ℕ) (area : List ℕ) : Type 0 where

@@ -7,7 +7,6 @@ use lib.ListN.{length, take, length-take}
 use Rattle.log_course.specs.declared.Followed.{Followed}
 use Rattle.program_log.specs.Parts.{InPart}
 use Rattle.program_log.specs.declared.Part.{Part}
-use Rattle.program_log.specs.declared.Part.TheVariants as Part
 
 -- The bytes that were read last are a part of the area.
 pub part_taken : (r : Part) (followed : Followed) (bytes : ℕ) (part : List ℕ) → r ≡ Part.Over followed bytes → InPart r part → bytes ≡ length (take bytes part)

@@ -15,7 +15,6 @@ use Rattle.log_course.specs.Following.{Noted, OnRow, LinesFollowed}
 use Rattle.log_course.specs.declared.Followed.{Followed}
 use Rattle.program_log.specs.Parts.{Kept, GoesOn, InPart}
 use Rattle.program_log.specs.declared.Part.{Part}
-use Rattle.program_log.specs.declared.Part.TheVariants as Part
 
 -- ---- keep
 

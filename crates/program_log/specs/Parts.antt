@@ -6,7 +6,6 @@ use Rattle.outcome.specs.declared.Course.{Course}
 use Rattle.log_course.specs.Following.{OnRow}
 use Rattle.log_course.specs.declared.Followed.{Followed}
 use Rattle.program_log.specs.declared.Part.{Part}
-use Rattle.program_log.specs.declared.Part.TheVariants as Part
 
 -- The bytes from one place to another have been moved to the start.
 pub record Kept (count from end : ℕ) (before after : List ℕ) : Type 0 where

@@ -1,7 +1,5 @@
 use borrow.Author.Rules.{rules}
-use Prim.Native.Nat.{◌-◌}
-use lib.ListN.{length}
-use Rattle.program_files.proofs.Ways.{FolderSoFar, folder_start, folder_slash, folder_on, folder_whole}
+use Rattle.program_files.proofs.Ways.{folder_start, folder_slash, folder_on, folder_whole}
 use Rattle.program_files.proofs.naming.folder_end.Goals as goal
 
 ruleset all = (rules, folder_start, folder_slash, folder_on, folder_whole)

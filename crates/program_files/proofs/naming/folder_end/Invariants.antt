@@ -1,8 +1,7 @@
 -- The loop keeps `FolderSoFar`, and fewer bytes are left at each turn.
-use borrow.Author.Rules.{rules}
 use Prim.Native.Nat.{◌-◌}
 use lib.ListN.{length}
-use Rattle.program_files.proofs.Ways.{FolderSoFar, folder_start, folder_slash, folder_on, folder_whole}
+use Rattle.program_files.proofs.Ways.{FolderSoFar}
 use Rattle.program_files.proofs.naming.folder_end.Given as goal
 
 abbrev pub invariant-loop-i : goal.invariant-loop-i
