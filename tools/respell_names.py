@@ -1,7 +1,7 @@
 #!/usr/bin/env python3
 """Respells this repository's own definitions, lemmas, fields, constructors and variables: words are joined by `_`, not by `-`.
 
-usage: python3 tools/respell_names.py [TOP [KIT]]     after port.py, at the top of the repository
+usage: python3 tools/respell_names.py [TOP [KIT]]     after port.py, at the top of the repository; KIT is the folder of the kit's rt
 
 Which names: the words with a dash in the files of crates/*/specs/ and crates/*/proofs/, but for those of a function's own folder,
 that no file of the kit has, and those that such a file declares. Names that Rattle makes stay, and so do names of Rust's functions,
@@ -12,6 +12,7 @@ Also renamed: modules `specs.Contracts` (the name is Rattle's now) to `specs.Pro
 
 import os
 import re
+import shutil
 import sys
 
 WORD = re.compile(r"[^\s(){}\[\],;.:λ→\"`]+")
@@ -135,4 +136,4 @@ def main(top, kit):
 
 
 if __name__ == "__main__":
-    main(os.path.abspath(sys.argv[1] if len(sys.argv) > 1 else "."), sys.argv[2] if len(sys.argv) > 2 else "/opt/rattle")
+    main(os.path.abspath(sys.argv[1] if len(sys.argv) > 1 else "."), sys.argv[2] if len(sys.argv) > 2 else os.path.dirname(os.path.dirname(os.path.realpath(shutil.which("rt")))))
