@@ -130,15 +130,13 @@ pub fn argument_count<R: Env>(rt: &R) -> usize {
     usize::MAX
 }
 
-// The system's numbers for a name that is too long and for an argument that is not there.
-const NAME_TOO_LONG: i32 = 36;
-
+// The system's number for an argument that is not there.
 const INVALID: i32 = 22;
 
 // Why an argument was not put into an area.
 fn not_filled(why: FillError) -> Error {
     match why {
-        FillError::TooLong => Error::from_raw_os_error(NAME_TOO_LONG),
+        FillError::TooLong => Error::from_raw_os_error(program_saying::NAME_TOO_LONG),
         FillError::NotPresent => Error::from_raw_os_error(INVALID),
     }
 }

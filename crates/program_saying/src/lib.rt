@@ -2,6 +2,8 @@
 // is said.
 #![tactic(auto)]
 
+ghost use Rattle.std.specs.Prelude.{◌≡◌, ◌≤◌, ◌⊎◌, length, IfOk, IfErr, IsUtf8};
+
 use std::io::{Cursor, Eprint, Error, ErrorKind, Write};
 use std::{io, str};
 
@@ -79,13 +81,18 @@ pub fn fail<R: Eprint>(rt: &R, file: &[u8], why: Error) {
     say(rt, b"\n");
 }
 
-// A path of so many bytes is too long for the system, which has this number for that.
+// A path of so many bytes is too long for the system.
 const TOO_LONG: usize = 4096;
 
-const NAME_TOO_LONG: i32 = 36;
+// The system's number for a name that is too long.
+pub const NAME_TOO_LONG: i32 = 36;
 
-// The name of a file as text, which is what std asks the system with.
-pub fn file_name(file: &[u8]) -> io::Result<&str> {
+// The name of a file as text, which is what std asks the system with. It is turned down only where it is too long or no
+// text.
+pub fn file_name(file: &[u8]) -> io::Result<&str>
+    ensures named { IfOk result (λ name. name.now ≡ file.now) }
+    ensures turned_down { IfErr result (λ _. (4096 ≤ length file.now) ⊎ ¬ (IsUtf8 file.now)) }
+{
     if TOO_LONG <= file.len() {
         return Err(Error::from_raw_os_error(NAME_TOO_LONG));
     }

@@ -50,8 +50,9 @@ fn not_regular<R: Eprint>(rt: &R, table: &[u8], kind: u32) {
 
 // Says why the system answers nothing of a file.
 fn say_failure<R: Eprint>(rt: &R, name: &[u8], status: Status) {
-    if let Some(why) = status.failure {
-        program_saying::fail(rt, name, why);
+    match status.failure {
+        Some(why) => program_saying::fail(rt, name, why),
+        None => in_file(rt, name, b"the system does not say what this is"),
     }
 }
 
