@@ -114,7 +114,7 @@ enum succoryvise_course {
 
 /* Stack for a call that reads a rule book, in bytes: it grows with the depth of brackets, N, A, E and U.
  * The deepest text of 4,096 bytes takes up to 0.9 MiB (measured on x86-64;
- * docs/LINKING.md has each shape), the deepest book that is accepted 11 KiB. succoryvise_follow needs less than 1 KiB, and
+ * docs/LINKING.md has each shape), the deepest book that is accepted 9 KiB. succoryvise_follow needs less than 1 KiB, and
  * succoryvise_read_log 33 KiB, however long the log is. */
 #define SUCCORYVISE_STACK 2097152
 

@@ -42,7 +42,7 @@
 //! # Stack
 //!
 //! [`follow`] and [`Player`] need less than 1 KiB of stack, [`read_log`] 33 KiB. What reads a rule book
-//! calls itself for every bracket, `N`, `A`, `E` and `U` that a part of a formula stands in: up to 11 KiB
+//! calls itself for every bracket, `N`, `A`, `E` and `U` that a part of a formula stands in: up to 9 KiB
 //! for books that are accepted, and for a text of 4,096 bytes that is not, up to 0.9 MiB if it is all
 //! brackets, and 0.4 MiB if it is all `A` (measured on x86-64; `docs/LINKING.md` has each shape). The threads of the standard library have 2 MiB if nothing else is asked for. On a thread
 //! with too little the program is ended by the guard page, as after any other recursion.

@@ -5,89 +5,82 @@ use native.Mathlib.Decide.{dec_lt}
 use native.Mathlib.Numerals.{add-one}
 use mathlib.Core.Path.{◌≡◌, refl, sym, ◌∙◌, ap, subst}
 use mathlib.Core.Bool.{Bool, true, false, not, ◌&&◌, ◌||◌}
-use mathlib.Core.Option.{Option, none, some}
+use Rattle.std.specs.Prelude.{Option, None, Some}
 use mathlib.Core.List.{List}
-use lib.ListN.{length, get_or, set, drop, length-set, drop_of_length-le}
+use lib.ListN.{length, get_or, set, take, drop, length-set, drop_of_length-le}
 use lib.Seq.{drop-cons, get_or-set_same, get_or-set_other, ext_get_or}
-use lib.Dec.{leb, ltb, eqb}
-use borrow.Author.Tests.{not-true, not-false, ltb-true, lt-ltb, le-ltb, leb-true, le-leb, eq-eqb, ne_eqb}
+use lib.Dec.{ltb, eqb}
+use borrow.Author.Tests.{not-true, not-false, le-ltb, eq-eqb, ne_eqb}
 use mir.Syntax.{w8}
 use mir.Val.{Fits}
 use Rattle.base.specs.Bytes.{number_at}
-use Rattle.base.proofs.Lists.{same_truth}
-use Rattle.logic.specs.Time.{ticks, at_most, same_ticks}
+use Rattle.logic.specs.Time.{at_most, same_ticks}
 use Rattle.logic.specs.Book.{Formula, constant}
 use Rattle.logic.specs.declared.Tick.{Tick}
+use Rattle.logic.proofs.Ordering.{at_most_number}
+use Rattle.std.proofs.Common.{is_le, nat_cmp}
+use borrow.Rule.Slice.PartMut.{put_mid}
 use Rattle.pending.specs.Pending.{Pending, coming}
 use Rattle.alternatives.specs.Alternatives.{first_cell, later_cells, no_more_ticks, no_more_cell, asks_no_more, cell_number, earlier, both_cells, both}
 use Rattle.alternatives.proofs.Orders.{no_more_cell_refl}
 use Rattle.alternatives.proofs.Antichain.{both_sized}
 use Rattle.area_bytes.proofs.Numbers.{same_bytes}
-use Rattle.book_progression.specs.PendingBytes.{cell_of}
+use Rattle.book_progression.specs.PendingBytes.{cell_of, pending_of}
 use Rattle.book_progression.specs.NodeBytes.{code_of}
 use Rattle.book_progression.specs.Promises.{AreNodes, Merged, Beside, EmptyTo}
-use Rattle.book_progression.proofs.Cells.{cell_there, cell_one_more}
+use Rattle.book_progression.proofs.Cells.{cell_empty, cell_one_more}
 use Rattle.book_progression.proofs.Nodes.{by_kind, by_always, by_until}
-use Rattle.book_progression.proofs.Areas.{beside_none, beside_set, beside_both}
+use Rattle.book_progression.proofs.Areas.{beside_none, beside_set, beside_both, beside_back, part_back, lent, lent_length}
 use Rattle.alternative_bytes.specs.AlternativeBytes.{alternative_in}
-use Rattle.alternative_bytes.specs.Promises.{CellNoMore, CellBoth, EqualTo, DifferAt, NoMore, Related, BothPut, Copied}
+use Rattle.alternative_bytes.specs.Promises.{CellNoMore, CellBoth, EqualTo, DifferAt, NoMore, BothPut, Copied}
 use Rattle.alternative_bytes.proofs.Laws.{cell_number_of, alternative_length, alternative_cell, both_cell_at}
 
 -- ---- one cell asks no more
-
--- Of two bytes that are not 0 and not equal, the smaller has fewer ticks.
-fewer : (a b : ℕ) → (a ≡ 0 → ⊥) → (b ≡ 0 → ⊥) → (a ≡ b → ⊥) → ltb a b ≡ leb (a - 1) (b - 1)
-fewer a b there there' apart =
-    same_truth (ltb a b) (leb (a - 1) (b - 1)) (λ e. le-leb (a - 1) (b - 1) (omega (arith, ltb-true a b e)))
-    (λ e. lt-ltb a b (omega (arith, leb-true (a - 1) (b - 1) e)))
 
 module _ (bytes : List ℕ) (k cell other : ℕ) where
   pub no_more_same : cell ≡ other → CellNoMore true bytes k cell other
   no_more_same e = record { says = λ f s. rw e (sym (no_more_cell_refl f (cell_of other))) }
 
-  pub no_more_none : cell ≡ 0 → CellNoMore true bytes k cell other
-  unfolding cell_of no_more_cell
-  no_more_none e = record { says = λ f s. rw e refl }
+  pub no_more_none : None ≡ cell_of cell → CellNoMore true bytes k cell other
+  unfolding no_more_cell
+  no_more_none e = record { says = λ f s. rw (← e) refl }
 
-  pub more_than_none : (cell ≡ 0 → ⊥) → other ≡ 0 → CellNoMore false bytes k cell other
-  unfolding cell_of no_more_cell
-  more_than_none there e = record { says = λ f s. rw (cell_there cell there, e) refl }
-
-  module _ (apart : cell ≡ other → ⊥) (there : cell ≡ 0 → ⊥) (there' : other ≡ 0 → ⊥) (code : ℕ) (same : code ≡ code_of bytes k) where
-    -- both cells have a number
-    numbers : (f : Formula) → no_more_cell f (cell_of cell) (cell_of other) ≡ no_more_ticks f (ticks (cell - 1)) (ticks (other - 1))
+  module _ (r : Tick) (there : Some r ≡ cell_of cell) where
+    pub more_than_none : None ≡ cell_of other → CellNoMore false bytes k cell other
     unfolding no_more_cell
-    numbers f = rw (cell_there cell there, cell_there other there') refl
+    more_than_none e = record { says = λ f s. rw (← there, ← e) refl }
 
-    pub no_more_always : code ≡ 11 → CellNoMore (ltb cell other) bytes k cell other
-    unfolding no_more_ticks at_most
-    no_more_always eleven =
-        record {
-          says = λ f s. by_always bytes k (λ f. ltb cell other ≡ no_more_cell f (cell_of cell) (cell_of other)) f s (omega arith)
-              (λ t g s. fewer cell other there there' apart ∙ sym (numbers _));
-        }
+    module _ (q : Tick) (there' : Some q ≡ cell_of other) (code : ℕ) (same : code ≡ code_of bytes k) (b : Bool) where
+      -- both cells have a number
+      numbers : (f : Formula) → no_more_ticks f r q ≡ no_more_cell f (cell_of cell) (cell_of other)
+      unfolding no_more_cell
+      numbers f = rw (← there, ← there') refl
 
-    pub no_more_until : code ≡ 12 → CellNoMore (ltb other cell) bytes k cell other
-    unfolding no_more_ticks at_most
-    no_more_until twelve =
-        record {
-          says = λ f s. by_until bytes k (λ f. ltb other cell ≡ no_more_cell f (cell_of cell) (cell_of other)) f s (omega arith)
-              (λ t g h s. fewer other cell there' there (λ e. apart (sym e)) ∙ sym (numbers _));
-        }
+      pub no_more_always : code ≡ 11 → b ≡ is_le (nat_cmp r.0 q.0) → CellNoMore b bytes k cell other
+      unfolding no_more_ticks at_most
+      no_more_always eleven le =
+          record {
+            says = λ f s. by_always bytes k (λ f. b ≡ no_more_cell f (cell_of cell) (cell_of other)) f s (omega arith)
+                (λ t g s. le ∙ at_most_number r.0 q.0 ∙ numbers _);
+          }
 
-    differ : false ≡ same_ticks (ticks (cell - 1)) (ticks (other - 1))
-    unfolding same_ticks
-    differ = sym (ne_eqb (cell - 1) (other - 1) (λ e. apart (omega arith)))
+      pub no_more_until : code ≡ 12 → b ≡ is_le (nat_cmp q.0 r.0) → CellNoMore b bytes k cell other
+      unfolding no_more_ticks at_most
+      no_more_until twelve le =
+          record {
+            says = λ f s. by_until bytes k (λ f. b ≡ no_more_cell f (cell_of cell) (cell_of other)) f s (omega arith)
+                (λ t g h s. le ∙ at_most_number q.0 r.0 ∙ numbers _);
+          }
 
-    pub more_other : (code ≡ 11 → ⊥) → (code ≡ 12 → ⊥) → CellNoMore false bytes k cell other
-    unfolding no_more_ticks
-    more_other not_always not_until =
-        record {
-          says = λ f s. by_kind bytes k (λ f. false ≡ no_more_cell f (cell_of cell) (cell_of other)) f s
-              (λ b s lo. differ ∙ sym (numbers _)) (λ a b s lo up. differ ∙ sym (numbers _)) (λ a b s at. differ ∙ sym (numbers _))
-              (λ a b s lo up. differ ∙ sym (numbers _)) (λ a b c s lo up. differ ∙ sym (numbers _))
-              (λ a b s at. absurd (omega arith)) (λ a b c s at. absurd (omega arith));
-        }
+      pub no_more_other : (code ≡ 11 → ⊥) → (code ≡ 12 → ⊥) → b ≡ eqb r.0 q.0 → CellNoMore b bytes k cell other
+      unfolding no_more_ticks same_ticks
+      no_more_other not_always not_until eq =
+          record {
+            says = λ f s. by_kind bytes k (λ f. b ≡ no_more_cell f (cell_of cell) (cell_of other)) f s
+                (λ b s lo. eq ∙ numbers _) (λ a b s lo up. eq ∙ numbers _) (λ a b s at. eq ∙ numbers _)
+                (λ a b s lo up. eq ∙ numbers _) (λ a b c s lo up. eq ∙ numbers _)
+                (λ a b s at. absurd (omega arith)) (λ a b c s at. absurd (omega arith));
+          }
 
 -- ---- equal bytes
 
@@ -110,26 +103,6 @@ module _ (n : ℕ) (area : List ℕ) (p q k i : ℕ) (so_far : EqualTo n area p 
               rw (← place, ← place') (same_bytes 8 area (p + i) (q + i) bytes (sym is_x ∙ same ∙ is_y) (j - i) (omega arith)))
         ];
       }
-
-  -- The next byte is equal.
-  pub equal_one : get_or area (p + i) 0 ≡ get_or area (q + i) 0 → i < n → EqualTo n area p q k (i + 1)
-  equal_one same low =
-      record {
-        least = omega (arith, so_far.least);
-        most = omega arith;
-        equal = λ j from below. elim (dec_lt j i) [
-          | yes before ↦ so_far.equal j from before
-          | no here ↦ let last : j ≡ i = omega arith in rw last same
-        ];
-      }
-
-  -- It is not,
-  pub differ_here : (get_or area (p + i) 0 ≡ get_or area (q + i) 0 → ⊥) → DifferAt n area p q k i
-  differ_here apart = record { before = so_far; apart = λ low. apart }
-
-  -- or there is none.
-  pub differ_end : n ≤ i → DifferAt n area p q k i
-  differ_end over = record { before = so_far; apart = λ low same. omega arith }
 
 -- What passes over one equal byte passes over them all.
 pass_over : (P : ℕ → Type 0) (n : ℕ) (area : List ℕ) (p q k r : ℕ)
@@ -159,9 +132,9 @@ asking_all bytes n area p q = record { low = omega arith; left = λ fs are. refl
 -- the next cells, and those behind them
 asks_cons : (fs : List Formula) (o u : Pending) (k : ℕ) → k < length fs → k < length o → k < length u
     → asks_no_more (drop k fs) (drop k o) (drop k u)
-    ≡ (no_more_cell (get_or fs k (constant false)) (get_or o k none) (get_or u k none) && asks_no_more (drop (k + 1) fs) (drop (k + 1) o) (drop (k + 1) u))
+    ≡ (no_more_cell (get_or fs k (constant false)) (get_or o k None) (get_or u k None) && asks_no_more (drop (k + 1) fs) (drop (k + 1) o) (drop (k + 1) u))
 unfolding asks_no_more first_cell later_cells
-asks_cons fs o u k a b c = rw (drop-cons fs k (constant false) a, drop-cons o k none b, drop-cons u k none c, add-one) refl
+asks_cons fs o u k a b c = rw (drop-cons fs k (constant false) a, drop-cons o k None b, drop-cons u k None c, add-one) refl
 
 module _ (bytes : List ℕ) (n : ℕ) (area : List ℕ) (p q k : ℕ) (going : Asking bytes n area p q k) where
   pub asking_end : n ≤ k → NoMore true bytes n area p q
@@ -215,31 +188,6 @@ asking_on bytes n area p q k r b differ going cells passes low fits fits' =
 pub fewer_left : (n : ℕ) (area : List ℕ) (p q k r : ℕ) → DifferAt n area p q (k + 1) r → k < n → n - r < n - k
 fewer_left n area p q k r differ low = omega (arith, differ.before.least)
 
--- ---- how two are related
-
--- They differ first where they do the other way round.
-pub differ_turned : (n : ℕ) (area : List ℕ) (p q k r : ℕ) → DifferAt n area p q k r → DifferAt n area q p k r
-differ_turned n area p q k r differ =
-    record {
-      before = record {
-        least = differ.before.least;
-        most = differ.before.most;
-        equal = λ j from below. sym (differ.before.equal j from below);
-      };
-      apart = λ low same. differ.apart low (sym same);
-    }
-
-module _ (bytes : List ℕ) (n : ℕ) (area : List ℕ) (p q : ℕ) (a : Bool) (one : NoMore a bytes n area p q) where
-  pub related_no_more : a ≡ true → Related 1 bytes n area p q
-  related_no_more is =
-      record { no_more = λ e. rw (← is) one; more = λ other. absurd (other refl); apart = λ e. absurd (omega arith) }
-
-  pub related_no_less : a ≡ false → Related 2 bytes n area p q
-  related_no_less is = record { no_more = λ e. absurd (omega arith); more = λ other. rw (← is) one; apart = λ e. absurd (omega arith) }
-
-  pub related_apart : (b : Bool) → NoMore b bytes n area q p → a ≡ false → b ≡ false → Related 0 bytes n area p q
-  related_apart b two is is_too = record { no_more = λ e. absurd (omega arith); more = λ other. rw (← is) one; apart = λ e. rw (← is_too) two }
-
 -- ---- which comes first
 
 -- The bytes from k on decide.
@@ -250,10 +198,10 @@ record Ordering (n : ℕ) (area : List ℕ) (p q k : ℕ) : Type 0 where
 -- the next cells, and those behind them
 earlier_cons : (o u : Pending) (k : ℕ) → k < length o → k < length u
     → earlier (drop k o) (drop k u)
-    ≡ (ltb (cell_number (get_or o k none)) (cell_number (get_or u k none))
-    || (eqb (cell_number (get_or o k none)) (cell_number (get_or u k none)) && earlier (drop (k + 1) o) (drop (k + 1) u)))
+    ≡ (ltb (cell_number (get_or o k None)) (cell_number (get_or u k None))
+    || (eqb (cell_number (get_or o k None)) (cell_number (get_or u k None)) && earlier (drop (k + 1) o) (drop (k + 1) u)))
 unfolding earlier
-earlier_cons o u k b c = rw (drop-cons o k none b, drop-cons u k none c, add-one) refl
+earlier_cons o u k b c = rw (drop-cons o k None b, drop-cons u k None c, add-one) refl
 
 or_none : (a : Bool) → (a || false) ≡ a
 or_none true = refl
@@ -283,7 +231,7 @@ module _ (n : ℕ) (area : List ℕ) (p q : ℕ) (fits : p + n ≤ length area) 
   ordering_from k differ = pass_over (Ordering n area p q) n area p q 0 k ordering_on differ.before (record { left = refl })
 
 -- They do not differ.
-pub ordering_end : (n : ℕ) (area : List ℕ) (p q k : ℕ) → DifferAt n area p q 0 k → k ≡ n → p + n ≤ length area → q + n ≤ length area
+pub ordering_end : (n : ℕ) (area : List ℕ) (p q k : ℕ) → DifferAt n area p q 0 k → n ≤ k → p + n ≤ length area → q + n ≤ length area
     → false ≡ earlier (alternative_in area n p) (alternative_in area n q)
 unfolding earlier
 ordering_end n area p q k differ over fits fits' =
@@ -293,31 +241,30 @@ ordering_end n area p q k differ over fits fits' =
     ∙ rw (drop_of_length-le (alternative_in area n p) done, drop_of_length-le (alternative_in area n q) done') refl)
 
 -- They differ first at k.
-pub ordering_differ : (n : ℕ) (area : List ℕ) (p q k : ℕ) → DifferAt n area p q 0 k → (k ≡ n → ⊥) → p + n ≤ length area → q + n ≤ length area
+pub ordering_differ : (n : ℕ) (area : List ℕ) (p q k : ℕ) → DifferAt n area p q 0 k → k < n → p + n ≤ length area → q + n ≤ length area
     → ltb (get_or area (p + k) 0) (get_or area (q + k) 0) ≡ earlier (alternative_in area n p) (alternative_in area n q)
-ordering_differ n area p q k differ inside fits fits' =
-    let low : k < n = omega (arith, differ.before.most) in
+ordering_differ n area p q k differ low fits fits' =
     sym (compared n area p q fits fits' k (ordering_from n area p q fits fits' k differ) low
     ∙ rw (ne_eqb (get_or area (p + k) 0) (get_or area (q + k) 0) (differ.apart low)) (or_none (ltb (get_or area (p + k) 0) (get_or area (q + k) 0))))
 
 -- ---- both cells
 
 module _ (bytes : List ℕ) (k cell other : ℕ) where
-  pub both_first : other ≡ 0 → CellBoth cell bytes k cell other
-  unfolding both_cells cell_of
-  both_first e = record { says = λ f s. rw e (sym (alone f (cell_of cell))) }
+  pub both_first : None ≡ cell_of other → CellBoth cell bytes k cell other
+  unfolding both_cells
+  both_first e = record { says = λ f s. rw (← e) (sym (alone f (cell_of cell))) }
     where
-      alone : (f : Formula) (o : Option Tick) → both_cells f o none ≡ o
-      alone f none = refl
-      alone f (some r) = refl
+      alone : (f : Formula) (o : Option Tick) → both_cells f o None ≡ o
+      alone f None = refl
+      alone f (Some r) = refl
 
-  pub both_merged : (m : Tick) → (other ≡ 0 → ⊥) → Merged m bytes k (ticks (other - 1)) cell → CellBoth (m.0 + 1) bytes k cell other
+  pub both_merged : (r m : Tick) → Some r ≡ cell_of other → Merged m bytes k r cell → CellBoth (m.0 + 1) bytes k cell other
   unfolding both_cells coming
-  both_merged m there merged = record { says = λ f s. cell_one_more m.0 ∙ rw (cell_there other there, merged.says f s) (came f (cell_of cell)) }
+  both_merged r m there merged = record { says = λ f s. cell_one_more m.0 ∙ rw (← there, merged.says f s) (came f (cell_of cell)) }
     where
-      came : (f : Formula) (o : Option Tick) → some (coming f (ticks (other - 1)) o) ≡ both_cells f o (some (ticks (other - 1)))
-      came f none = refl
-      came f (some r) = refl
+      came : (f : Formula) (o : Option Tick) → Some (coming f r o) ≡ both_cells f o (Some r)
+      came f None = refl
+      came f (Some q) = refl
 
 -- ---- an alternative is written, byte by byte
 
@@ -349,20 +296,18 @@ filling_on Says first to n area k v going low fits says =
         let last : j ≡ k = omega arith in
         rw last (subst (Says k) (sym (get_or-set_same area (to + k) v 0 (omega (arith, going.size)))) says)
 
--- what byte j of a copy should be
-abbrev pub SameByte : List ℕ → ℕ → ℕ → ℕ → Type 0
-SameByte area p j byte = byte ≡ get_or area (p + j) 0
-
-module _ (n : ℕ) (area : List ℕ) (p : ℕ) (room : List ℕ) (to : ℕ) (after : List ℕ) (k : ℕ) (over : n ≤ k) (fits : to + n ≤ length room) where
-  pub copy_end : Filling (SameByte area p) room to n after k → p + n ≤ length area → Copied n area p room to after
-  copy_end going fits_p =
-      let length_to = alternative_length after n to (omega (arith, going.size)) in
-      record {
-        beside = going.beside;
-        is = ext_get_or none (alternative_in after n to) (alternative_in area n p) (length_to ∙ sym (alternative_length area n p fits_p))
-            (λ i inside. let low : i < n = omega (arith, length_to) in
-            alternative_cell after n to i low ∙ ap cell_of (going.says i (omega arith)) ∙ sym (alternative_cell area n p i low));
-      }
+-- The bytes of an alternative take the place of others.
+pub copied : (n : ℕ) (area : List ℕ) (p : ℕ) (room : List ℕ) (to : ℕ) (bytes : List ℕ) → bytes ≡ take (p + n - p) (drop p area)
+    → p + n ≤ length area → to + n ≤ length room → Copied n area p room to (put_mid to (to + n - to) room bytes)
+unfolding alternative_in
+copied n area p room to bytes are fits fits' =
+    record {
+      beside = beside_back room to n bytes fits' many;
+      is = ap pending_of (part_back room to n bytes fits' many ∙ are ∙ lent area p n);
+    }
+  where
+    many : length bytes ≡ n
+    many = ap length are ∙ lent_length area p n fits
 
 -- ---- both of two alternatives
 
@@ -383,7 +328,7 @@ module _ (bytes : List ℕ) (n : ℕ) (area : List ℕ) (p q : ℕ) (first : Lis
       record {
         filling = filling_start (BothByte bytes area p q) first to n;
         fits = omega (arith, copied.beside.size);
-        still = λ j from low. sym (alternative_cell first n to j low) ∙ ap (λ (o : Pending). get_or o j none) copied.is ∙ alternative_cell area n p j low;
+        still = λ j from low. sym (alternative_cell first n to j low) ∙ ap (λ (o : Pending). get_or o j None) copied.is ∙ alternative_cell area n p j low;
       }
 
   -- empty cells are passed over
@@ -399,7 +344,7 @@ module _ (bytes : List ℕ) (n : ℕ) (area : List ℕ) (p q : ℕ) (first : Lis
             | yes before ↦ going.filling.says j before
             | no here ↦ record {
               says = λ f s. going.still j (omega arith) (omega (arith, over.most))
-                  ∙ (both_first bytes j (get_or area (p + j) 0) (get_or area (q + j) 0) (over.empty j (omega arith) below)).says f s;
+                  ∙ (both_first bytes j (get_or area (p + j) 0) (get_or area (q + j) 0) (cell_empty _ (over.empty j (omega arith) below))).says f s;
             }
           ];
         };
@@ -439,7 +384,7 @@ merging_end bytes n area p q entry first to after k going copied over =
     record {
       beside = beside_both entry to n first after copied.beside going.filling.beside;
       says = λ fs are.
-          ext_get_or none (alternative_in after n to) (both fs (alternative_in area n p) (alternative_in area n q))
+          ext_get_or None (alternative_in after n to) (both fs (alternative_in area n p) (alternative_in area n q))
           (length_to ∙ sym (both_sized fs (alternative_in area n p) (alternative_in area n q) ∙ are.all))
           (λ i inside. let low : i < n = omega (arith, length_to) in
           let there : i < length fs = omega (arith, are.all) in

@@ -6,6 +6,8 @@ use Rattle.alternatives.specs.Alternatives.{no_more_cell, asks_no_more, both_cel
 use Rattle.book_progression.specs.PendingBytes.{cell_of}
 use Rattle.book_progression.specs.NodeBytes.{Stored}
 use Rattle.book_progression.specs.Promises.{AreNodes, Beside}
+use Rattle.alternative_bytes.specs.declared.Relation.{Relation}
+use Rattle.alternative_bytes.specs.declared.Relation.TheVariants as Told
 use Rattle.alternative_bytes.specs.AlternativeBytes.{alternative_in}
 
 -- Of node k one cell asks no more than another.
@@ -31,12 +33,12 @@ pub record DifferAt (n : ℕ) (area : List ℕ) (p q k r : ℕ) : Type 0 where
 pub record NoMore (answer : Bool) (bytes : List ℕ) (n : ℕ) (area : List ℕ) (p q : ℕ) : Type 0 where
   pub says : (fs : List Formula) → AreNodes bytes n fs → answer ≡ asks_no_more fs (alternative_in area n p) (alternative_in area n q)
 
--- How the alternatives at p and q are related: 1 exactly if the first asks no more; 0 only if neither asks no more. What else 2 means is left open:
--- whoever is told 2 compares again.
-pub record Related (answer : ℕ) (bytes : List ℕ) (n : ℕ) (area : List ℕ) (p q : ℕ) : Type 0 where
-  pub no_more : answer ≡ 1 → NoMore true bytes n area p q
-  pub more : (answer ≡ 1 → ⊥) → NoMore false bytes n area p q
-  pub apart : answer ≡ 0 → NoMore false bytes n area q p
+-- How the alternatives at p and q are related: whether the first asks no more, only the second, or neither.
+pub record Related (answer : Relation) (bytes : List ℕ) (n : ℕ) (area : List ℕ) (p q : ℕ) : Type 0 where
+  pub no_more : answer ≡ Told.NoMore → NoMore true bytes n area p q
+  pub more : (answer ≡ Told.NoMore → ⊥) → NoMore false bytes n area p q
+  pub no_less : answer ≡ Told.NoLess → NoMore true bytes n area q p
+  pub apart : answer ≡ Told.Apart → NoMore false bytes n area q p
 
 -- The alternative at `to` becomes both of those at p and q of another area. Every other byte stays.
 pub record BothPut (bytes : List ℕ) (n : ℕ) (area : List ℕ) (p q : ℕ) (room : List ℕ) (to : ℕ) (after : List ℕ) : Type 0 where

@@ -10,40 +10,34 @@ ghost use Rattle.alternative_bytes.specs.AlternativeBytes.{alternative_in};
 ghost use Rattle.alternative_bytes.specs.Promises.{CellNoMore, EqualTo, DifferAt, NoMore, Related, CellBoth, BothPut, Copied};
 
 use area_bytes::eight_bytes;
-use book_progression::{node, past_empty};
-use logic::Tick;
+use book_progression::{merged, node, past_empty, pending};
 
-// How two alternatives are related: each asks more somewhere; the first asks no more; only the second
-// asks no more.
-pub const APART: u8 = 0;
+// How two alternatives are related: the first asks no more; only the second asks no more; each asks more
+// somewhere.
+#[derive(Clone, Copy, PartialEq, Eq)]
+pub enum Relation {
+    NoMore,
+    NoLess,
+    Apart,
+}
 
-pub const NO_MORE: u8 = 1;
-
-pub const NO_LESS: u8 = 2;
-
-// Whether of node k a cell asks no more than another: where the bytes differ, nothing asks least, of A
-// the smaller number asks less, of U the larger; no other node has two numbers.
+// Whether of node k a cell asks no more than another: nothing asks least, of A the smaller number asks
+// less, of U the larger; no other node has two numbers.
 fn cell_no_more(book: &[u8], k: usize, cell: u8, other: u8) -> bool
     requires { IsNode book.now k }
     ensures { CellNoMore result book.now k cell other }
 {
-    if cell == other {
+    let Some(r) = pending(cell) else {
         return true;
-    }
-    if cell == 0 {
-        return true;
-    }
-    if other == 0 {
+    };
+    let Some(q) = pending(other) else {
         return false;
+    };
+    match node::code(book, k) {
+        node::ALWAYS => r <= q,
+        node::UNTIL => q <= r,
+        _ => r == q,
     }
-    let code = node::code(book, k);
-    if code == node::ALWAYS {
-        return cell < other;
-    }
-    if code == node::UNTIL {
-        return other < cell;
-    }
-    false
 }
 
 // Passes over equal bytes, eight at a time, in the alternatives at p and q: those from k to the answer
@@ -71,14 +65,12 @@ fn next_difference(n: usize, area: &[u8], p: usize, q: usize, k: usize) -> usize
     requires k_le_n { k ≤ n }
     ensures { DifferAt n area.now p q k result }
 {
-    let mut i = past_eights(n, area, p, q, k);
-    while i < n {
+    for i in past_eights(n, area, p, q, k)..n {
         if area[p + i] != area[q + i] {
             return i;
         }
-        i += 1;
     }
-    i
+    n
 }
 
 // Whether the alternative at p asks no more than that at q at any node, the first two bytes that differ
@@ -113,7 +105,7 @@ pub fn asks_no_more(book: &[u8], n: usize, area: &[u8], p: usize, q: usize) -> b
 
 // Whether the alternative at p asks no more than that at q, else whether that at q asks no more, or
 // neither. What they have in common is passed over once.
-pub fn related(book: &[u8], n: usize, area: &[u8], p: usize, q: usize) -> u8
+pub fn related(book: &[u8], n: usize, area: &[u8], p: usize, q: usize) -> Relation
     requires has_nodes { HasNodes book.now n }
     requires n_in_bounds { p + n ≤ length area.now }
     requires n_in_bounds_2 { q + n ≤ length area.now }
@@ -121,12 +113,12 @@ pub fn related(book: &[u8], n: usize, area: &[u8], p: usize, q: usize) -> u8
 {
     let first = next_difference(n, area, p, q, 0);
     if asks_from(book, n, area, p, q, first) {
-        return NO_MORE;
+        return Relation::NoMore;
     }
     if asks_from(book, n, area, q, p, first) {
-        return NO_LESS;
+        return Relation::NoLess;
     }
-    APART
+    Relation::Apart
 }
 
 // Whether the alternative at p comes before that at q: the lowest node of which they say two things
@@ -137,10 +129,7 @@ pub fn comes_earlier(n: usize, area: &[u8], p: usize, q: usize) -> bool
     ensures { result ≡ earlier (alternative_in area.now n p) (alternative_in area.now n q) }
 {
     let k = next_difference(n, area, p, q, 0);
-    if k == n {
-        return false;
-    }
-    area[p + k] < area[q + k]
+    k < n && area[p + k] < area[q + k]
 }
 
 // What both cells ask of node k.
@@ -148,11 +137,10 @@ fn both_cell(book: &[u8], k: usize, cell: u8, other: u8) -> u8
     requires { IsNode book.now k }
     ensures { CellBoth result book.now k cell other }
 {
-    if other == 0 {
+    let Some(r) = pending(other) else {
         return cell;
-    }
-    let left = book_progression::merged(book, k, Tick(other as u64 - 1), cell);
-    (left.0 + 1) as u8
+    };
+    book_progression::cell(merged(book, k, r, cell))
 }
 
 // The alternative at `to` of the room becomes that at p of the other area.
@@ -161,11 +149,7 @@ pub fn copy(n: usize, area: &[u8], p: usize, room: &mut [u8], to: usize)
     requires n_in_bounds_2 { to + n ≤ length room.old }
     ensures { Copied n area.now p room.old to room.new }
 {
-    let mut k = 0;
-    while k < n {
-        room[to + k] = area[p + k];
-        k += 1;
-    }
+    room[to..to + n].copy_from_slice(&area[p..p + n]);
 }
 
 // The alternative at `to` of the room becomes both of those at p and q: where the cell at q is empty,

@@ -1,7 +1,7 @@
 -- What holds of every set that progression gives: it is enough that it holds of the simplest sets, and that combining and joining keep it.
 use Prim.Native.Nat.{ℕ, suc, ◌+◌}
 use mathlib.Core.Bool.{Bool, true, false, ◌&&◌}
-use mathlib.Core.Option.{none, some}
+use Rattle.std.specs.Prelude.{None, Some}
 use mathlib.Core.List.{List, [], ◌∷◌}
 use Rattle.base.specs.Choice.{pick}
 use Rattle.logic.specs.Time.{minus, at_most}
@@ -66,8 +66,8 @@ module _ (fs : List Formula) (Has : Alternatives → Type 0) (closed : Closed fs
   unfolding combined_nodes
   nodes_have [] k cells s h = h
   nodes_have (g ∷ gs) k [] s h = h
-  nodes_have (g ∷ gs) k (none ∷ cells) s h = nodes_have gs (suc k) cells s h
-  nodes_have (g ∷ gs) k (some r ∷ cells) s h =
+  nodes_have (g ∷ gs) k (None ∷ cells) s h = nodes_have gs (suc k) cells s h
+  nodes_have (g ∷ gs) k (Some r ∷ cells) s h =
       nodes_have gs (suc k) cells (combined fs s (of g k r)) (closed.both s (of g k r) h (of_has g k r))
 
   rule_has : (form : Form) (f : Formula) (k : ℕ) (s : Alternatives) → Has s → Has (combined_rule tower fs x d form f k s)

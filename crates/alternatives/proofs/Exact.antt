@@ -4,7 +4,7 @@ use mathlib.Core.Path.{◌≡◌, refl, subst}
 use mathlib.Core.Logic.Iff
 use mathlib.Core.Logic.{◌⊎◌, ⊎_swap}
 use mathlib.Core.Bool.{Bool, true, false, ◌&&◌, not, and-eq-true_iff, false≢true}
-use mathlib.Core.Option.{none, some}
+use Rattle.std.specs.Prelude.{None, Some}
 use mathlib.Core.List.Memᴰ
 use mathlib.Core.List.{List, [], ◌∷◌}
 use borrow.Author.Tests.{not-true}
@@ -172,8 +172,8 @@ module _ (tower : Tower) (m : Moment) (run : Trace) (all : List Formula) where
   unfolding combined_nodes
   offers_nodes [] k cells s P sit o = offers_iff all Ahead s P (P × Unit {0}) (λ h. (h, tt), λ h. h.0) o
   offers_nodes (g ∷ gs) k [] s P sit o = offers_iff all Ahead s P (P × Unit {0}) (λ h. (h, tt), λ h. h.0) o
-  offers_nodes (g ∷ gs) k (none ∷ cells) s P sit o = offers_nodes gs (suc k) cells s P sit.1 o
-  offers_nodes (g ∷ gs) k (some r ∷ cells) s P sit o =
+  offers_nodes (g ∷ gs) k (None ∷ cells) s P sit o = offers_nodes gs (suc k) cells s P sit.1 o
+  offers_nodes (g ∷ gs) k (Some r ∷ cells) s P sit o =
       offers_iff all Ahead (combined_nodes tower all m.state (duration tower m) gs (suc k) cells (combined all s (step g k r)))
       ((P × Here (with_left g r)) × NodesNow tower m run gs cells) (P × (Here (with_left g r) × NodesNow tower m run gs cells))
       (λ h. (h.0.0, (h.0.1, h.1)), λ h. ((h.0, h.1.0), h.1.1))

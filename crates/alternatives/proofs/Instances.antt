@@ -3,7 +3,7 @@
 use Prim.Native.Nat.{ℕ}
 use mathlib.Core.Path.{◌≡◌, refl}
 use mathlib.Core.Bool.{true}
-use mathlib.Core.Option.{none, some}
+use Rattle.std.specs.Prelude.{None, Some}
 use mathlib.Core.List.{List, [], ◌∷◌, map}
 use lib.ListN.{length, replicate, set}
 use lib.Dec.{eqb}
@@ -26,7 +26,7 @@ unfolding promise
 promises = replicate 17 promise
 
 unfoldable alone : ℕ → Pending
-alone k = set (replicate 17 none) k (some (ticks 8))
+alone k = set (replicate 17 None) k (Some (ticks 8))
 
 unfoldable first_ones : ℕ → Alternatives
 first_ones n = these (map alone (below n))
@@ -57,12 +57,12 @@ unfolding opened
 dropped_not_counted = refl
 
 -- Of two numbers of A the smaller is kept, of U the larger: the alternative that asks less.
-less_of_always : set_of (promise ∷ []) ((some (ticks 5) ∷ []) ∷ (some (ticks 3) ∷ []) ∷ []) ≡ (some (ticks 3) ∷ []) ∷ []
+less_of_always : set_of (promise ∷ []) ((Some (ticks 5) ∷ []) ∷ (Some (ticks 3) ∷ []) ∷ []) ≡ (Some (ticks 3) ∷ []) ∷ []
 unfolding opened
 less_of_always = refl
 
-less_of_until : set_of (until (ticks 9) (constant true) (constant true) ∷ []) ((some (ticks 5) ∷ []) ∷ (some (ticks 3) ∷ []) ∷ [])
-    ≡ (some (ticks 5) ∷ []) ∷ []
+less_of_until : set_of (until (ticks 9) (constant true) (constant true) ∷ []) ((Some (ticks 5) ∷ []) ∷ (Some (ticks 3) ∷ []) ∷ [])
+    ≡ (Some (ticks 5) ∷ []) ∷ []
 unfolding opened
 less_of_until = refl
 
@@ -86,7 +86,7 @@ one_state =
       kind = λ a. 1;
       step_length = λ x a. ticks 1;
       marked = λ x k. eqb k 0;
-      target = λ x a. some 0;
+      target = λ x a. Some 0;
     }
 
 -- Where the untimed side of `|` holds the timed side is not looked at.

@@ -2,7 +2,7 @@
 use Prim.Native.Nat.{ℕ, suc, ◌+◌}
 use mathlib.Core.Path.{◌≡◌, refl, ◌∙◌, ap, ap₂}
 use mathlib.Core.Bool.{◌&&◌}
-use mathlib.Core.Option.{none, some}
+use Rattle.std.specs.Prelude.{None, Some}
 use mathlib.Core.List.{List, [], ◌∷◌}
 use Rattle.base.specs.Choice.{pick}
 use Rattle.logic.specs.Time.{minus, at_most}
@@ -41,8 +41,8 @@ module _ (tower other : Tower) (x y : ℕ) (same : (k : ℕ) → tower.marked x 
     unfolding combined_nodes
     nodes_same [] k cells s = refl
     nodes_same (g ∷ gs) k [] s = refl
-    nodes_same (g ∷ gs) k (none ∷ cells) s = nodes_same gs (suc k) cells s
-    nodes_same (g ∷ gs) k (some r ∷ cells) s =
+    nodes_same (g ∷ gs) k (None ∷ cells) s = nodes_same gs (suc k) cells s
+    nodes_same (g ∷ gs) k (Some r ∷ cells) s =
         ap (λ t. combined_nodes tower fs x d gs (suc k) cells (combined fs s t)) (of_same g k r)
         ∙ nodes_same gs (suc k) cells (combined fs s (alternatives_of other fs y d g k r))
 

@@ -4,7 +4,8 @@ use native.Mathlib.Omega.{arith}
 use mathlib.Core.Path.{◌≡◌, refl, sym, ap, subst}
 use mathlib.Core.Logic.{◌↔◌}
 use mathlib.Core.Bool.{true, false, false≢true}
-use mathlib.Core.Option.{Option, none, some, none-ne-some, some-injective}
+use Rattle.std.specs.Prelude.{Option, None, Some}
+use Rattle.base.proofs.Options.{none-ne-some, some-injective}
 use mathlib.Core.List.{List, [], ◌∷◌}
 use lib.ListN.{length, get_or, set, replicate}
 use borrow.Author.Tests.{leb-true}
@@ -35,8 +36,8 @@ Merging Q = (f : Formula) (r q : Tick) → Q (with_left f (merge f r q)) ↔ (Q 
 module _ (Q : Formula → Type 0) where
   -- what a cell asks
   abbrev pub CellMet : Formula → Option Tick → Type 0
-  CellMet f none = Unit {0}
-  CellMet f (some r) = Q (with_left f r)
+  CellMet f None = Unit {0}
+  CellMet f (Some r) = Q (with_left f r)
 
   -- what an alternative asks; fs are the nodes
   abbrev pub Met : List Formula → Pending → Type 0
@@ -45,15 +46,15 @@ module _ (Q : Formula → Type 0) where
 
   -- The same by the number of the node.
   abbrev pub MetAt : List Formula → Pending → Type 0
-  MetAt fs p = (k : ℕ) (r : Tick) → k < length fs → get_or p k none ≡ some r → Q (with_left (get_or fs k (constant false)) r)
+  MetAt fs p = (k : ℕ) (r : Tick) → k < length fs → get_or p k None ≡ Some r → Q (with_left (get_or fs k (constant false)) r)
 
-  cell_out : (f : Formula) (o : Option Tick) (r : Tick) → CellMet f o → o ≡ some r → Q (with_left f r)
-  cell_out f none r h e = absurd (none-ne-some r e)
-  cell_out f (some q) r h e = subst (λ z. Q (with_left f z)) (some-injective q r e) h
+  cell_out : (f : Formula) (o : Option Tick) (r : Tick) → CellMet f o → o ≡ Some r → Q (with_left f r)
+  cell_out f None r h e = absurd (none-ne-some r e)
+  cell_out f (Some q) r h e = subst (λ z. Q (with_left f z)) (some-injective q r e) h
 
-  cell_in : (f : Formula) (o : Option Tick) → ((r : Tick) → o ≡ some r → Q (with_left f r)) → CellMet f o
-  cell_in f none h = tt
-  cell_in f (some r) h = h r refl
+  cell_in : (f : Formula) (o : Option Tick) → ((r : Tick) → o ≡ Some r → Q (with_left f r)) → CellMet f o
+  cell_in f None h = tt
+  cell_in f (Some r) h = h r refl
 
   pub met_out : (fs : List Formula) (p : Pending) → Met fs p → MetAt fs p
   unfolding first_cell later_cells
@@ -70,14 +71,14 @@ module _ (Q : Formula → Type 0) where
       (cell_in f o (λ r e. h zero r (omega arith) e), met_in fs p (λ k r below e. h (suc k) r (omega arith) e))
 
   -- Nothing pending asks nothing.
-  pub met_none : (fs : List Formula) → Met fs (replicate (length fs) none)
+  pub met_none : (fs : List Formula) → Met fs (replicate (length fs) None)
   unfolding first_cell later_cells
   met_none [] = tt
   met_none (f ∷ fs) = (tt, met_none fs)
 
   -- A node that is alone pending asks what it asks.
   pub met_alone : (fs : List Formula) (k : ℕ) (r : Tick) → k < length fs
-      → Met fs (set (replicate (length fs) none) k (some r)) ↔ Q (with_left (get_or fs k (constant false)) r)
+      → Met fs (set (replicate (length fs) None) k (Some r)) ↔ Q (with_left (get_or fs k (constant false)) r)
   unfolding first_cell later_cells
   met_alone [] k r below = absurd (omega arith)
   met_alone (f ∷ fs) zero r below = (λ h. h.0, λ h. (h, met_none fs))
@@ -87,9 +88,9 @@ module _ (Q : Formula → Type 0) where
   module _ (merging : Merging Q) where
     both_cell_met : (f : Formula) (o u : Option Tick) → CellMet f (both_cells f o u) ↔ (CellMet f o × CellMet f u)
     unfolding both_cells
-    both_cell_met f none u = (λ h. (tt, h), λ h. h.1)
-    both_cell_met f (some r) none = (λ h. (h, tt), λ h. h.0)
-    both_cell_met f (some r) (some q) =
+    both_cell_met f None u = (λ h. (tt, h), λ h. h.1)
+    both_cell_met f (Some r) None = (λ h. (h, tt), λ h. h.0)
+    both_cell_met f (Some r) (Some q) =
         (λ h. (((merging f q r).0 h).1, ((merging f q r).0 h).0), λ h. (merging f q r).1 (h.1, h.0))
 
     -- Both of two alternatives ask what the two ask.
@@ -105,9 +106,9 @@ module _ (Q : Formula → Type 0) where
 
     cell_less : (f : Formula) (o u : Option Tick) → no_more_cell f o u ≡ true → CellMet f u → CellMet f o
     unfolding no_more_cell
-    cell_less f none u e h = tt
-    cell_less f (some r) none e h = absurd (false≢true e)
-    cell_less f (some r) (some q) e h =
+    cell_less f None u e h = tt
+    cell_less f (Some r) None e h = absurd (false≢true e)
+    cell_less f (Some r) (Some q) e h =
         ((merging f r q).0 (subst (λ z. Q (with_left f z)) (sym (merge_less f r q e)) h)).0
 
     -- An alternative that asks no more than another is met where the other is.

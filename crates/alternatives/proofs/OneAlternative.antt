@@ -2,7 +2,8 @@
 use Prim.Native.Nat.{ℕ, suc, ◌+◌}
 use mathlib.Core.Path.{◌≡◌, refl, sym, ◌∙◌, ap}
 use mathlib.Core.Bool.{Bool, true, false, ◌&&◌, not, and-eq-true_iff}
-use mathlib.Core.Option.{Option, none, some, bind, map}
+use Rattle.std.specs.Prelude.{Option, None, Some, option_map}
+use Rattle.base.specs.Options.{bind}
 use mathlib.Core.List.Memᴰ
 use mathlib.Core.List.{List, [], ◌∷◌}
 use lib.ListN.{length}
@@ -43,33 +44,33 @@ sided_inherited =
 -- ---- one step after another
 
 -- nothing more comes
-bind_some : (o : Option Pending) → bind o (λ p. some p) ≡ o
+bind_some : (o : Option Pending) → bind o (λ p. Some p) ≡ o
 unfolding bind
-bind_some none = refl
-bind_some (some p) = refl
+bind_some None = refl
+bind_some (Some p) = refl
 
 -- one step and then the others
 bind_bind : (o : Option Pending) (F G : Pending → Option Pending) → bind (bind o F) G ≡ bind o (λ p. bind (F p) G)
 unfolding bind
-bind_bind none F G = refl
-bind_bind (some p) F G = refl
+bind_bind None F G = refl
+bind_bind (Some p) F G = refl
 
 -- ---- sets of one
 
 -- Sets of one combine to both of the two.
 pub combined_single : (fs : List Formula) (o u : Option Pending)
-    → combined fs (single o) (single u) ≡ single (bind o (λ p. map (both fs p) u))
+    → combined fs (single o) (single u) ≡ single (bind o (λ p. option_map (both fs p) u))
 unfolding combined single together set_of least with_more with_one_more placed without some_of counted most_alternatives bind
-combined_single fs none none = refl
-combined_single fs none (some q) = refl
-combined_single fs (some p) none = refl
-combined_single fs (some p) (some q) = refl
+combined_single fs None None = refl
+combined_single fs None (Some q) = refl
+combined_single fs (Some p) None = refl
+combined_single fs (Some p) (Some q) = refl
 
 -- A set of one is joined with none.
 pub joined_single : (fs : List Formula) (o : Option Pending) → joined_with fs broken (single o) ≡ single o
 unfolding joined_with single set_of least with_more with_one_more placed without some_of counted most_alternatives
-joined_single fs none = refl
-joined_single fs (some p) = refl
+joined_single fs None = refl
+joined_single fs (Some p) = refl
 
 -- one choice of two sets
 pick_single : (b : Bool) (s t : Alternatives) (o u : Option Pending) → s ≡ single o → t ≡ single u
@@ -80,7 +81,7 @@ pick_single false s t o u one other = other
 -- a test that has to hold
 if_single : (b : Bool) (s : Alternatives) (o : Option Pending) → s ≡ single o → if_so b s ≡ single (provided b o)
 unfolding if_so provided single
-if_single b s o one = pick_single b s broken o none one refl
+if_single b s o one = pick_single b s broken o None one refl
 
 module _ (all : List Formula) where
   -- the set t is what F gives from nothing
@@ -93,15 +94,15 @@ module _ (all : List Formula) where
   unfolding bind
   combined_step o F t sized adds gives = ap (combined all (single o)) gives ∙ combined_single all o (F (blank all)) ∙ ap single (go o sized)
     where
-      go : (z : Option Pending) → Sized all z → bind z (λ p. map (both all p) (F (blank all))) ≡ bind z F
-      go none keeps = refl
-      go (some p) keeps = sym (adds p keeps)
+      go : (z : Option Pending) → Sized all z → bind z (λ p. option_map (both all p) (F (blank all))) ≡ bind z F
+      go None keeps = refl
+      go (Some p) keeps = sym (adds p keeps)
 
   -- a step behind what stands so far keeps a cell for each node
   bind_sized : (o : Option Pending) (F : Pending → Option Pending) → Sized all o → Behind all F → Sized all (bind o F)
   unfolding bind
-  bind_sized none F sized adds = tt
-  bind_sized (some p) F sized adds = behind_sized all F adds p sized
+  bind_sized None F sized adds = tt
+  bind_sized (Some p) F sized adds = behind_sized all F adds p sized
 
   -- one step after another, from nothing
   combined_two : (F G : Pending → Option Pending) (s t : Alternatives) → Behind all F → Behind all G → Gives F s → Gives G t
@@ -111,11 +112,11 @@ module _ (all : List Formula) where
       ∙ combined_step (F (blank all)) G t (behind_sized all F first (blank all) (blank_sized all)) second other
 
   -- nothing, and one node alone
-  gives_nothing : Gives (λ p. some p) (nothing_pending all)
+  gives_nothing : Gives (λ p. Some p) (nothing_pending all)
   unfolding nothing_pending single
   gives_nothing = refl
 
-  gives_alone : (f : Formula) (k : ℕ) (r : Tick) → Sits all f k → Gives (λ p. some (put f k r p)) (alone_pending all k r)
+  gives_alone : (f : Formula) (k : ℕ) (r : Tick) → Sits all f k → Gives (λ p. Some (put f k r p)) (alone_pending all k r)
   unfolding alone_pending single
   gives_alone f k r sits = ap (λ p. these (p ∷ [])) (sym (put_alone all f k r sits))
 
@@ -151,9 +152,9 @@ module _ (all : List Formula) where
         let second = right (second_part k) (fresh g) (sits_second all (or f g) k sits f g refl) (and_right (one_sided f) (one_sided g) both) in
         go (timed f && timed g) (not-true (timed f && timed g) sides)
         ∙ pick_single (timed f) (pick (holds tower x g) (λ _. nothing_pending all) (λ _. s)) (pick (holds tower x f) (λ _. nothing_pending all) (λ _. t))
-        (pick (holds tower x g) (λ _. some (blank all)) (λ _. o)) (pick (holds tower x f) (λ _. some (blank all)) (λ _. u))
-        (pick_single (holds tower x g) (nothing_pending all) s (some (blank all)) o gives_nothing first)
-        (pick_single (holds tower x f) (nothing_pending all) t (some (blank all)) u gives_nothing second)
+        (pick (holds tower x g) (λ _. Some (blank all)) (λ _. o)) (pick (holds tower x f) (λ _. Some (blank all)) (λ _. u))
+        (pick_single (holds tower x g) (nothing_pending all) s (Some (blank all)) o gives_nothing first)
+        (pick_single (holds tower x f) (nothing_pending all) t (Some (blank all)) u gives_nothing second)
       where
         s : Alternatives
         s = new f (first_part k g) (fresh f)
@@ -190,9 +191,9 @@ module _ (all : List Formula) where
 
         go : (b : Bool) → pick b (λ _. combined all s (alone_pending all k (minus r d))) (λ _. s)
             ≡ single (bind (old g (second_part k) (fresh g) (blank all))
-            (λ q. some (pick b (λ _. put (always_for t g) k (minus r d) q) (λ _. q))))
+            (λ q. Some (pick b (λ _. put (always_for t g) k (minus r d) q) (λ _. q))))
         go true =
-            combined_two (old g (second_part k) (fresh g)) (λ q. some (put (always_for t g) k (minus r d) q)) s (alone_pending all k (minus r d))
+            combined_two (old g (second_part k) (fresh g)) (λ q. Some (put (always_for t g) k (minus r d) q)) s (alone_pending all k (minus r d))
             (behind_progress all tower x d g (second_part k) (fresh g) only) (behind_put all (always_for t g) k (minus r d) sits)
             first (gives_alone (always_for t g) k (minus r d) sits)
         go false = first ∙ ap single (sym (bind_some (old g (second_part k) (fresh g) (blank all))))
@@ -202,7 +203,7 @@ module _ (all : List Formula) where
     one_until t f g part k r sits one =
         let first = sits_first all (until t f g) k sits f g refl in
         pick_single (holds tower x g) (nothing_pending all) (if_so (at_most d r) (combined all s (alone_pending all k (minus r d))))
-        (some (blank all)) (provided (at_most d r) (bind (old f (first_part k g) (fresh f) (blank all)) on)) gives_nothing
+        (Some (blank all)) (provided (at_most d r) (bind (old f (first_part k g) (fresh f) (blank all)) on)) gives_nothing
         (if_single (at_most d r) (combined all s (alone_pending all k (minus r d))) (bind (old f (first_part k g) (fresh f) (blank all)) on)
         (combined_two (old f (first_part k g) (fresh f)) on s (alone_pending all k (minus r d))
         (behind_progress all tower x d f (first_part k g) (fresh f) first)
@@ -214,19 +215,19 @@ module _ (all : List Formula) where
         s = new f (first_part k g) (fresh f)
 
         on : Pending → Option Pending
-        on q = some (put (until t f g) k (minus r d) q)
+        on q = Some (put (until t f g) k (minus r d) q)
 
     -- What comes of a one_sided node is one alternative: its progression from nothing.
     pub one_alternative : (f : Formula) (k : ℕ) (r : Tick) → Sits all f k → one_sided f ≡ true
         → alternatives_of tower all x d f k r ≡ single (progress tower x d f k r (blank all))
     unfolding alternatives_of progress parts
-    one_alternative (constant b) k r sits one = if_single (holds tower x (constant b)) (nothing_pending all) (some (blank all)) gives_nothing
+    one_alternative (constant b) k r sits one = if_single (holds tower x (constant b)) (nothing_pending all) (Some (blank all)) gives_nothing
     one_alternative (proposition w m) k r sits one =
-        if_single (holds tower x (proposition w m)) (nothing_pending all) (some (blank all)) gives_nothing
+        if_single (holds tower x (proposition w m)) (nothing_pending all) (Some (blank all)) gives_nothing
     one_alternative (and f g) k r sits one = one_and f g (one_alternative f) (one_alternative g) k r sits one
     one_alternative (or f g) k r sits one = one_or f g (one_alternative f) (one_alternative g) k r sits one
     one_alternative (next c t g) k r sits one =
-        if_single (compares c d t) (alone_pending all (second_part k) (fresh g)) (some (put g (second_part k) (fresh g) (blank all)))
+        if_single (compares c d t) (alone_pending all (second_part k) (fresh g)) (Some (put g (second_part k) (fresh g) (blank all)))
         (gives_alone g (second_part k) (fresh g) (sits_only all (next c t g) k sits g refl))
     one_alternative (always_for t g) k r sits one = one_always t g (one_alternative g) k r sits one
     one_alternative (until t f g) k r sits one = one_until t f g (one_alternative f) k r sits one
@@ -236,7 +237,7 @@ module _ (all : List Formula) where
         → combined all (these (p ∷ [])) (alternatives_of tower all x d f k r) ≡ single (progress tower x d f k r p)
     unfolding single bind
     combined_one f k r p sits one sized =
-        combined_step (some p) (progress tower x d f k r) (alternatives_of tower all x d f k r) sized (behind_progress all tower x d f k r sits)
+        combined_step (Some p) (progress tower x d f k r) (alternatives_of tower all x d f k r) sized (behind_progress all tower x d f k r sits)
         (one_alternative f k r sits one)
 
     -- ---- nodes and rules in turn
@@ -247,8 +248,8 @@ module _ (all : List Formula) where
     unfolding combined_nodes progress_nodes
     nodes_one [] k cells o sit sized = ap single (sym (bind_some o))
     nodes_one (g ∷ gs) k [] o sit sized = ap single (sym (bind_some o))
-    nodes_one (g ∷ gs) k (none ∷ cells) o sit sized = nodes_one gs (suc k) cells o sit.1 sized
-    nodes_one (g ∷ gs) k (some r ∷ cells) o sit sized =
+    nodes_one (g ∷ gs) k (None ∷ cells) o sit sized = nodes_one gs (suc k) cells o sit.1 sized
+    nodes_one (g ∷ gs) k (Some r ∷ cells) o sit sized =
         ap (combined_nodes tower all x d gs (suc k) cells) (combined_step o (old g k r) (new g k r) sized
         (behind_progress all tower x d g k r sit.0.0) (one_alternative g k r sit.0.0 sit.0.1))
         ∙ nodes_one gs (suc k) cells (bind o (old g k r)) sit.1
@@ -288,7 +289,7 @@ module _ (tower : Tower) (book : Book) (x : ℕ) (d : Tick) (p : Pending) (one :
   behind_one =
       ap (combined_rules tower (nodes book) x d book 0)
       (ap (combined_nodes tower (nodes book) x d (nodes book) 0 p) (gives_nothing (nodes book))
-      ∙ nodes_one (nodes book) tower x d (nodes book) 0 p (some (blank (nodes book))) sit (blank_sized (nodes book)))
+      ∙ nodes_one (nodes book) tower x d (nodes book) 0 p (Some (blank (nodes book))) sit (blank_sized (nodes book)))
       ∙ rules_one (nodes book) tower x d book 0 (progress_nodes tower x d (nodes book) 0 p (blank (nodes book))) (book_stands tower book) one
       (behind_sized (nodes book) (progress_nodes tower x d (nodes book) 0 p)
       (behind_nodes (nodes book) tower x d Sided (nodes book) 0 p sit) (blank (nodes book)) (blank_sized (nodes book)))

@@ -2,8 +2,9 @@
 use Prim.Native.Nat.{ℕ, zero, suc}
 use mathlib.Core.Path.{◌≡◌, refl, sym, ◌∙◌, ap, ap₂, fun_ext}
 use mathlib.Core.Bool.{Bool, true, false, ◌&&◌}
-use mathlib.Core.Option
-use mathlib.Core.Option.{Option, none, some, bind}
+use Rattle.std.specs.Prelude.{option_map}
+use Rattle.std.specs.Prelude.{Option, None, Some}
+use Rattle.base.specs.Options.{bind}
 use mathlib.Core.List.{List, [], ◌∷◌, ◌++◌, map, map-append, map-map}
 use lib.Dec.{ltb, eqb}
 use Rattle.base.specs.Choice.{pick}
@@ -78,15 +79,15 @@ module _ {X Y : Type 0} (to : X → Y) (same : X → X → Bool) (same' : Y → 
     search_carried x = search_on_carried (suc most) (x ∷ []) (x ∷ [])
 
 -- what is present, carried over
-present_carried : {X Y : Type 0} (to : X → Y) (f : ℕ → Option X) (g : ℕ → Option Y) → ((a : ℕ) → g a ≡ Option.map to (f a)) → (bs : List ℕ)
+present_carried : {X Y : Type 0} (to : X → Y) (f : ℕ → Option X) (g : ℕ → Option Y) → ((a : ℕ) → g a ≡ option_map to (f a)) → (bs : List ℕ)
     → present (map g bs) ≡ map to (present (map f bs))
 unfolding present
 present_carried to f g h [] = refl
 present_carried {X} {Y} to f g h (a ∷ bs) = rw (h a) (go (f a) (present_carried to f g h bs))
   where
-    go : (o : Option X) → present (map g bs) ≡ map to (present (map f bs)) → present (Option.map to o ∷ map g bs) ≡ map to (present (o ∷ map f bs))
-    go none e = e
-    go (some x) e = ap (λ l. to x ∷ l) e
+    go : (o : Option X) → present (map g bs) ≡ map to (present (map f bs)) → present (option_map to o ∷ map g bs) ≡ map to (present (o ∷ map f bs))
+    go None e = e
+    go (Some x) e = ap (λ l. to x ∷ l) e
 
 -- ---- pairs
 
@@ -129,19 +130,19 @@ module _ (tower : Tower) (book : Book) (sided : OneSided book) where
       ∙ go (then_pending tower book v.state v.pending a) (tower.target v.state a))
     where
       go : (o : Option Pending) (t : Option ℕ) → there_with (λ y. is_over (single o)) t ≡ false
-      go o none = refl
-      go none (some y) = refl
-      go (some p) (some y) = refl
+      go o None = refl
+      go None (Some y) = refl
+      go (Some p) (Some y) = refl
 
   -- Its steps are those of the pair.
-  pub step_one : (v : Old.Pair) (a : ℕ) → pair_step tower book (one v) a ≡ Option.map one (Old.pair_step tower book v a)
+  pub step_one : (v : Old.Pair) (a : ℕ) → pair_step tower book (one v) a ≡ option_map one (Old.pair_step tower book v a)
   unfolding pair_step Old.pair_step tried_step pair_at Old.pair_at single one bind
   step_one v a = rw (full_one v) (rw (by_one v a) (go (tower.target v.state a) (then_pending tower book v.state v.pending a)))
     where
-      go : (t : Option ℕ) (o : Option Pending) → bind t (λ y. pair_at y (single o)) ≡ Option.map one (bind t (λ y. Old.pair_at y o))
-      go none o = refl
-      go (some y) none = refl
-      go (some y) (some p) = refl
+      go : (t : Option ℕ) (o : Option Pending) → bind t (λ y. pair_at y (single o)) ≡ option_map one (bind t (λ y. Old.pair_at y o))
+      go None o = refl
+      go (Some y) None = refl
+      go (Some y) (Some p) = refl
 
   -- They lead to the pairs that the old steps lead to.
   pub followers_one : (v : Old.Pair) → pair_followers tower book (one v) ≡ map one (Old.pair_followers tower book v)

@@ -4,7 +4,7 @@ use Prim.Native.Nat.{◌<◌}
 use mathlib.Core.Path.{◌≡◌, refl, sym, ap, ap₂}
 use mathlib.Core.Logic.{◌⊎◌, inl, inr, ⊎_elim}
 use mathlib.Core.Bool.{true, false, ◌&&◌}
-use mathlib.Core.Option.{Option, none, some}
+use Rattle.std.specs.Prelude.{Option, None, Some}
 use mathlib.Core.List.{List, [], ◌∷◌}
 use native.Mathlib.Nat.{le_antisymm}
 use native.Mathlib.Omega.{arith}
@@ -76,25 +76,25 @@ no_more_ticks_antisym (until t f g) r q e d = at_most_antisym r q d e
 -- A cell asks no more than itself.
 pub no_more_cell_refl : (f : Formula) (o : Option Tick) → no_more_cell f o o ≡ true
 unfolding no_more_cell
-no_more_cell_refl f none = refl
-no_more_cell_refl f (some r) = no_more_ticks_refl f r
+no_more_cell_refl f None = refl
+no_more_cell_refl f (Some r) = no_more_ticks_refl f r
 
 -- What asks no more than a cell asks no more than what that one asks no more than.
 pub no_more_cell_trans : (f : Formula) (o u v : Option Tick) → no_more_cell f o u ≡ true → no_more_cell f u v ≡ true
     → no_more_cell f o v ≡ true
 unfolding no_more_cell
-no_more_cell_trans f none u v e d = refl
-no_more_cell_trans f (some r) none v e d = never_both e refl
-no_more_cell_trans f (some r) (some q) none e d = d
-no_more_cell_trans f (some r) (some q) (some s) e d = no_more_ticks_trans f r q s e d
+no_more_cell_trans f None u v e d = refl
+no_more_cell_trans f (Some r) None v e d = never_both e refl
+no_more_cell_trans f (Some r) (Some q) None e d = d
+no_more_cell_trans f (Some r) (Some q) (Some s) e d = no_more_ticks_trans f r q s e d
 
 -- Two cells that ask no more than each other are the same.
 pub no_more_cell_antisym : (f : Formula) (o u : Option Tick) → no_more_cell f o u ≡ true → no_more_cell f u o ≡ true → o ≡ u
 unfolding no_more_cell
-no_more_cell_antisym f none none e d = refl
-no_more_cell_antisym f none (some q) e d = never_both d refl
-no_more_cell_antisym f (some r) none e d = never_both e refl
-no_more_cell_antisym f (some r) (some q) e d = ap {B = Option Tick} some (no_more_ticks_antisym f r q e d)
+no_more_cell_antisym f None None e d = refl
+no_more_cell_antisym f None (Some q) e d = never_both d refl
+no_more_cell_antisym f (Some r) None e d = never_both e refl
+no_more_cell_antisym f (Some r) (Some q) e d = ap {B = Option Tick} Some (no_more_ticks_antisym f r q e d)
 
 -- ---- Which asks more
 
@@ -147,10 +147,10 @@ no_more_antisym (f ∷ fs) (o ∷ p) (u ∷ q) k l e d =
 -- Cells with one number are the same.
 pub cell_number_eq : (o u : Option Tick) → cell_number o ≡ cell_number u → o ≡ u
 unfolding cell_number
-cell_number_eq none none e = refl
-cell_number_eq none (some q) e = absurd (omega arith)
-cell_number_eq (some r) none e = absurd (omega arith)
-cell_number_eq (some r) (some q) e = ap (λ n. some (ticks n)) (omega arith)
+cell_number_eq None None e = refl
+cell_number_eq None (Some q) e = absurd (omega arith)
+cell_number_eq (Some r) None e = absurd (omega arith)
+cell_number_eq (Some r) (Some q) e = ap (λ n. Some (ticks n)) (omega arith)
 
 -- One alternative is earlier than another: its first number is lower, or it is the same and the others are earlier.
 pub earlier_out : (o u : Option Tick) (p q : Pending) → earlier (o ∷ p) (u ∷ q) ≡ true

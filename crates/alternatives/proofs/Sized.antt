@@ -3,7 +3,7 @@ use Prim.Native.Nat.{ℕ, ◌≤◌}
 use native.Mathlib.Omega.{arith}
 use mathlib.Core.Path.{◌≡◌, refl, ◌∙◌, ap, ap₂}
 use mathlib.Core.Bool.{Bool, true, false}
-use mathlib.Core.Option.{Option, none, some}
+use Rattle.std.specs.Prelude.{Option, None, Some}
 use mathlib.Core.List.Memᴰ
 use mathlib.Core.List.{List, [], ◌∷◌, ◌++◌}
 use lib.ListN.{length, set, replicate, length-replicate, length-set}
@@ -57,9 +57,9 @@ module _ (fs : List Formula) where
   unfolding nothing_pending alone_pending
   sized_closed =
       record {
-        nothing = one_sized (replicate (length fs) none) (length-replicate {A = Option Tick} (length fs) none);
-        alone = λ k r. one_sized (set (replicate (length fs) none) k (some r))
-            (length-set (replicate {A = Option Tick} (length fs) none) k (some r) ∙ length-replicate {A = Option Tick} (length fs) none);
+        nothing = one_sized (replicate (length fs) None) (length-replicate {A = Option Tick} (length fs) None);
+        alone = λ k r. one_sized (set (replicate (length fs) None) k (Some r))
+            (length-set (replicate {A = Option Tick} (length fs) None) k (Some r) ∙ length-replicate {A = Option Tick} (length fs) None);
         none_left = λ p m. absurd (Memᴰ.not-nil m);
         both = both_are;
         either = either_is;

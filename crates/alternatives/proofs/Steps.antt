@@ -5,7 +5,9 @@ use mathlib.Core.Path.{◌≡◌, refl, sym, ◌∙◌, ap, subst}
 use mathlib.Core.Logic.Iff
 use mathlib.Core.Logic.{◌⊎◌, inl, inr, ⊎_elim, ◌↔◌}
 use mathlib.Core.Bool.{Bool, true, false}
-use mathlib.Core.Option.{Option, none, some, bind, bind-eq-some_iff, none-ne-some, some-injective}
+use Rattle.std.specs.Prelude.{Option, None, Some}
+use Rattle.base.specs.Options.{bind}
+use Rattle.base.proofs.Options.{bind-eq-some_iff, none-ne-some, some-injective}
 use mathlib.Core.List.Memᴰ
 use mathlib.Core.List.{List, [], ◌∷◌, ◌++◌, append-nil, Memᴰ}
 use lib.ListN.{length, length-append}
@@ -99,7 +101,7 @@ module _ (tower : Tower) (book : Book) (fit : FitBook book) (m : Moment) (run : 
       (offers_joined ps broken ⊥ (offers_broken (nodes book) (Then tower m run) ⊥ (λ h. h)))
 
 -- A run that begins meets one of the alternatives exactly if it meets what is asked of one of them now, and the `always` rules later.
-module _ (tower : Tower) (book : Book) (x a y : ℕ) (u : List ℕ) (enabled : tower.target x a ≡ some y) where
+module _ (tower : Tower) (book : Book) (x a y : ℕ) (u : List ℕ) (enabled : tower.target x a ≡ Some y) where
   abbrev here : Moment
   here = record { state = x; action = a }
 
@@ -155,7 +157,7 @@ pub record Standing (v : Pair) : Type 0 where
   pub others : List Pending
   pub are : v.pending ≡ first ∷ others
 
-pair_at_out : (y : ℕ) (s : Alternatives) (w : Pair) → pair_at y s ≡ some w → (y ≡ w.state) × (s ≡ these w.pending) × Standing w
+pair_at_out : (y : ℕ) (s : Alternatives) (w : Pair) → pair_at y s ≡ Some w → (y ≡ w.state) × (s ≡ these w.pending) × Standing w
 unfolding pair_at
 pair_at_out y over w e = absurd (none-ne-some w e)
 pair_at_out y (these []) w e = absurd (none-ne-some w e)
@@ -165,7 +167,7 @@ pair_at_out y (these (p ∷ ps)) w e =
 
 -- ---- steps that are tried
 
-pair_at_in : (y : ℕ) (p : Pending) (ps : List Pending) → pair_at y (these (p ∷ ps)) ≡ some (record { state = y; pending = p ∷ ps })
+pair_at_in : (y : ℕ) (p : Pending) (ps : List Pending) → pair_at y (these (p ∷ ps)) ≡ Some (record { state = y; pending = p ∷ ps })
 unfolding pair_at
 pair_at_in y p ps = refl
 
@@ -175,39 +177,39 @@ module _ (tower : Tower) (book : Book) where
   tried = tried_step tower book
 
   -- A tried step goes by an enabled action, and leads to the alternatives that come of those pending; one is left.
-  pub tried_step_out : (v w : Pair) (a : ℕ) → tried_step tower book v a ≡ some w
-      → (tower.target v.state a ≡ some w.state) × (alternatives_by tower book v a ≡ these w.pending) × Standing w
+  pub tried_step_out : (v w : Pair) (a : ℕ) → tried_step tower book v a ≡ Some w
+      → (tower.target v.state a ≡ Some w.state) × (alternatives_by tower book v a ≡ these w.pending) × Standing w
   unfolding tried_step
   tried_step_out v w a e =
       let (y, enabled, there) =
       (bind-eq-some_iff (tower.target v.state a) (λ y. pair_at y (alternatives_by tower book v a))).0 e in
       let (same, next, stands) = pair_at_out y (alternatives_by tower book v a) w there in
-      (enabled ∙ ap {B = Option ℕ} some same, next, stands)
+      (enabled ∙ ap {B = Option ℕ} Some same, next, stands)
 
   -- An enabled action leads to the state that it reaches, with the alternatives that are left.
-  pub tried_step_at : (v : Pair) (a y : ℕ) → tower.target v.state a ≡ some y
+  pub tried_step_at : (v : Pair) (a y : ℕ) → tower.target v.state a ≡ Some y
       → tried_step tower book v a ≡ pair_at y (alternatives_by tower book v a)
   unfolding tried_step bind
   tried_step_at v a y e = rw e
 
   -- It makes a step where alternatives are left.
-  pub tried_step_in : (v w : Pair) (a : ℕ) → tower.target v.state a ≡ some w.state
-      → alternatives_by tower book v a ≡ these w.pending → Standing w → tried_step tower book v a ≡ some w
+  pub tried_step_in : (v w : Pair) (a : ℕ) → tower.target v.state a ≡ Some w.state
+      → alternatives_by tower book v a ≡ these w.pending → Standing w → tried_step tower book v a ≡ Some w
   tried_step_in v w a e next stands =
       tried_step_at v a w.state e ∙ ap (pair_at w.state) (next ∙ ap these stands.are) ∙ pair_at_in w.state stands.first stands.others
-      ∙ ap (λ ps. some (record { state = w.state; pending = ps })) (sym stands.are)
+      ∙ ap (λ ps. Some (record { state = w.state; pending = ps })) (sym stands.are)
 
   -- Where tried steps lead, the tower leads to their states.
-  pub tried_leads_state : (v w : Pair) (u : List ℕ) → leads (tried_step tower book) v u ≡ some w
-      → leads tower.target v.state u ≡ some w.state
-  tried_leads_state v w [] e = leads_nil tower.target v.state ∙ ap (λ z. some z.state) (some_one (leads_nil tried v) e)
+  pub tried_leads_state : (v w : Pair) (u : List ℕ) → leads (tried_step tower book) v u ≡ Some w
+      → leads tower.target v.state u ≡ Some w.state
+  tried_leads_state v w [] e = leads_nil tower.target v.state ∙ ap (λ z. Some z.state) (some_one (leads_nil tried v) e)
   tried_leads_state v w (a ∷ u) e =
       let (z, step, rest) = leads_out tried v w a u e in
       leads_in tower.target v.state z.state w.state a u (tried_step_out v z a step).0 (tried_leads_state z w u rest)
 
   -- What tried steps keep holds where they lead.
-  pub tried_leads_keeps : (P : Pair → Type 0) → ((v w : Pair) (a : ℕ) → P v → tried_step tower book v a ≡ some w → P w)
-      → (v w : Pair) (u : List ℕ) → P v → leads (tried_step tower book) v u ≡ some w → P w
+  pub tried_leads_keeps : (P : Pair → Type 0) → ((v w : Pair) (a : ℕ) → P v → tried_step tower book v a ≡ Some w → P w)
+      → (v w : Pair) (u : List ℕ) → P v → leads (tried_step tower book) v u ≡ Some w → P w
   tried_leads_keeps P keeps v w [] h e = subst P (some_one (leads_nil tried v) e) h
   tried_leads_keeps P keeps v w (a ∷ u) h e =
       let (z, step, rest) = leads_out tried v w a u e in tried_leads_keeps P keeps z w u (keeps v z a h step) rest
@@ -223,7 +225,7 @@ module _ (tower : Tower) (book : Book) where
 
   -- No step along the run u from v gives over 16 alternatives.
   abbrev pub NoneOver : Pair → List ℕ → Type 0
-  NoneOver v u = (t rest : List ℕ) (a : ℕ) (z : Pair) → t ++ (a ∷ rest) ≡ u → leads (tried_step tower book) v t ≡ some z
+  NoneOver v u = (t rest : List ℕ) (a : ℕ) (z : Pair) → t ++ (a ∷ rest) ≡ u → leads (tried_step tower book) v t ≡ Some z
       → alternatives_by tower book z a ≡ over → ⊥
 
   -- It is so of one action, if that does not at v.
@@ -241,14 +243,14 @@ module _ (tower : Tower) (book : Book) where
 
   module _ (fit : FitBook book) where
     -- one step
-    by_step : (v z : Pair) (a : ℕ) (u : List ℕ) → tower.target v.state a ≡ some z.state
+    by_step : (v z : Pair) (a : ℕ) (u : List ℕ) → tower.target v.state a ≡ Some z.state
         → alternatives_by tower book v a ≡ these z.pending
         → FulfilsOne tower book v.state v.pending (a ∷ u) ↔ FulfilsOne tower book z.state z.pending u
     unfolding alternatives_by
     by_step v z a u enabled next = meets_step tower book v.state a z.state u enabled fit v.pending z.pending next
 
     -- Behind a way of pairs the rest of the run has to meet one of the alternatives that are pending there.
-    pub meets_on : (v w : Pair) (u rest : List ℕ) → leads (tried_step tower book) v u ≡ some w
+    pub meets_on : (v w : Pair) (u rest : List ℕ) → leads (tried_step tower book) v u ≡ Some w
         → FulfilsOne tower book v.state v.pending (u ++ rest) ↔ FulfilsOne tower book w.state w.pending rest
     meets_on v w [] rest e =
         let same : v ≡ w = some_one (leads_nil tried v) e in (
@@ -261,31 +263,31 @@ module _ (tower : Tower) (book : Book) where
         Iff.trans (by_step v z a (u ++ rest) enabled next) (meets_on z w u rest later)
 
     -- Where tried steps lead, the run meets one of the alternatives.
-    pub leads_meets : (v w : Pair) (u : List ℕ) → Standing v → leads (tried_step tower book) v u ≡ some w
+    pub leads_meets : (v w : Pair) (u : List ℕ) → Standing v → leads (tried_step tower book) v u ≡ Some w
         → FulfilsOne tower book v.state v.pending u
     leads_meets v w u stands e =
         subst (FulfilsOne tower book v.state v.pending) (append-nil u) ((meets_on v w u [] e).1
         (meets_nothing w (tried_leads_keeps Standing (λ x y a h step. (tried_step_out x y a step).2) v w u stands e)))
 
     -- Where the tower leads and no step gives over 16, the run meets one of the alternatives only if tried steps lead there too.
-    pub meets_leads : (v : Pair) (u : List ℕ) (y : ℕ) → NoneOver v u → leads tower.target v.state u ≡ some y
-        → FulfilsOne tower book v.state v.pending u → (w : Pair) × (leads (tried_step tower book) v u ≡ some w)
+    pub meets_leads : (v : Pair) (u : List ℕ) (y : ℕ) → NoneOver v u → leads tower.target v.state u ≡ Some y
+        → FulfilsOne tower book v.state v.pending u → (w : Pair) × (leads (tried_step tower book) v u ≡ Some w)
     unfolding alternatives_by pair_at
     meets_leads v [] y few e h = (v, leads_nil tried v)
     meets_leads v (a ∷ u) y few e h =
         let (x, enabled, later) = leads_out tower.target v.state y a u e in
         go x enabled later (alternatives_by tower book v a) refl (λ z. meets_leads z u y)
       where
-        go : (x : ℕ) → tower.target v.state a ≡ some x → leads tower.target x u ≡ some y → (s : Alternatives)
+        go : (x : ℕ) → tower.target v.state a ≡ Some x → leads tower.target x u ≡ Some y → (s : Alternatives)
             → alternatives_by tower book v a ≡ s
-            → ((z : Pair) → NoneOver z u → leads tower.target z.state u ≡ some y → FulfilsOne tower book z.state z.pending u
-            → (w : Pair) × (leads tried z u ≡ some w)) → (w : Pair) × (leads tried v (a ∷ u) ≡ some w)
+            → ((z : Pair) → NoneOver z u → leads tower.target z.state u ≡ Some y → FulfilsOne tower book z.state z.pending u
+            → (w : Pair) × (leads tried z u ≡ Some w)) → (w : Pair) × (leads tried v (a ∷ u) ≡ Some w)
         go x enabled later over many ih = absurd (few [] u a v refl (leads_nil tried v) many)
         go x enabled later (these []) next ih =
             absurd (Memᴰ.not-nil ((meets_step tower book v.state a x u enabled fit v.pending [] next).0 h).listed)
         go x enabled later (these (p ∷ ps)) next ih =
             let z : Pair = record { state = x; pending = p ∷ ps } in
-            let step : tried v a ≡ some z = tried_step_at v a x enabled ∙ ap (pair_at x) next in
+            let step : tried v a ≡ Some z = tried_step_at v a x enabled ∙ ap (pair_at x) next in
             let (w, led) = ih z (λ t rest b q e on. few (a ∷ t) rest b q (ap (λ l. a ∷ l) e) (leads_step tried v z a t step ∙ on)) later
             ((meets_step tower book v.state a x u enabled fit v.pending (p ∷ ps) next).0 h) in
             (w, leads_step tried v z a u step ∙ led)
@@ -303,12 +305,12 @@ module _ (tower : Tower) (book : Book) where
   move = pair_step tower book
 
   -- A pair that is stepped from is not over_full, and the step is the one that was tried.
-  pub pair_step_tried : (v w : Pair) (a : ℕ) → pair_step tower book v a ≡ some w → (over_full tower book v ≡ false) × (tried_step tower book v a ≡ some w)
+  pub pair_step_tried : (v w : Pair) (a : ℕ) → pair_step tower book v a ≡ Some w → (over_full tower book v ≡ false) × (tried_step tower book v a ≡ Some w)
   unfolding pair_step
   pair_step_tried v w a e = go (over_full tower book v) refl e
     where
-      go : (b : Bool) → over_full tower book v ≡ b → pick b (λ _. none) (λ _. tried_step tower book v a) ≡ some w
-          → (over_full tower book v ≡ false) × (tried_step tower book v a ≡ some w)
+      go : (b : Bool) → over_full tower book v ≡ b → pick b (λ _. None) (λ _. tried_step tower book v a) ≡ Some w
+          → (over_full tower book v ≡ false) × (tried_step tower book v a ≡ Some w)
       go true full e = absurd (none-ne-some w e)
       go false spare e = (spare, e)
 
@@ -318,29 +320,29 @@ module _ (tower : Tower) (book : Book) where
   pair_step_spare v a spare = rw spare
 
   -- A step of a pair goes by an enabled action, and leads to the alternatives that come of those pending; one is left.
-  pub pair_step_out : (v w : Pair) (a : ℕ) → pair_step tower book v a ≡ some w
-      → (tower.target v.state a ≡ some w.state) × (alternatives_by tower book v a ≡ these w.pending) × Standing w
+  pub pair_step_out : (v w : Pair) (a : ℕ) → pair_step tower book v a ≡ Some w
+      → (tower.target v.state a ≡ Some w.state) × (alternatives_by tower book v a ≡ these w.pending) × Standing w
   pair_step_out v w a e = tried_step_out tower book v w a (pair_step_tried v w a e).1
 
   -- A step of a pair goes by one of the tower's actions.
-  pub pair_step_listed : Listed tower → (v w : Pair) (a : ℕ) → pair_step tower book v a ≡ some w → a < tower.actions
+  pub pair_step_listed : Listed tower → (v w : Pair) (a : ℕ) → pair_step tower book v a ≡ Some w → a < tower.actions
   unfolding Listed
   pair_step_listed listed v w a e = listed v.state a w.state (pair_step_out v w a e).0
 
   -- Where pairs lead, tried steps lead,
-  pub leads_tried : (v w : Pair) (u : List ℕ) → leads (pair_step tower book) v u ≡ some w → leads (tried_step tower book) v u ≡ some w
+  pub leads_tried : (v w : Pair) (u : List ℕ) → leads (pair_step tower book) v u ≡ Some w → leads (tried_step tower book) v u ≡ Some w
   leads_tried v w [] e = leads_nil (tried_step tower book) v ∙ sym (leads_nil move v) ∙ e
   leads_tried v w (a ∷ u) e =
       let (z, step, rest) = leads_out move v w a u e in
       leads_in (tried_step tower book) v z w a u (pair_step_tried v z a step).1 (leads_tried z w u rest)
 
   -- and the tower leads to their states.
-  pub pair_leads_state : (v w : Pair) (u : List ℕ) → leads (pair_step tower book) v u ≡ some w
-      → leads tower.target v.state u ≡ some w.state
+  pub pair_leads_state : (v w : Pair) (u : List ℕ) → leads (pair_step tower book) v u ≡ Some w
+      → leads tower.target v.state u ≡ Some w.state
   pair_leads_state v w u e = tried_leads_state tower book v w u (leads_tried v w u e)
 
   -- An enabled action from a pair that is not over_full gives no more than 16.
-  pub spare_not_over : Listed tower → (v : Pair) (a y : ℕ) → over_full tower book v ≡ false → tower.target v.state a ≡ some y
+  pub spare_not_over : Listed tower → (v : Pair) (a y : ℕ) → over_full tower book v ≡ false → tower.target v.state a ≡ Some y
       → alternatives_by tower book v a ≡ over → ⊥
   unfolding over_full Listed is_over
   spare_not_over listed v a y spare enabled many =
@@ -349,7 +351,7 @@ module _ (tower : Tower) (book : Book) where
 
   -- A pair that is over_full gives over 16 by some enabled action.
   pub over_full_out : (v : Pair) → over_full tower book v ≡ true
-      → (a y : ℕ) × (tower.target v.state a ≡ some y) × (alternatives_by tower book v a ≡ over)
+      → (a y : ℕ) × (tower.target v.state a ≡ Some y) × (alternatives_by tower book v a ≡ over)
   unfolding over_full
   over_full_out v full =
       let (a, l, e) = some_below (λ b. there_with (λ z. is_over (alternatives_by tower book v b)) (tower.target v.state b)) tower.actions full in
@@ -358,21 +360,21 @@ module _ (tower : Tower) (book : Book) where
 
   -- No pair that is led to is over_full.
   abbrev pub Spare : Pair → Type 0
-  Spare v = (u : List ℕ) (w : Pair) → leads (pair_step tower book) v u ≡ some w → over_full tower book w ≡ false
+  Spare v = (u : List ℕ) (w : Pair) → leads (pair_step tower book) v u ≡ Some w → over_full tower book w ≡ false
 
   -- Then pairs lead where tried steps do,
-  pub spare_leads : (v w : Pair) (u : List ℕ) → Spare v → leads (tried_step tower book) v u ≡ some w → leads (pair_step tower book) v u ≡ some w
+  pub spare_leads : (v w : Pair) (u : List ℕ) → Spare v → leads (tried_step tower book) v u ≡ Some w → leads (pair_step tower book) v u ≡ Some w
   spare_leads v w [] spare e = leads_nil move v ∙ sym (leads_nil (tried_step tower book) v) ∙ e
   spare_leads v w (a ∷ u) spare e =
       let (z, step, rest) = leads_out (tried_step tower book) v w a u e in
-      let here : move v a ≡ some z = pair_step_spare v a (spare [] v (leads_nil move v)) ∙ step in
+      let here : move v a ≡ Some z = pair_step_spare v a (spare [] v (leads_nil move v)) ∙ step in
       leads_in move v z w a u here (spare_leads z w u (λ t y on. spare (a ∷ t) y (leads_step move v z a t here ∙ on)) rest)
 
   -- and no step along a run of the tower gives over 16.
-  pub spare_none_over : Listed tower → (v : Pair) (u : List ℕ) (y : ℕ) → Spare v → leads tower.target v.state u ≡ some y
+  pub spare_none_over : Listed tower → (v : Pair) (u : List ℕ) (y : ℕ) → Spare v → leads tower.target v.state u ≡ Some y
       → NoneOver tower book v u
   spare_none_over listed v u y spare e t rest a z same on many =
-      let run : leads tower.target z.state (a ∷ rest) ≡ some y =
+      let run : leads tower.target z.state (a ∷ rest) ≡ Some y =
       sym (leads_past tower.target v.state z.state t (a ∷ rest) (tried_leads_state tower book v z t on))
       ∙ ap (leads tower.target v.state) same ∙ e in
       let (x, enabled, later) = leads_out tower.target z.state y a rest run in

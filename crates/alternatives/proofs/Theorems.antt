@@ -5,7 +5,7 @@ use Prim.Native.Nat.{ℕ}
 use mathlib.Core.Path.{◌≡◌, refl, subst}
 use mathlib.Core.Logic.Iff
 use mathlib.Core.Logic.{◌↔◌}
-use mathlib.Core.Option.{none, some}
+use Rattle.std.specs.Prelude.{None, Some}
 use mathlib.Core.List.Memᴰ
 use mathlib.Core.List.{List, ◌++◌}
 use Rattle.base.proofs.Lists.{whether_there, none-some}
@@ -36,18 +36,18 @@ module _ (tower : Tower) (book : Book) (fit : FitBook book) where
   unbroken_first w = Iff.trans (unbroken_meets tower book w) (first_one w)
 
   -- Where tried steps lead along a run it is unbroken,
-  pub tried_unbroken : (w : List ℕ) (v : Pair) → leads (tried_step tower book) (first_pair tower book) w ≡ some v → Unbroken tower book w
+  pub tried_unbroken : (w : List ℕ) (v : Pair) → leads (tried_step tower book) (first_pair tower book) w ≡ Some v → Unbroken tower book w
   unfolding first_pair
   tried_unbroken w v e = (unbroken_first w).1 (Steps.leads_meets tower book fit (first_pair tower book) v w (first_standing tower book) e)
 
   -- and they lead along every unbroken run of which no step gives over 16 alternatives.
   pub unbroken_tried : (w : List ℕ) → IsRun tower w → Steps.NoneOver tower book (first_pair tower book) w → Unbroken tower book w
-      → (v : Pair) × (leads (tried_step tower book) (first_pair tower book) w ≡ some v)
+      → (v : Pair) × (leads (tried_step tower book) (first_pair tower book) w ≡ Some v)
   unfolding IsRun first_pair
   unbroken_tried w (x, e) few h = Steps.meets_leads tower book fit (first_pair tower book) w x few e ((unbroken_first w).0 h)
 
   -- Where pairs lead along a run it is unbroken.
-  pub leads_unbroken : (w : List ℕ) (v : Pair) → leads (pair_step tower book) (first_pair tower book) w ≡ some v → Unbroken tower book w
+  pub leads_unbroken : (w : List ℕ) (v : Pair) → leads (pair_step tower book) (first_pair tower book) w ≡ Some v → Unbroken tower book w
   leads_unbroken w v e = tried_unbroken w v (Steps.leads_tried tower book (first_pair tower book) v w e)
 
   -- No pair that is led to from the first is over_full.
@@ -56,7 +56,7 @@ module _ (tower : Tower) (book : Book) (fit : FitBook book) where
 
   -- A run is unbroken exactly if every one of its steps is a step of pairs, where none of them is over_full.
   pub unbroken_iff : Listed tower → NeverOver → (w : List ℕ) → IsRun tower w
-      → Unbroken tower book w ↔ ((v : Pair) × (leads (pair_step tower book) (first_pair tower book) w ≡ some v))
+      → Unbroken tower book w ↔ ((v : Pair) × (leads (pair_step tower book) (first_pair tower book) w ≡ Some v))
   unfolding IsRun first_pair
   unbroken_iff listed spare w (x, e) = (
     λ h.
@@ -67,7 +67,7 @@ module _ (tower : Tower) (book : Book) (fit : FitBook book) where
 
   -- It is broken exactly if pairs do not lead along it.
   pub broken_iff : Listed tower → NeverOver → (w : List ℕ) → IsRun tower w
-      → Broken tower book w ↔ (leads (pair_step tower book) (first_pair tower book) w ≡ none)
+      → Broken tower book w ↔ (leads (pair_step tower book) (first_pair tower book) w ≡ None)
   unfolding Broken
   broken_iff listed spare w run = (
     λ broken. whether_there (leads (pair_step tower book) (first_pair tower book) w) (λ e. e)
@@ -76,7 +76,7 @@ module _ (tower : Tower) (book : Book) (fit : FitBook book) where
   )
 
   -- Behind a pair a run stays unbroken exactly if the rest of it meets one of the alternatives that are pending there.
-  pub continued_iff : (w u : List ℕ) (v : Pair) → leads (pair_step tower book) (first_pair tower book) w ≡ some v
+  pub continued_iff : (w u : List ℕ) (v : Pair) → leads (pair_step tower book) (first_pair tower book) w ≡ Some v
       → Unbroken tower book (w ++ u) ↔ FulfilsOne tower book v.state v.pending u
   unfolding first_pair
   continued_iff w u v e =

@@ -1,7 +1,7 @@
 -- 02, item 3: 'What is pending becomes a set of alternatives, each as in document 01.' Which of two asks more, the one order, combining and
 -- joining.
 use Rattle.std.specs.Prelude.{ℕ, suc, Bool, true, false, ◌&&◌, ◌||◌, List, [], ◌∷◌, ◌++◌, map, length, ltb, eqb}
-use Rattle.std.proofs.Math.Option.{Option, none, some}
+use Rattle.std.specs.Prelude.{Option, None, Some}
 use Rattle.base.specs.Choice.{pick}
 use Rattle.logic.specs.Time.{at_most, same_ticks}
 use Rattle.logic.specs.Book.{Formula, constant, proposition, and, or, next, always_for, until}
@@ -11,7 +11,7 @@ use Rattle.alternatives.specs.Least.{least}
 
 -- what an alternative says of its first node, and of the others; past its end, nothing
 unfoldable pub first_cell : Pending → Option Tick
-first_cell [] = none
+first_cell [] = None
 first_cell (o ∷ p) = o
 
 unfoldable pub later_cells : Pending → Pending
@@ -32,9 +32,9 @@ no_more_ticks (until t f g) r q = at_most q r
 
 -- nothing asks no more than anything
 unfoldable pub no_more_cell : Formula → Option Tick → Option Tick → Bool
-no_more_cell f none o = true
-no_more_cell f (some r) none = false
-no_more_cell f (some r) (some q) = no_more_ticks f r q
+no_more_cell f None o = true
+no_more_cell f (Some r) None = false
+no_more_cell f (Some r) (Some q) = no_more_ticks f r q
 
 -- p asks no more than q at any node; fs are the nodes
 unfoldable pub asks_no_more : List Formula → Pending → Pending → Bool
@@ -45,8 +45,8 @@ asks_no_more (f ∷ fs) p q = no_more_cell f (first_cell p) (first_cell q) && as
 
 -- nothing comes before a number
 unfoldable pub cell_number : Option Tick → ℕ
-cell_number none = 0
-cell_number (some r) = suc r.0
+cell_number None = 0
+cell_number (Some r) = suc r.0
 
 -- compared by their numbers from the lowest node up
 unfoldable pub earlier : Pending → Pending → Bool
@@ -63,9 +63,9 @@ set_of fs ps = least (asks_no_more fs) earlier ps
 
 -- what is asked of a node by both: where it comes up twice, A keeps the larger number, U the smaller
 unfoldable pub both_cells : Formula → Option Tick → Option Tick → Option Tick
-both_cells f none u = u
-both_cells f (some r) none = some r
-both_cells f (some r) (some q) = some (merge f q r)
+both_cells f None u = u
+both_cells f (Some r) None = Some r
+both_cells f (Some r) (Some q) = Some (merge f q r)
 
 -- both of two alternatives, as one
 unfoldable pub both : List Formula → Pending → Pending → Pending

@@ -1,5 +1,5 @@
 -- What was pending before 02, item 3, as sets of one alternative: a broken step leaves none.
-use Rattle.std.proofs.Math.Option.{Option, none, some}
+use Rattle.std.specs.Prelude.{Option, None, Some}
 use Rattle.std.specs.Prelude.{[], ◌∷◌}
 use Rattle.pending.specs.Pending.{Pending}
 use Rattle.pending.specs.Pairs as Old
@@ -8,8 +8,8 @@ use Rattle.alternatives.specs.Pairs.{Pair}
 
 -- what is there as the one alternative; broken where nothing is
 unfoldable pub single : Option Pending → Alternatives
-single none = broken
-single (some p) = these (p ∷ [])
+single None = broken
+single (Some p) = these (p ∷ [])
 
 -- a pair with what is pending as its one alternative
 unfoldable pub one : Old.Pair → Pair

@@ -1,7 +1,8 @@
 -- 02, item 3: 'Pairs are told apart by these sets, and a pair counts towards the 1,000 once for each alternative in it.' Pairs, their steps,
 -- their count, and the refusals 11 and 20.
 use Rattle.std.specs.Prelude.{ℕ, Bool, true, false, ◌&&◌, List, [], ◌∷◌, map, length, ltb, eqb}
-use Rattle.std.proofs.Math.Option.{Option, none, some, bind}
+use Rattle.std.specs.Prelude.{Option, None, Some}
+use Rattle.base.specs.Options.{bind}
 use Rattle.base.specs.Choice.{pick}
 use Rattle.base.specs.Lists.{below, some_of, present, same_list, there_with, total}
 use Rattle.base.specs.Search.{search_from}
@@ -38,9 +39,9 @@ alternatives_by tower book v a = progressed_set tower book v.state (tower.step_l
 
 -- a state reached with the alternatives that are left; nothing where they are over 16 or none is left
 unfoldable pub pair_at : ℕ → Alternatives → Option Pair
-pair_at y over = none
-pair_at y (these []) = none
-pair_at y (these (p ∷ ps)) = some (record { state = y; pending = p ∷ ps })
+pair_at y over = None
+pair_at y (these []) = None
+pair_at y (these (p ∷ ps)) = Some (record { state = y; pending = p ∷ ps })
 
 -- the pair that an enabled action leads to; nothing where it is not enabled, the step is broken, or it gives over 16 alternatives
 unfoldable pub tried_step : Tower → Book → Pair → ℕ → Option Pair
@@ -58,7 +59,7 @@ over_full tower book v =
 
 -- Such a pair is stepped from by no action.
 unfoldable pub pair_step : Tower → Book → Pair → ℕ → Option Pair
-pair_step tower book v a = pick (over_full tower book v) (λ _. none) (λ _. tried_step tower book v a)
+pair_step tower book v a = pick (over_full tower book v) (λ _. None) (λ _. tried_step tower book v a)
 
 -- the pairs that the enabled actions lead to, actions ascending
 unfoldable pub pair_followers : Tower → Book → Pair → List Pair

@@ -1,7 +1,7 @@
 -- 02, item 3: the progression of a set of alternatives. A node and a rule give a set of their own; 'Within each old alternative they are
 -- combined operand before parent, then pending nodes by number, then lines; the results are joined in the old ones' order'.
 use Rattle.std.specs.Prelude.{ℕ, suc, ◌+◌, Bool, ◌&&◌, List, [], ◌∷◌, length, set, replicate}
-use Rattle.std.proofs.Math.Option.{none, some}
+use Rattle.std.specs.Prelude.{None, Some}
 use Rattle.base.specs.Choice.{pick}
 use Rattle.logic.specs.Time.{minus, at_most}
 use Rattle.logic.specs.Tower.{Tower}
@@ -12,11 +12,11 @@ use Rattle.alternatives.specs.Alternatives.{Alternatives, these, broken, combine
 
 -- the one alternative in which nothing is pending; fs are the nodes
 unfoldable pub nothing_pending : List Formula → Alternatives
-nothing_pending fs = these (replicate (length fs) none ∷ [])
+nothing_pending fs = these (replicate (length fs) None ∷ [])
 
 -- the one alternative in which node k alone is pending, with r ticks
 unfoldable pub alone_pending : List Formula → ℕ → Tick → Alternatives
-alone_pending fs k r = these (set (replicate (length fs) none) k (some r) ∷ [])
+alone_pending fs k r = these (set (replicate (length fs) None) k (Some r) ∷ [])
 
 -- goes on if the test holds, and else the step is broken
 unfoldable pub if_so : Bool → Alternatives → Alternatives
@@ -49,8 +49,8 @@ alternatives_of tower fs x d (until t f g) k r =
 unfoldable pub combined_nodes : Tower → List Formula → ℕ → Tick → List Formula → ℕ → Pending → Alternatives → Alternatives
 combined_nodes tower fs x d [] k cells s = s
 combined_nodes tower fs x d (g ∷ gs) k [] s = s
-combined_nodes tower fs x d (g ∷ gs) k (none ∷ cells) s = combined_nodes tower fs x d gs (suc k) cells s
-combined_nodes tower fs x d (g ∷ gs) k (some r ∷ cells) s =
+combined_nodes tower fs x d (g ∷ gs) k (None ∷ cells) s = combined_nodes tower fs x d gs (suc k) cells s
+combined_nodes tower fs x d (g ∷ gs) k (Some r ∷ cells) s =
     combined_nodes tower fs x d gs (suc k) cells (combined fs s (alternatives_of tower fs x d g k r))
 
 -- one rule: an `always` formula is combined with what stands so far

@@ -3,10 +3,13 @@
 #![tactic(auto)]
 
 ghost use Rattle.std.specs.Prelude.{◌≡◌, [], ◌∷◌};
-ghost use Rattle.base.specs.Answers.{answered, refusal_said, reason_said, book_said, make_said, verdict_said, follow_said, log_said, why_said};
+ghost use Rattle.base.specs.Answers.{rejection_said, end_said, run_said, answered, refusal_said, reason_said, book_said, make_said, verdict_said, follow_said, log_said, why_said};
 ghost use Rattle.answer_numbers.specs.Shown.{shown};
 
-use base::{BookAnswer, FollowAnswer, LogAnswer, MakeAnswer, Reason, Refusal, Verdict, WhyAnswer};
+use base::{
+    BookAnswer, BrokenRun, FollowAnswer, LogAnswer, LogEnd, MakeAnswer, Reason, Refusal, Rejection,
+    Verdict, WhyAnswer,
+};
 
 // The first value of a log's answer: every line fits, or one does not.
 const FITS: usize = 0;
@@ -47,7 +50,7 @@ fn value(first: usize) -> Answer
         number: 0,
         letter: 0,
         place: 0,
-        first: first,
+        first,
         second: 0,
         third: 0,
     }
@@ -61,8 +64,8 @@ fn two_values(first: usize, second: usize) -> Answer
         number: 0,
         letter: 0,
         place: 0,
-        first: first,
-        second: second,
+        first,
+        second,
         third: 0,
     }
 }
@@ -75,9 +78,9 @@ fn three_values(first: usize, second: usize, third: usize) -> Answer
         number: 0,
         letter: 0,
         place: 0,
-        first: first,
-        second: second,
-        third: third,
+        first,
+        second,
+        third,
     }
 }
 
@@ -88,9 +91,9 @@ pub fn refused(refusal: Refusal) -> Answer
     let number = refusal_numbers::number(refusal);
     let place = refusal_numbers::place(refusal);
     Answer {
-        number: number,
+        number,
         letter: 0,
-        place: place,
+        place,
         first: 0,
         second: 0,
         third: 0,
@@ -105,11 +108,21 @@ fn not_good(reason: Reason) -> Answer
     let row = refusal_numbers::row(reason);
     Answer {
         number: refusal_numbers::NOT_GOOD,
-        letter: letter,
+        letter,
         place: row,
         first: 0,
         second: 0,
         third: 0,
+    }
+}
+
+// A rejection.
+fn rejected(why: Rejection) -> Answer
+    ensures { result ≡ shown (rejection_said why) }
+{
+    match why {
+        Rejection::NotGood(reason) => not_good(reason),
+        Rejection::Refused(refusal) => refused(refusal),
     }
 }
 
@@ -118,8 +131,8 @@ pub fn of_book(book: BookAnswer) -> Answer
     ensures { result ≡ shown (book_said book) }
 {
     match book {
-        BookAnswer::Read { lines, nodes } => two_values(lines, nodes),
-        BookAnswer::Refused(refusal) => refused(refusal),
+        Ok(size) => two_values(size.lines, size.nodes),
+        Err(refusal) => refused(refusal),
     }
 }
 
@@ -128,8 +141,8 @@ pub fn of_make(made: MakeAnswer) -> Answer
     ensures { result ≡ shown (make_said made) }
 {
     match made {
-        MakeAnswer::Made(length) => value(length),
-        MakeAnswer::Refused(refusal) => refused(refusal),
+        Ok(length) => value(length),
+        Err(refusal) => refused(refusal),
     }
 }
 
@@ -138,9 +151,8 @@ pub fn of_check(verdict: Verdict) -> Answer
     ensures { result ≡ shown (verdict_said verdict) }
 {
     match verdict {
-        Verdict::Good => yes(),
-        Verdict::NotGood(reason) => not_good(reason),
-        Verdict::Refused(refusal) => refused(refusal),
+        Ok(()) => yes(),
+        Err(why) => rejected(why),
     }
 }
 
@@ -149,20 +161,38 @@ pub fn of_follow(followed: FollowAnswer) -> Answer
     ensures { result ≡ shown (follow_said followed) }
 {
     match followed {
-        FollowAnswer::Row(next) => value(next),
-        FollowAnswer::Refused(refusal) => refused(refusal),
+        Ok(next) => value(next),
+        Err(refusal) => refused(refusal),
     }
 }
 
-// The log reader's: 0 and the final row, or 1 and the number of the first line that does not fit.
+// What a log comes to: 0 and the final row, or 1 and the number of the first line that does not fit.
+fn of_end(end: LogEnd) -> Answer
+    ensures { result ≡ shown (end_said end) }
+{
+    match end {
+        LogEnd::Row(row) => two_values(FITS, row),
+        LogEnd::Line(line) => two_values(FAILS, line),
+    }
+}
+
+// The run that is shown, if one is.
+fn of_run(found: Option<BrokenRun>) -> Answer
+    ensures { result ≡ shown (run_said found) }
+{
+    match found {
+        Some(run) => three_values(run.length, run.line, run.position),
+        None => yes(),
+    }
+}
+
+// The log reader's.
 pub fn of_log(read: LogAnswer) -> Answer
     ensures { result ≡ shown (log_said read) }
 {
     match read {
-        LogAnswer::Row(row) => two_values(FITS, row),
-        LogAnswer::Line(line) => two_values(FAILS, line),
-        LogAnswer::NotGood(reason) => not_good(reason),
-        LogAnswer::Refused(refusal) => refused(refusal),
+        Ok(end) => of_end(end),
+        Err(why) => rejected(why),
     }
 }
 
@@ -171,13 +201,7 @@ pub fn of_why(shows: WhyAnswer) -> Answer
     ensures { result ≡ shown (why_said shows) }
 {
     match shows {
-        WhyAnswer::Shown {
-            length,
-            line,
-            position,
-        } => three_values(length, line, position),
-        WhyAnswer::Good => yes(),
-        WhyAnswer::NotGood(reason) => not_good(reason),
-        WhyAnswer::Refused(refusal) => refused(refusal),
+        Ok(found) => of_run(found),
+        Err(why) => rejected(why),
     }
 }

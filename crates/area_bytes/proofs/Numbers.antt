@@ -1,15 +1,16 @@
 -- Numbers in files and lent areas: read, written, and read back.
-use Prim.Native.Nat.{ℕ, zero, suc, ◌+◌, ◌*◌, ◌/◌, ◌%◌, ◌^◌, ◌≤◌, ◌<◌}
+use Prim.Native.Nat.{ℕ, zero, suc, ◌+◌, ◌/◌, ◌%◌, ◌^◌, ◌≤◌, ◌<◌}
 use native.Mathlib.Omega.{arith}
 use native.Mathlib.Nat.{add-zero}
 use native.Mathlib.Numerals.{add-one}
 use mathlib.Core.Path.{◌≡◌, sym, ◌∙◌}
 use mathlib.Core.Logic.{◌⊎◌, inl, inr}
-use mathlib.Core.List.{List}
+use mathlib.Core.List.{List, [], ◌∷◌}
 use lib.ListN.{length, get_or, set, take, length-set}
 use lib.Seq.{sets, length-sets, get_or-set_same, get_or-set_other, take-set-le}
-use mir.Syntax.{w8, w64}
+use mir.Syntax.{w8, w32, w64}
 use mir.Val.{Fits}
+use Rattle.std.specs.Int.{from_le_bytes}
 use Rattle.base.specs.Bytes.{number_at, number_bytes}
 use Rattle.base.proofs.Bytes.{number_at_one, number_fits}
 
@@ -18,23 +19,6 @@ use Rattle.base.proofs.Bytes.{number_at_one, number_fits}
 -- A byte is a number.
 pub cast_byte : (l : List ℕ) (i : ℕ) → ((j : ℕ) → Fits w8 (get_or l j 0)) → Fits w64 (get_or l i 0)
 cast_byte l i h = omega (arith, h i)
-
--- The upper byte of a two-byte number.
-pub upper_fits : (l : List ℕ) (i : ℕ) → ((j : ℕ) → Fits w8 (get_or l j 0)) → Fits w64 (256 * get_or l i 0)
-upper_fits l i h = omega (arith, h i)
-
--- A two-byte number.
-pub two_fit : (l : List ℕ) (i k : ℕ) → ((j : ℕ) → Fits w8 (get_or l j 0)) → Fits w64 (get_or l i 0 + 256 * get_or l k 0)
-two_fit l i k h = omega (arith, h i, h k)
-
--- What two bytes spell.
-pub two_read : (l : List ℕ) (p : ℕ) → get_or l p 0 + 256 * get_or l (p + 1) 0 ≡ number_at 2 l p
-unfolding number_at
-two_read l p = omega arith
-
--- A remainder by 256 is a byte.
-pub byte_fits : (n : ℕ) → Fits w8 (n % 256)
-byte_fits n = omega arith
 
 -- What two stores write.
 pub two_written : (l : List ℕ) (p n : ℕ) → set (set l p (n % 256)) (p + 1) (n / 256 % 256) ≡ sets l p (number_bytes 2 n)
@@ -47,35 +31,27 @@ two_written l p n = rw (add-one p)
 pub number_bound : (width : ℕ) (l : List ℕ) (p : ℕ) → ((j : ℕ) → Fits w8 (get_or l j 0)) → number_at width l p < 256 ^ width
 number_bound width l p bytes = number_fits width l p (record { at = λ i. omega (arith, bytes i) })
 
--- A four-byte number of two two-byte ones: the upper one, and their sum.
-pub four_upper : (l : List ℕ) (p w : ℕ) → w ≡ number_at 2 l p → ((j : ℕ) → Fits w8 (get_or l j 0)) → Fits w64 (65536 * w)
-four_upper l p w e bytes = omega (arith, number_bound 2 l p bytes)
-
-pub four_sum : (l : List ℕ) (p q v w : ℕ) → v ≡ number_at 2 l p → w ≡ number_at 2 l q → ((j : ℕ) → Fits w8 (get_or l j 0))
-    → Fits w64 (v + 65536 * w)
-four_sum l p q v w e f bytes = omega (arith, number_bound 2 l p bytes, number_bound 2 l q bytes)
-
--- What it is.
-pub four_read : (l : List ℕ) (p v w : ℕ) → v ≡ number_at 2 l p → w ≡ number_at 2 l (p + 2) → v + 65536 * w ≡ number_at 4 l p
+-- What four bytes spell.
+pub four_read : (l : List ℕ) (p : ℕ) → from_le_bytes w32 (get_or l p 0 ∷ get_or l (p + 1) 0 ∷ get_or l (p + 2) 0 ∷ get_or l (p + 3) 0 ∷ [])
+    ≡ number_at 4 l p
 unfolding number_at
-four_read l p v w e f =
+four_read l p =
     let second : p + 1 + 1 ≡ p + 2 = omega arith in
-    rw second (omega arith)
+    let third : p + 2 + 1 ≡ p + 3 = omega arith in
+    rw (second, third) (omega arith)
 
--- An eight-byte number of two four-byte ones: the upper one, and their sum.
-pub eight_upper : (l : List ℕ) (p w : ℕ) → w ≡ number_at 4 l p → ((j : ℕ) → Fits w8 (get_or l j 0)) → Fits w64 (4294967296 * w)
-eight_upper l p w e bytes = omega (arith, number_bound 4 l p bytes)
-
-pub eight_sum : (l : List ℕ) (p q v w : ℕ) → v ≡ number_at 4 l p → w ≡ number_at 4 l q → ((j : ℕ) → Fits w8 (get_or l j 0))
-    → Fits w64 (v + 4294967296 * w)
-eight_sum l p q v w e f bytes = omega (arith, number_bound 4 l p bytes, number_bound 4 l q bytes)
-
--- What it is.
-pub eight_read : (l : List ℕ) (p v w : ℕ) → v ≡ number_at 4 l p → w ≡ number_at 4 l (p + 4) → v + 4294967296 * w ≡ number_at 8 l p
+-- What eight bytes spell.
+pub eight_read : (l : List ℕ) (p : ℕ) → from_le_bytes w64 (get_or l p 0 ∷ get_or l (p + 1) 0 ∷ get_or l (p + 2) 0 ∷ get_or l (p + 3) 0
+    ∷ get_or l (p + 4) 0 ∷ get_or l (p + 5) 0 ∷ get_or l (p + 6) 0 ∷ get_or l (p + 7) 0 ∷ []) ≡ number_at 8 l p
 unfolding number_at
-eight_read l p v w e f =
-    let fourth : p + 1 + 1 + 1 + 1 ≡ p + 4 = omega arith in
-    rw fourth (omega arith)
+eight_read l p =
+    let second : p + 1 + 1 ≡ p + 2 = omega arith in
+    let third : p + 2 + 1 ≡ p + 3 = omega arith in
+    let fourth : p + 3 + 1 ≡ p + 4 = omega arith in
+    let fifth : p + 4 + 1 ≡ p + 5 = omega arith in
+    let sixth : p + 5 + 1 ≡ p + 6 = omega arith in
+    let seventh : p + 6 + 1 ≡ p + 7 = omega arith in
+    rw (second, third, fourth, fifth, sixth, seventh) (omega arith)
 
 -- A number that is zero has zero bytes.
 pub zero_bytes : (width : ℕ) (l : List ℕ) (p : ℕ) → number_at width l p ≡ 0 → (m : ℕ) → m < width → get_or l (p + m) 0 ≡ 0
@@ -111,10 +87,6 @@ number_one l p width e = rw e (sym (number_at_one l p))
 -- In two: it is what they spell.
 pub number_two : (l : List ℕ) (p width r : ℕ) → 1 ≤ width → width ≤ 2 → (width ≡ 1 → ⊥) → r ≡ number_at 2 l p → r ≡ number_at width l p
 number_two l p width r h k f e = rw (two_wide width h k f) e
-
--- Both bytes are there.
-pub two_there : (l : List ℕ) (p width : ℕ) → 1 ≤ width → width ≤ 2 → (width ≡ 1 → ⊥) → p + width ≤ length l → p + 1 < length l
-two_there l p width h k f le = omega (arith, two_wide width h k f)
 
 -- Written in one byte,
 pub one_put : (l : List ℕ) (p width n : ℕ) → width ≡ 1 → set l p (n % 256) ≡ sets l p (number_bytes width n)

@@ -10,7 +10,7 @@ pub fn two_bytes(bytes: &[u8], p: usize) -> usize
     requires { p + 1 < length bytes.now }
     ensures { result ≡ number_at 2 bytes.now p }
 {
-    bytes[p] as usize + 256 * (bytes[p + 1] as usize)
+    usize::from(u16::from_le_bytes([bytes[p], bytes[p + 1]]))
 }
 
 // The four-byte number at p.
@@ -18,7 +18,8 @@ pub fn four_bytes(bytes: &[u8], p: usize) -> usize
     requires { p + 3 < length bytes.now }
     ensures { result ≡ number_at 4 bytes.now p }
 {
-    two_bytes(bytes, p) + 65536 * two_bytes(bytes, p + 2)
+    let four = [bytes[p], bytes[p + 1], bytes[p + 2], bytes[p + 3]];
+    u32::from_le_bytes(four) as usize
 }
 
 // The eight-byte number at p.
@@ -26,7 +27,17 @@ pub fn eight_bytes(bytes: &[u8], p: usize) -> usize
     requires { p + 7 < length bytes.now }
     ensures { result ≡ number_at 8 bytes.now p }
 {
-    four_bytes(bytes, p) + 4294967296 * four_bytes(bytes, p + 4)
+    let eight = [
+        bytes[p],
+        bytes[p + 1],
+        bytes[p + 2],
+        bytes[p + 3],
+        bytes[p + 4],
+        bytes[p + 5],
+        bytes[p + 6],
+        bytes[p + 7],
+    ];
+    usize::from_le_bytes(eight)
 }
 
 // Writes n as a two-byte number at p.
@@ -69,10 +80,5 @@ pub fn put_number(bytes: &mut [u8], p: usize, width: usize, n: usize)
 pub fn clear(area: &mut [u8])
     ensures { area.new ≡ replicate (length area.old) 0 }
 {
-    let n = area.len();
-    let mut i = 0;
-    while i < n {
-        area[i] = 0;
-        i += 1;
-    }
+    area.fill(0);
 }

@@ -3,5 +3,6 @@ pub mod Bytes
 pub mod Pigeonhole
 pub mod Answers
 pub mod Search
+pub mod Options
 pub mod Rounds
 pub mod Recursion

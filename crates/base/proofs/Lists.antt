@@ -3,8 +3,8 @@ use Prim.Native.Nat.{ℕ, zero, suc, ◌+◌, ◌-◌, ◌≤◌, ◌<◌}
 use mathlib.Core.Path.{◌≡◌, refl, sym, ap, ap₂, ◌∙◌}
 use mathlib.Core.Logic.{◌⊎◌, inl, inr}
 use mathlib.Core.Bool.{Bool, true, false, ◌&&◌, ◌||◌, not, beq, true≢false}
-use mathlib.Core.Option
-use mathlib.Core.Option.{Option, none, some}
+use Rattle.std.specs.Prelude.{option_map}
+use Rattle.std.specs.Prelude.{Option, None, Some}
 use mathlib.Core.List.Memᴰ
 use mathlib.Core.List.{List, [], ◌∷◌, ◌++◌, map, Memᴰ, append_assoc}
 use native.Mathlib.Omega.{arith}
@@ -301,63 +301,63 @@ below_some test n a l p = some_of_mem test (below_mem n a l) p
 
 -- ---- Options
 
-module _ {ℓ} {X : Type ℓ} where
+module _ {X : Type 0} where
   -- Something is there: what it is.
-  pub is_there_out : (o : Option X) → is_there o ≡ true → (x : X) × (o ≡ some x)
+  pub is_there_out : (o : Option X) → is_there o ≡ true → (x : X) × (o ≡ Some x)
   unfolding is_there
-  is_there_out none e = never_both e refl
-  is_there_out (some x) e = (x, refl)
+  is_there_out None e = never_both e refl
+  is_there_out (Some x) e = (x, refl)
 
   -- A value is there: something is there.
-  pub is_there_in : {o : Option X} {x : X} → o ≡ some x → is_there o ≡ true
+  pub is_there_in : {o : Option X} {x : X} → o ≡ Some x → is_there o ≡ true
   unfolding is_there
   is_there_in e = ap is_there e
 
   -- Nothing is there, by the test: it is nothing.
-  pub not_there : (o : Option X) → is_there o ≡ false → o ≡ none
+  pub not_there : (o : Option X) → is_there o ≡ false → o ≡ None
   unfolding is_there
-  not_there none e = refl
-  not_there (some x) e = never_both refl e
+  not_there None e = refl
+  not_there (Some x) e = never_both refl e
 
   -- It is nothing: the test says that nothing is there.
-  pub there_not : {o : Option X} → o ≡ none → is_there o ≡ false
+  pub there_not : {o : Option X} → o ≡ None → is_there o ≡ false
   unfolding is_there
   there_not e = ap is_there e
 
   -- Nothing is not something.
-  pub none-some {κ} : {C : Type κ} {o : Option X} {x : X} → o ≡ none → o ≡ some x → C
+  pub none-some {κ} : {C : Type κ} {o : Option X} {x : X} → o ≡ None → o ≡ Some x → C
   none-some p q = never_both (is_there_in q) (there_not p)
 
   -- What is there is one value.
-  pub some_one : {o : Option X} {x y : X} → o ≡ some x → o ≡ some y → x ≡ y
+  pub some_one : {o : Option X} {x y : X} → o ≡ Some x → o ≡ Some y → x ≡ y
   some_one p q = cc
 
   -- An option is nothing or a value; each arm is given the equation.
-  pub whether_there {κ} : {C : Type κ} (o : Option X) → (o ≡ none → C) → ((x : X) → o ≡ some x → C) → C
-  whether_there none if_not if_so = if_not refl
-  whether_there (some x) if_not if_so = if_so x refl
+  pub whether_there {κ} : {C : Type κ} (o : Option X) → (o ≡ None → C) → ((x : X) → o ≡ Some x → C) → C
+  whether_there None if_not if_so = if_not refl
+  whether_there (Some x) if_not if_so = if_so x refl
 
   -- Two options are alike by the test: both nothing, or both there and alike.
   pub same_option_out : (same : X → X → Bool) (o p : Option X) → same_option same o p ≡ true
-      → ((o ≡ none) × (p ≡ none)) ⊎ ((x : X) × ((y : X) × (o ≡ some x) × (p ≡ some y) × (same x y ≡ true)))
+      → ((o ≡ None) × (p ≡ None)) ⊎ ((x : X) × ((y : X) × (o ≡ Some x) × (p ≡ Some y) × (same x y ≡ true)))
   unfolding same_option
-  same_option_out same none none e = inl (refl, refl)
-  same_option_out same none (some y) e = never_both e refl
-  same_option_out same (some x) none e = never_both e refl
-  same_option_out same (some x) (some y) e = inr (x, (y, refl, refl, e))
+  same_option_out same None None e = inl (refl, refl)
+  same_option_out same None (Some y) e = never_both e refl
+  same_option_out same (Some x) None e = never_both e refl
+  same_option_out same (Some x) (Some y) e = inr (x, (y, refl, refl, e))
 
   -- The test decides equality of options if it does so of their values, this way
   pub same_option_eq : (same : X → X → Bool) → ((x y : X) → same x y ≡ true → x ≡ y) → (o p : Option X) → same_option same o p ≡ true → o ≡ p
   unfolding same_option
-  same_option_eq same h none none e = refl
-  same_option_eq same h none (some y) e = never_both e refl
-  same_option_eq same h (some x) none e = never_both e refl
-  same_option_eq same h (some x) (some y) e = ap {B = Option X} some (h x y e)
+  same_option_eq same h None None e = refl
+  same_option_eq same h None (Some y) e = never_both e refl
+  same_option_eq same h (Some x) None e = never_both e refl
+  same_option_eq same h (Some x) (Some y) e = ap {B = Option X} Some (h x y e)
 
   same_option_refl : (same : X → X → Bool) → ((x : X) → same x x ≡ true) → (o : Option X) → same_option same o o ≡ true
   unfolding same_option
-  same_option_refl same h none = refl
-  same_option_refl same h (some x) = h x
+  same_option_refl same h None = refl
+  same_option_refl same h (Some x) = h x
 
   -- and back.
   pub eq_same_option : (same : X → X → Bool) → ((x : X) → same x x ≡ true) → {o p : Option X} → o ≡ p → same_option same o p ≡ true
@@ -383,86 +383,86 @@ module _ {ℓ} {X : Type ℓ} where
   pub eq_same_list : (same : X → X → Bool) → ((x : X) → same x x ≡ true) → {xs ys : List X} → xs ≡ ys → same_list same xs ys ≡ true
   eq_same_list same h {xs} e = ap (λ (ys : List X). same_list same xs ys) (sym e) ∙ same_list_refl same h xs
 
-module _ {ℓ} {X : Type ℓ} (test : X → Bool) where
+module _ {X : Type 0} (test : X → Bool) where
   -- What is there passes the test: the value, and that it passes.
-  pub there_with_out : (o : Option X) → there_with test o ≡ true → (x : X) × (o ≡ some x) × (test x ≡ true)
+  pub there_with_out : (o : Option X) → there_with test o ≡ true → (x : X) × (o ≡ Some x) × (test x ≡ true)
   unfolding there_with
-  there_with_out none e = never_both e refl
-  there_with_out (some x) e = (x, refl, e)
+  there_with_out None e = never_both e refl
+  there_with_out (Some x) e = (x, refl, e)
 
   -- A value is there and passes: the test holds.
-  pub there_with_in : {o : Option X} {x : X} → o ≡ some x → test x ≡ true → there_with test o ≡ true
+  pub there_with_in : {o : Option X} {x : X} → o ≡ Some x → test x ≡ true → there_with test o ≡ true
   unfolding there_with
   there_with_in p q = ap (there_with test) p ∙ q
 
   -- What is kept was there and passes.
-  pub only_if_out : (o : Option X) {x : X} → only_if test o ≡ some x → (o ≡ some x) × (test x ≡ true)
+  pub only_if_out : (o : Option X) {x : X} → only_if test o ≡ Some x → (o ≡ Some x) × (test x ≡ true)
   unfolding only_if
-  only_if_out none e = none-some refl e
-  only_if_out (some y) {x} e = go (test y) refl e
+  only_if_out None e = none-some refl e
+  only_if_out (Some y) {x} e = go (test y) refl e
     where
-      go : (b : Bool) → test y ≡ b → pick b (λ _. some y) (λ _. none) ≡ some x → (some y ≡ some x) × (test x ≡ true)
+      go : (b : Bool) → test y ≡ b → pick b (λ _. Some y) (λ _. None) ≡ Some x → (Some y ≡ Some x) × (test x ≡ true)
       go true p q = (q, ap test (some_one q refl) ∙ p)
       go false p q = none-some refl q
 
   -- What was there and passes is kept.
-  pub only_if_in : {o : Option X} {x : X} → o ≡ some x → test x ≡ true → only_if test o ≡ some x
+  pub only_if_in : {o : Option X} {x : X} → o ≡ Some x → test x ≡ true → only_if test o ≡ Some x
   unfolding only_if
-  only_if_in {x = x} p q = ap (only_if test) p ∙ ap (λ (b : Bool). pick b (λ _. some x) (λ _. none)) q
+  only_if_in {x = x} p q = ap (only_if test) p ∙ ap (λ (b : Bool). pick b (λ _. Some x) (λ _. None)) q
 
 -- ---- What is there in a list of options
 
-module _ {ℓ} {X : Type ℓ} where
+module _ {X : Type 0} where
   -- A value that is there in the list is present.
-  pub present_in : {x : X} (os : List (Option X)) → Memᴰ (some x) os → Memᴰ x (present os)
+  pub present_in : {x : X} (os : List (Option X)) → Memᴰ (Some x) os → Memᴰ x (present os)
   unfolding present
   present_in [] m = absurd (Memᴰ.not-nil m)
-  present_in {x} (none ∷ os) m = go (λ n. present_in os n) (Memᴰ.cases_cons m)
+  present_in {x} (None ∷ os) m = go (λ n. present_in os n) (Memᴰ.cases_cons m)
     where
-      go : (Memᴰ (some x) os → Memᴰ x (present os)) → (some x ≡ none) ⊎ Memᴰ (some x) os → Memᴰ x (present os)
+      go : (Memᴰ (Some x) os → Memᴰ x (present os)) → (Some x ≡ None) ⊎ Memᴰ (Some x) os → Memᴰ x (present os)
       go ih (inl e) = none-some e refl
       go ih (inr n) = ih n
-  present_in {x} (some y ∷ os) m = go (λ n. present_in os n) (Memᴰ.cases_cons m)
+  present_in {x} (Some y ∷ os) m = go (λ n. present_in os n) (Memᴰ.cases_cons m)
     where
-      go : (Memᴰ (some x) os → Memᴰ x (present os)) → (some x ≡ some y) ⊎ Memᴰ (some x) os → Memᴰ x (y ∷ present os)
+      go : (Memᴰ (Some x) os → Memᴰ x (present os)) → (Some x ≡ Some y) ⊎ Memᴰ (Some x) os → Memᴰ x (y ∷ present os)
       go ih (inl e) = Memᴰ.head (some_one refl e)
       go ih (inr n) = Memᴰ.tail (ih n)
 
   -- A value that is present is there in the list.
-  pub present_out : {x : X} (os : List (Option X)) → Memᴰ x (present os) → Memᴰ (some x) os
+  pub present_out : {x : X} (os : List (Option X)) → Memᴰ x (present os) → Memᴰ (Some x) os
   unfolding present
   present_out [] m = absurd (Memᴰ.not-nil m)
-  present_out (none ∷ os) m = Memᴰ.tail (present_out os m)
-  present_out {x} (some y ∷ os) m = go (λ n. present_out os n) (Memᴰ.cases_cons m)
+  present_out (None ∷ os) m = Memᴰ.tail (present_out os m)
+  present_out {x} (Some y ∷ os) m = go (λ n. present_out os n) (Memᴰ.cases_cons m)
     where
-      go : (Memᴰ x (present os) → Memᴰ (some x) os) → (x ≡ y) ⊎ Memᴰ x (present os) → Memᴰ (some x) (some y ∷ os)
-      go ih (inl e) = Memᴰ.head (ap {B = Option X} some e)
+      go : (Memᴰ x (present os) → Memᴰ (Some x) os) → (x ≡ y) ⊎ Memᴰ x (present os) → Memᴰ (Some x) (Some y ∷ os)
+      go ih (inl e) = Memᴰ.head (ap {B = Option X} Some e)
       go ih (inr n) = Memᴰ.tail (ih n)
 
   -- What is present of a list mapped to options: it comes of a member.
-  pub present_map_out {κ} : {Y : Type κ} (f : Y → Option X) (ys : List Y) {x : X} → Memᴰ x (present (map f ys))
-      → (y : Y) × Memᴰ y ys × (f y ≡ some x)
+  pub present_map_out : {Y : Type 0} (f : Y → Option X) (ys : List Y) {x : X} → Memᴰ x (present (map f ys))
+      → (y : Y) × Memᴰ y ys × (f y ≡ Some x)
   present_map_out f ys m = Memᴰ.of_map f ys (present_out (map f ys) m)
 
   -- What a member is mapped to is present.
-  pub present_map_in {κ} : {Y : Type κ} (f : Y → Option X) {y : Y} (ys : List Y) {x : X} → Memᴰ y ys → f y ≡ some x
+  pub present_map_in : {Y : Type 0} (f : Y → Option X) {y : Y} (ys : List Y) {x : X} → Memᴰ y ys → f y ≡ Some x
       → Memᴰ x (present (map f ys))
   present_map_in f ys m e = present_in (map f ys) (Memᴰ.cast (sym e) (Memᴰ.map f m))
 
 -- Two lists mapped to options with the same values by p and q: so are the values present.
-pub present_map_same {ℓ κ μ ν} : {A : Type ℓ} {X : Type κ} {Y : Type μ} {Z : Type ν} (f : A → Option X) (g : A → Option Y) (p : X → Z)
-    (q : Y → Z) → ((a : A) → Option.map p (f a) ≡ Option.map q (g a)) → (bs : List A)
+pub present_map_same : {A : Type 0} {X : Type 0} {Y : Type 0} {Z : Type 0} (f : A → Option X) (g : A → Option Y) (p : X → Z)
+    (q : Y → Z) → ((a : A) → option_map p (f a) ≡ option_map q (g a)) → (bs : List A)
     → map p (present (map f bs)) ≡ map q (present (map g bs))
 unfolding present
 present_map_same f g p q h [] = refl
 present_map_same {X = X} {Y = Y} {Z = Z} f g p q h (a ∷ bs) = go (f a) (g a) (h a) (present_map_same f g p q h bs)
   where
-    go : (o : Option X) (r : Option Y) → Option.map p o ≡ Option.map q r → map p (present (map f bs)) ≡ map q (present (map g bs))
+    go : (o : Option X) (r : Option Y) → option_map p o ≡ option_map q r → map p (present (map f bs)) ≡ map q (present (map g bs))
         → map p (present (o ∷ map f bs)) ≡ map q (present (r ∷ map g bs))
-    go none none e ih = ih
-    go none (some y) e ih = none-some refl e
-    go (some x) none e ih = none-some refl (sym e)
-    go (some x) (some y) e ih = cc
+    go None None e ih = ih
+    go None (Some y) e ih = none-some refl e
+    go (Some x) None e ih = none-some refl (sym e)
+    go (Some x) (Some y) e ih = cc
 
 -- Keys strictly ascending.
 unfoldable pub Rising {ℓ} : {X : Type ℓ} → (X → ℕ) → List X → Type 0
@@ -478,7 +478,7 @@ rising_cons key x [] low r = tt
 rising_cons key x (y ∷ xs) low r = (low y (Memᴰ.head refl), r)
 
 -- What is present of the numbers in order, mapped to options, is in order of the numbers.
-pub present_rising {ℓ} : {X : Type ℓ} (f : ℕ → Option X) (key : X → ℕ) → ((a : ℕ) (x : X) → f a ≡ some x → key x ≡ a) → (k n : ℕ)
+pub present_rising : {X : Type 0} (f : ℕ → Option X) (key : X → ℕ) → ((a : ℕ) (x : X) → f a ≡ Some x → key x ≡ a) → (k n : ℕ)
     → Rising key (present (map f (count_from k n)))
 unfolding count_from present Rising
 present_rising f key h k zero = tt
@@ -493,11 +493,11 @@ present_rising {X = X} f key h k (suc n) = go (f k) refl (present_rising f key h
 
     go : (o : Option X) → f k ≡ o → Rising key (present (map f (count_from (suc k) n)))
         → Rising key (present (o ∷ map f (count_from (suc k) n)))
-    go none e r = r
-    go (some x) e r = rising_cons key x (present (map f (count_from (suc k) n))) (above x (h k x e)) r
+    go None e r = r
+    go (Some x) e r = rising_cons key x (present (map f (count_from (suc k) n))) (above x (h k x e)) r
 
 -- What is present of the numbers below n, mapped to options, is in order of the numbers.
-pub below_ascending {ℓ} : {X : Type ℓ} (f : ℕ → Option X) (key : X → ℕ) → ((a : ℕ) (x : X) → f a ≡ some x → key x ≡ a) → (n : ℕ)
+pub below_ascending : {X : Type 0} (f : ℕ → Option X) (key : X → ℕ) → ((a : ℕ) (x : X) → f a ≡ Some x → key x ≡ a) → (n : ℕ)
     → Rising key (present (map f (below n)))
 unfolding below
 below_ascending f key h n = present_rising f key h 0 n
@@ -707,12 +707,12 @@ begins_in (x ∷ xs) zs = and_both (eq-eqb x x refl) (begins_in xs zs)
 -- ---- What counts as one and the same
 
 -- A test that says of two whether they are one and the same: an equivalence.
-pub record IsSame {ℓ} {X : Type ℓ} (same : X → X → Bool) : Type ℓ where
+pub record IsSame {X : Type 0} (same : X → X → Bool) : Type 0 where
   pub itself : (x : X) → same x x ≡ true
   pub turned : (x y : X) → same x y ≡ true → same y x ≡ true
   pub chained : (x y z : X) → same x y ≡ true → same y z ≡ true → same x z ≡ true
 
-module _ {ℓ} {X : Type ℓ} (same : X → X → Bool) where
+module _ {X : Type 0} (same : X → X → Bool) where
   -- A test that decides equality is one.
   pub decides_same : ((x y : X) → same x y ≡ true → x ≡ y) → ((x : X) → same x x ≡ true) → IsSame same
   decides_same out itself =
@@ -733,17 +733,17 @@ module _ {ℓ} {X : Type ℓ} (same : X → X → Bool) where
       }
     where
       back : (o p : Option X) → same_option same o p ≡ true → same_option same p o ≡ true
-      back none none e = e
-      back none (some y) e = e
-      back (some x) none e = e
-      back (some x) (some y) e = is.turned x y e
+      back None None e = e
+      back None (Some y) e = e
+      back (Some x) None e = e
+      back (Some x) (Some y) e = is.turned x y e
 
       on : (o p q : Option X) → same_option same o p ≡ true → same_option same p q ≡ true → same_option same o q ≡ true
-      on none none q e f = f
-      on none (some y) q e f = never_both e refl
-      on (some x) none q e f = never_both e refl
-      on (some x) (some y) none e f = f
-      on (some x) (some y) (some z) e f = is.chained x y z e f
+      on None None q e f = f
+      on None (Some y) q e f = never_both e refl
+      on (Some x) None q e f = never_both e refl
+      on (Some x) (Some y) None e f = f
+      on (Some x) (Some y) (Some z) e f = is.chained x y z e f
 
 -- ---- Distinct
 

@@ -5,3 +5,4 @@ pub mod Text
 pub mod Bytes
 pub mod Answers
 pub mod Search
+pub mod Options

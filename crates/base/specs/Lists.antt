@@ -1,6 +1,6 @@
 -- Lists and options, where the library has no such function.
 use Rattle.std.specs.Prelude.{ℕ, zero, suc, ◌+◌, Bool, true, false, ◌&&◌, ◌||◌, eqb}
-use Rattle.std.proofs.Math.Option.{Option, none, some}
+use Rattle.std.specs.Prelude.{Option, None, Some}
 use mathlib.Core.List.{List, [], ◌∷◌, ◌++◌, Memᴰ}
 use Rattle.base.specs.Choice.{pick}
 
@@ -24,32 +24,32 @@ unfoldable pub below : ℕ → List ℕ
 below n = count_from 0 n
 
 -- the values that are there, in order
-unfoldable pub present {ℓ} : {X : Type ℓ} → List (Option X) → List X
+unfoldable pub present : {X : Type 0} → List (Option X) → List X
 present [] = []
-present (none ∷ os) = present os
-present (some x ∷ os) = x ∷ present os
+present (None ∷ os) = present os
+present (Some x ∷ os) = x ∷ present os
 
 -- something is there
-unfoldable pub is_there {ℓ} : {X : Type ℓ} → Option X → Bool
-is_there none = false
-is_there (some x) = true
+unfoldable pub is_there : {X : Type 0} → Option X → Bool
+is_there None = false
+is_there (Some x) = true
 
 -- what is there passes the test; nothing does not
-unfoldable pub there_with {ℓ} : {X : Type ℓ} → (X → Bool) → Option X → Bool
-there_with test none = false
-there_with test (some x) = test x
+unfoldable pub there_with : {X : Type 0} → (X → Bool) → Option X → Bool
+there_with test None = false
+there_with test (Some x) = test x
 
 -- the value that is there, if it passes the test
-unfoldable pub only_if {ℓ} : {X : Type ℓ} → (X → Bool) → Option X → Option X
-only_if test none = none
-only_if test (some x) = pick (test x) (λ _. some x) (λ _. none)
+unfoldable pub only_if : {X : Type 0} → (X → Bool) → Option X → Option X
+only_if test None = None
+only_if test (Some x) = pick (test x) (λ _. Some x) (λ _. None)
 
 -- both are nothing, or both are there and alike by the test
-unfoldable pub same_option {ℓ} : {X : Type ℓ} → (X → X → Bool) → Option X → Option X → Bool
-same_option same none none = true
-same_option same none (some y) = false
-same_option same (some x) none = false
-same_option same (some x) (some y) = same x y
+unfoldable pub same_option : {X : Type 0} → (X → X → Bool) → Option X → Option X → Bool
+same_option same None None = true
+same_option same None (Some y) = false
+same_option same (Some x) None = false
+same_option same (Some x) (Some y) = same x y
 
 -- of one length, and alike by the test place by place
 unfoldable pub same_list {ℓ} : {X : Type ℓ} → (X → X → Bool) → List X → List X → Bool

@@ -2,8 +2,11 @@
 // 01, 'Why a call is turned down', and 02; specs/Answers.antt gives number, place and values of every case.
 #![tactic(auto)]
 
+ghost use Rattle.std.specs.Prelude.{◌≡◌};
+ghost use Rattle.base.specs.declared.Rejection.TheVariants.{NotGood, Refused};
+
 // Why the checker does not call a table good: the letter of 01, with the row for b to d.
-#[derive(Clone, Copy)]
+#[derive(Clone, Copy, PartialEq, Eq)]
 pub enum Reason {
     // a: row 0 has not the tower's start state.
     Start,
@@ -19,7 +22,7 @@ pub enum Reason {
 
 // Why a call is turned down, a case for each number of 01 and 02 in its order, but 14: a table that is not good is a
 // case of the answer. A rule book's refusal carries its line, and so does a log's.
-#[derive(Clone, Copy)]
+#[derive(Clone, Copy, PartialEq, Eq)]
 pub enum Refusal {
     // 1: the tower's length, or an offset in its header.
     TowerSize,
@@ -61,60 +64,69 @@ pub enum Refusal {
     Alternatives,
 }
 
-// What the book reader answers.
-#[derive(Clone, Copy)]
-pub enum BookAnswer {
-    Read { lines: usize, nodes: usize },
-    Refused(Refusal),
-}
-
-// What the maker answers: the length of the table in bytes.
-#[derive(Clone, Copy)]
-pub enum MakeAnswer {
-    Made(usize),
-    Refused(Refusal),
-}
-
-// What the checker answers.
-#[derive(Clone, Copy)]
-pub enum Verdict {
-    Good,
+// Why a table is not called good: it is not, or the call is turned down before that is asked.
+#[derive(Clone, Copy, PartialEq, Eq)]
+pub enum Rejection {
     // 14: the table is not good.
     NotGood(Reason),
     Refused(Refusal),
 }
 
-// What the follower answers: the row that the action leads to.
-#[derive(Clone, Copy)]
-pub enum FollowAnswer {
-    Row(usize),
-    Refused(Refusal),
+impl From<Reason> for Rejection {
+    ghost from_gives = { λ reason made. made ≡ NotGood reason };
+
+    fn from(reason: Reason) -> Rejection {
+        Rejection::NotGood(reason)
+    }
 }
 
-// What the log reader answers.
-#[derive(Clone, Copy)]
-pub enum LogAnswer {
+impl From<Refusal> for Rejection {
+    ghost from_gives = { λ why made. made ≡ Refused why };
+
+    fn from(why: Refusal) -> Rejection {
+        Rejection::Refused(why)
+    }
+}
+
+// How many lines and nodes a rule book has.
+#[derive(Clone, Copy, PartialEq, Eq)]
+pub struct BookSize {
+    pub lines: usize,
+    pub nodes: usize,
+}
+
+// What a log comes to along a table.
+#[derive(Clone, Copy, PartialEq, Eq)]
+pub enum LogEnd {
     // Every line fits: the final row.
     Row(usize),
     // The first line that does not fit.
     Line(usize),
-    // 14: the table is not good, for a reason from a to d.
-    NotGood(Reason),
-    Refused(Refusal),
 }
 
-// What the entry answers that shows why a table is not good.
-#[derive(Clone, Copy)]
-pub enum WhyAnswer {
-    // 14 e: the length of a shortest allowed run that is broken, which is in the lent list; the lowest line that it
-    // breaks; and the position.
-    Shown {
-        length: usize,
-        line: usize,
-        position: usize,
-    },
-    // The checker's own answer, where it is another.
-    Good,
-    NotGood(Reason),
-    Refused(Refusal),
+// A shortest allowed run that is broken: its length, the lowest line that it breaks, and the position.
+#[derive(Clone, Copy, PartialEq, Eq)]
+pub struct BrokenRun {
+    pub length: usize,
+    pub line: usize,
+    pub position: usize,
 }
+
+// What the book reader answers.
+pub type BookAnswer = Result<BookSize, Refusal>;
+
+// What the maker answers: the length of the table in bytes.
+pub type MakeAnswer = Result<usize, Refusal>;
+
+// What the checker answers: the table is good, or why not.
+pub type Verdict = Result<(), Rejection>;
+
+// What the follower answers: the row that the action leads to.
+pub type FollowAnswer = Result<usize, Refusal>;
+
+// What the log reader answers. It rejects a table for the reasons from a to d.
+pub type LogAnswer = Result<LogEnd, Rejection>;
+
+// What the entry answers that shows why a table is not good: nothing for a good one; for 14 e the run, which is
+// in the lent list; and else why the checker rejects it.
+pub type WhyAnswer = Result<Option<BrokenRun>, Rejection>;

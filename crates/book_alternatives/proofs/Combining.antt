@@ -4,7 +4,7 @@ use native.Mathlib.Omega.{arith}
 use native.Mathlib.Numerals.{add-one}
 use mathlib.Core.Path.{◌≡◌, refl, sym, ◌∙◌, ap₂}
 use mathlib.Core.Bool.{Bool, true, false}
-use mathlib.Core.Option.{Option, none, some}
+use Rattle.std.specs.Prelude.{Option, None, Some}
 use mathlib.Core.List.{List, ◌∷◌}
 use lib.ListN.{length, get_or, drop, drop_of_length-le}
 use lib.Seq.{drop-cons}
@@ -20,15 +20,17 @@ use Rattle.alternatives.proofs.Sized.{combined_stands}
 use Rattle.book_progression.specs.PendingBytes.{cell_of}
 use Rattle.book_progression.specs.NodeBytes.{code_of, first_of, form_of, formula_of, fresh_of, Stored, HeldBook, MarkedState}
 use Rattle.book_progression.specs.Promises.{AreNodes, EmptyTo, IsLine, Passes}
-use Rattle.book_progression.proofs.Cells.{cell_there}
+use Rattle.book_progression.proofs.Cells.{cell_empty, cell_low}
 use Rattle.book_progression.proofs.Nodes.{fresh_is, fresh_low}
 use Rattle.book_progression.proofs.Lines.{starts, is_everywhere, line_node, book_from, before_next}
 use Rattle.book_progression.proofs.BookHeld.{rule_at, nodes_before, held_line}
 use Rattle.alternative_bytes.specs.AlternativeBytes.{alternative_in}
 use Rattle.alternative_bytes.proofs.Laws.{alternative_length, alternative_cell}
 use Rattle.set_bytes.specs.SetBytes.{answered}
-use Rattle.set_bytes.specs.Promises.{Combines, SetsReady}
+use Rattle.set_bytes.specs.Promises.{Combines}
 use Rattle.book_alternatives.specs.declared.SetAt.{SetAt}
+use Rattle.book_alternatives.specs.declared.Look.{Look}
+use Rattle.book_alternatives.specs.declared.Look.TheVariants as Seen
 use Rattle.book_alternatives.specs.Looking.{looked_at}
 use Rattle.book_alternatives.specs.Offers.{combined_at, joined_at, Rooted, OfferReady, Offered, Looked, CombinedStands, StepReady, CombineReady, StepLeaves, NodeCombined, combined_cell, CellCombined, NodesCombined, LineCombined, LinesCombined}
 use Rattle.book_alternatives.proofs.Looking.{looks_or_first_holds}
@@ -84,16 +86,6 @@ combine_ready bytes n k r mask count sets room low left ready =
 
 module _ (bytes : List ℕ) (n k : ℕ) (r : Tick) (mask : ℕ) (d : Tick) (sets room : List ℕ) (one : SetAt) (mid mid_room : List ℕ)
     (offered : Offered one bytes n k r mask d sets room mid mid_room) (ready : OfferReady bytes n k r sets room) where
-  pub node_sets : SetsReady n mid combined_at one.at combined_at mid_room
-  node_sets =
-      record {
-        nodes = ready.few;
-        first = omega (arith, ready.sets_room, (offered.leaves.changed 0 ready.rooted).size);
-        second = omega (arith, ready.few, ready.node, offered.leaves.high, ready.sets_room, (offered.leaves.changed 0 ready.rooted).size);
-        target = omega (arith, ready.sets_room, (offered.leaves.changed 0 ready.rooted).size);
-        candidates = omega (arith, ready.candidates_room, offered.leaves.candidates.size);
-      }
-
   pub node_combined : (out count : ℕ) (after after_room : List ℕ)
       → Combines out bytes n mid combined_at count one.at one.count combined_at mid_room after after_room
       → NodeCombined out bytes n k r mask d count sets room after after_room
@@ -123,8 +115,8 @@ node_stands out bytes n k r mask d count sets room after after_room node root =
     }
 
 -- and stays where nothing comes of the next.
-pub node_passes : (bytes : List ℕ) (n k : ℕ) (r : Tick) (mask : ℕ) (d : Tick) (count : ℕ) (sets room : List ℕ) (look : ℕ)
-    → Looked look bytes k r mask d → look ≡ 1 → CombineReady bytes n k r mask count sets room
+pub node_passes : (bytes : List ℕ) (n k : ℕ) (r : Tick) (mask : ℕ) (d : Tick) (count : ℕ) (sets room : List ℕ) (look : Look)
+    → Looked look bytes k r mask d → look ≡ Seen.Passes → CombineReady bytes n k r mask count sets room
     → NodeCombined count bytes n k r mask d count sets room sets room
 unfolding looked_at if_so
 node_passes bytes n k r mask d count sets room look looked one ready =
@@ -136,22 +128,23 @@ node_passes bytes n k r mask d count sets room look looked one ready =
 -- ---- a node by its cell
 
 module _ (bytes : List ℕ) (n k cell mask : ℕ) (d : Tick) (count : ℕ) (sets room : List ℕ) where
-  pub cell_none : cell ≡ 0 → StepReady bytes n mask count sets room → CellCombined count bytes n k cell mask d count sets room sets room
-  unfolding cell_of combined_cell
-  cell_none e ready = record { leaves = leaves_none count sets room ready.most; stands = ready.stands; says = λ f s fs are at. rw e refl }
-
-  pub cell_combined : (out : ℕ) (after after_room : List ℕ) → NodeCombined out bytes n k (ticks (cell - 1)) mask d count sets room after after_room
-      → (cell ≡ 0 → ⊥) → k < n → StepReady bytes n mask count sets room → CellCombined out bytes n k cell mask d count sets room after after_room
+  pub cell_none : None ≡ cell_of cell → StepReady bytes n mask count sets room → CellCombined count bytes n k cell mask d count sets room sets room
   unfolding combined_cell
-  cell_combined out after after_room node there low ready =
-      record {
-        leaves = node.leaves;
-        stands = node_stands out bytes n k (ticks (cell - 1)) mask d count sets room after after_room node (ready.rooted k low);
-        says = λ f s fs are at. rw (cell_there cell there) (node.says f s fs are at);
-      }
+  cell_none e ready = record { leaves = leaves_none count sets room ready.most; stands = ready.stands; says = λ f s fs are at. rw (← e) refl }
 
-  pub cell_ready : cell < 256 → StepReady bytes n mask count sets room → k < n → CombineReady bytes n k (ticks (cell - 1)) mask count sets room
-  cell_ready byte ready low = combine_ready bytes n k (ticks (cell - 1)) mask count sets room low (omega arith) ready
+  module _ (r : Tick) (there : Some r ≡ cell_of cell) where
+    pub cell_combined : (out : ℕ) (after after_room : List ℕ) → NodeCombined out bytes n k r mask d count sets room after after_room
+        → k < n → StepReady bytes n mask count sets room → CellCombined out bytes n k cell mask d count sets room after after_room
+    unfolding combined_cell
+    cell_combined out after after_room node low ready =
+        record {
+          leaves = node.leaves;
+          stands = node_stands out bytes n k r mask d count sets room after after_room node (ready.rooted k low);
+          says = λ f s fs are at. rw (← there) (node.says f s fs are at);
+        }
+
+    pub cell_ready : cell < 256 → StepReady bytes n mask count sets room → k < n → CombineReady bytes n k r mask count sets room
+    cell_ready byte ready low = combine_ready bytes n k r mask count sets room low (cell_low cell r there byte) ready
 
 -- ---- all nodes
 
@@ -160,8 +153,8 @@ nodes_cons : (tower : Tower) (fs : List Formula) (x : ℕ) (d : Tick) (g : Formu
     (s : Alternatives)
     → combined_nodes tower fs x d (g ∷ gs) k (o ∷ cells) s ≡ combined_nodes tower fs x d gs (suc k) cells (combined_cell tower fs x d g k o s)
 unfolding combined_nodes combined_cell
-nodes_cons tower fs x d g gs k none cells s = refl
-nodes_cons tower fs x d g gs k (some r) cells s = refl
+nodes_cons tower fs x d g gs k None cells s = refl
+nodes_cons tower fs x d g gs k (Some r) cells s = refl
 
 -- How far the nodes are combined: those from number k on are left to do.
 pub record NodesGoing (bytes : List ℕ) (n mask : ℕ) (d : Tick) (old : List ℕ) (from count : ℕ) (first first_room : List ℕ) (left k : ℕ) (sets room : List ℕ) : Type 0 where
@@ -206,8 +199,8 @@ module _ (bytes : List ℕ) (n mask : ℕ) (d : Tick) (old : List ℕ) (from cou
       step fs are at =
           let many : k < length fs = omega (arith, are.all) in
           let more : k < length (alternative_in old n from) = omega (arith, alternative_length old n from fits) in
-          rw (drop-cons fs k (constant false) many, drop-cons (alternative_in old n from) k none more, add-one)
-          (nodes_cons at.tower fs at.state d (get_or fs k (constant false)) (drop (suc k) fs) k (get_or (alternative_in old n from) k none)
+          rw (drop-cons fs k (constant false) many, drop-cons (alternative_in old n from) k None more, add-one)
+          (nodes_cons at.tower fs at.state d (get_or fs k (constant false)) (drop (suc k) fs) k (get_or (alternative_in old n from) k None)
           (drop (suc k) (alternative_in old n from)) (answered sets n combined_at left)
           ∙ rw (alternative_cell old n from k low, ← cell.says (get_or fs k (constant false)) (are.stored k low) fs are at) refl)
 
@@ -229,7 +222,7 @@ nodes_past bytes n mask d old from count first first_room left k sets room r goi
         let now = go m (omega arith) in
         rw (← next)
         (nodes_next bytes n mask d old from count first first_room left (k + m) sets room now left sets room
-        (cell_none bytes n (k + m) (get_or old (from + (k + m)) 0) mask d left sets room (over.empty (k + m) (omega arith) (omega arith))
+        (cell_none bytes n (k + m) (get_or old (from + (k + m)) 0) mask d left sets room (cell_empty _ (over.empty (k + m) (omega arith) (omega arith)))
         (nodes_ready bytes n mask d old from count first first_room left (k + m) sets room now ready))
         (omega (arith, over.most)) fits)
 
@@ -291,7 +284,7 @@ line_passes bytes n i mask d count sets room form k b pass is-so at_form place o
     let looked = looks_or_first_holds bytes k q mask d (code_of bytes k) refl (omega arith) (omega arith) (λ four. omega arith) (λ five. omega arith)
     (first_of bytes k) b refl (pass.first is-so) is-so in
     line_combined bytes n i mask d count sets room form at_form k q count sets room
-    (node_passes bytes n k q mask d count sets room 1 looked refl (line_ready bytes n i k q mask count sets room place refl line all ready))
+    (node_passes bytes n k q mask d count sets room Seen.Passes looked refl (line_ready bytes n i k q mask count sets room place refl line all ready))
     place refl one line all ready
 
 -- ---- all lines

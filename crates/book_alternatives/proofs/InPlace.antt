@@ -15,13 +15,13 @@ use Rattle.alternatives.specs.OneAlternative.{single}
 use Rattle.alternatives.proofs.OneAlternative.{one_alternative, combined_one}
 use Rattle.book_progression.specs.PendingBytes.{pending_of, part, outcome}
 use Rattle.book_progression.specs.NodeBytes.{Stored, MarkedState}
-use Rattle.book_progression.specs.Promises.{AreNodes, NodeReady, Progresses, Beside}
+use Rattle.book_progression.specs.Promises.{AreNodes, Progresses, Beside}
 use Rattle.book_progression.proofs.Cells.{pending_length}
 use Rattle.book_progression.proofs.Areas.{lent, lent_length, part_length, part_back, beside_back, beside_both}
 use Rattle.set_bytes.specs.SetBytes.{answered}
 use Rattle.set_bytes.proofs.Elsewhere.{beside_wider}
 use Rattle.book_alternatives.specs.declared.SetAt.{SetAt}
-use Rattle.book_alternatives.specs.Offers.{combined_at, joined_at, OneSidedAt, OwnSet, OfferReady, Offered, InPlaceReady, OfferedOne, CombineReady, CombinedInPlace, NodeCombined}
+use Rattle.book_alternatives.specs.Offers.{combined_at, joined_at, OwnSet, Offered, InPlaceReady, OfferedOne, CombineReady, CombinedInPlace, NodeCombined}
 use Rattle.book_alternatives.proofs.Sets.{changed_beside, candidates_none, none_answered, one_answered}
 use Rattle.book_alternatives.proofs.OwnSets.{set_at, cleared_beside, cleared_part}
 use Rattle.book_alternatives.proofs.Sitting.{stored_sits}
@@ -68,14 +68,6 @@ module _ (bytes : List ℕ) (n k : ℕ) (r : Tick) (sets zeros : List ℕ)
   mid_fits : 960 * k + n ≤ length mid
   mid_fits = omega (arith, own_fits, emptied.size)
 
-  pub one_ready : NodeReady bytes k r (take (960 * k + n - 960 * k) (drop (960 * k) (put_mid (960 * k) (960 * k + n - 960 * k) sets zeros)))
-  one_ready =
-      record {
-        node = ready.nodes.nodes k ready.node;
-        cell = omega (arith, ready.node, lent_length mid (960 * k) n mid_fits);
-        left = ready.left;
-      }
-
   module _ (mask : ℕ) (d : Tick) (b : Bool) (z : List ℕ) (size : length z ≡ length (take (960 * k + n - 960 * k) (drop (960 * k) mid)))
       (step : Progresses b bytes k r mask d (take (960 * k + n - 960 * k) (drop (960 * k) mid)) z) where
     from_nothing : (f : Formula) → Stored bytes f k → (fs : List Formula) → AreNodes bytes n fs → (at : MarkedState mask)
@@ -108,14 +100,6 @@ module _ (bytes : List ℕ) (n k : ℕ) (r : Tick) (sets : List ℕ) (ready : In
   fits : 57600 + n ≤ length sets
   fits = omega (arith, ready.few, ready.sets_room)
 
-  pub place_ready : NodeReady bytes k r (take (57600 + n - 57600) (drop 57600 sets))
-  place_ready =
-      record {
-        node = ready.nodes.nodes k ready.node;
-        cell = omega (arith, ready.node, lent_length sets 57600 n fits);
-        left = ready.left;
-      }
-
   module _ (mask : ℕ) (d : Tick) (b : Bool) (z : List ℕ) (size : length z ≡ length (take (57600 + n - 57600) (drop 57600 sets)))
       (step : Progresses b bytes k r mask d (take (57600 + n - 57600) (drop 57600 sets)) z) where
     stepped : (f : Formula) → Stored bytes f k → (fs : List Formula) → AreNodes bytes n fs → (at : MarkedState mask)
@@ -143,19 +127,6 @@ module _ (bytes : List ℕ) (n k : ℕ) (r : Tick) (sets : List ℕ) (ready : In
         }
 
 -- ---- where it is chosen
-
-pub in_place_ready : (bytes : List ℕ) (n k : ℕ) (r : Tick) (sets room : List ℕ) → OfferReady bytes n k r sets room → (b : Bool) → OneSidedAt b bytes k
-    → b ≡ true → InPlaceReady bytes n k r sets
-in_place_ready bytes n k r sets room ready b sided so =
-    record {
-      nodes = ready.nodes;
-      few = ready.few;
-      node = ready.node;
-      left = ready.left;
-      rooted = ready.rooted;
-      sided = record { says = λ e f s. sided.says so f s };
-      sets_room = ready.sets_room;
-    }
 
 pub offered_one : (bytes : List ℕ) (n k : ℕ) (r : Tick) (mask : ℕ) (d : Tick) (sets room : List ℕ) (out : SetAt) (after : List ℕ)
     → OfferedOne out bytes n k r mask d sets after → Offered out bytes n k r mask d sets room after room

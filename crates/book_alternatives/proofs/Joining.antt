@@ -17,14 +17,14 @@ use Rattle.reading.specs.BookArea.{nodes_in}
 use Rattle.alternatives.specs.Alternatives.{joined_with}
 use Rattle.alternatives.specs.Progression.{combined_nodes, combined_rules, alternatives_behind, joined_behind, progressed_set}
 use Rattle.alternatives.proofs.Sized.{none_stands, joined_stands, nothing_stands, behind_alone}
-use Rattle.book_progression.specs.NodeBytes.{HeldBook, IsHeld, MarkedState}
+use Rattle.book_progression.specs.NodeBytes.{HeldBook, MarkedState}
 use Rattle.book_progression.specs.Promises.{HasNodes}
 use Rattle.book_progression.proofs.BookHeld.{sits_at, held_nodes, has_nodes}
 use Rattle.alternative_bytes.specs.AlternativeBytes.{alternative_in}
-use Rattle.set_bytes.specs.SetBytes.{candidates_size, set_in, answered}
+use Rattle.set_bytes.specs.SetBytes.{set_in, answered}
 use Rattle.set_bytes.specs.Promises.{Candidates, JoinsSets, SetsReady}
 use Rattle.set_bytes.proofs.Sets.{set_length}
-use Rattle.book_alternatives.specs.Offers.{combined_at, joined_at, sets_size, Rooted, StepReady, NodesCombined, LinesCombined, NoneCombined, AlternativeReady, Behind, JoinedStands, CombinedCopied, BehindJoined, Progressed}
+use Rattle.book_alternatives.specs.Offers.{combined_at, joined_at, Rooted, StepReady, NodesCombined, LinesCombined, NoneCombined, AlternativeReady, Behind, JoinedStands, CombinedCopied, BehindJoined, Progressed}
 use Rattle.book_alternatives.proofs.Sets.{changed_beside, candidates_none, candidates_both, kept_behind, none_answered}
 use Rattle.book_alternatives.proofs.Combining.{leaves_both, still_ready}
 
@@ -140,9 +140,6 @@ module _ (bytes : List ℕ) (n : ℕ) (old : List ℕ) (from : ℕ) (sets room :
               ∙ sym (rw (none_yet, none_answered sets n joined_at) (behind_alone at.tower book at.state d (alternative_in old n from)));
         }
 
-    pub copy_room : sets_size ≤ length mid
-    copy_room = omega (arith, ready.sets_room, done.leaves.changed.size)
-
 -- ---- all of them
 
 -- an alternative of a set, with those behind it
@@ -181,17 +178,6 @@ joining_first bytes n mask d old from count sets room =
 
 module _ (bytes : List ℕ) (n mask : ℕ) (d : Tick) (old : List ℕ) (from count : ℕ) (first first_room : List ℕ) (left i : ℕ) (sets room : List ℕ)
     (going : Joining bytes n mask d old from count first first_room left i sets room) where
-  pub joining_ready : n ≡ nodes_in bytes → IsHeld bytes → i < count → from + 60 * count ≤ length old → sets_size ≤ length first
-      → candidates_size ≤ length first_room → AlternativeReady bytes n old (from + 60 * i) sets room
-  joining_ready all held low fits sets_room candidates_room =
-      record {
-        held = held;
-        all = all;
-        old_room = omega (arith, held.few);
-        sets_room = omega (arith, going.size);
-        candidates_room = omega (arith, going.candidates.size);
-      }
-
   pub joining_next : (out : ℕ) (after after_room : List ℕ) → BehindJoined out bytes n mask d old (from + 60 * i) left sets room after after_room
       → i < count → Joining bytes n mask d old from count first first_room out (i + 1) after after_room
   unfolding joined_behind

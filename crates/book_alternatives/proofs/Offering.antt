@@ -1,19 +1,17 @@
 -- The set of a node, by the ways through `offer`.
 use Prim.Native.Nat.{ℕ, ◌+◌, ◌*◌, ◌≤◌, ◌<◌}
 use native.Mathlib.Omega.{arith}
-use native.Mathlib.Decide.{dec_lt}
 use mathlib.Core.Path.{◌≡◌, refl, sym, ◌∙◌, ap, ap₂}
+use mathlib.Core.Bool.{true, false, true≢false}
 use mathlib.Core.List.{List}
 use lib.ListN.{length}
-use lib.Dec.{leb, eqb}
-use borrow.Author.Tests.{le-leb, lt-leb, ne_eqb}
-use Rattle.base.specs.Choice.{pick}
+use Rattle.base.proofs.Lists.{whether}
 use Rattle.logic.specs.Time.{ticks}
 use Rattle.logic.specs.Book.{Formula, first_part, second_part}
 use Rattle.logic.specs.declared.Tick.{Tick}
 use Rattle.pending.specs.Pending.{fresh}
 use Rattle.reading.specs.BookArea.{node_first, node_second}
-use Rattle.alternatives.specs.Progression.{alone_pending, alternatives_of}
+use Rattle.alternatives.specs.Progression.{alone_pending, if_so, alternatives_of}
 use Rattle.alternatives.proofs.Sized.{of_alone}
 use Rattle.book_progression.specs.NodeBytes.{code_of, first_of, second_of, fresh_of, Stored, IsNode, MarkedState}
 use Rattle.book_progression.specs.Promises.{AreNodes}
@@ -21,8 +19,10 @@ use Rattle.book_progression.proofs.Nodes.{by_kind, and_first, and_second, or_fir
 use Rattle.set_bytes.specs.SetBytes.{answered}
 use Rattle.set_bytes.specs.Promises.{NothingToDrop}
 use Rattle.book_alternatives.specs.declared.SetAt.{SetAt}
-use Rattle.book_alternatives.specs.Looking.{first_comes, second_comes, part_pending, staying, of_two, looked_at}
-use Rattle.book_alternatives.specs.Offers.{ChangedIn, OwnReady, OwnSet, Tested, Alone, Looked, LookedPart, StayReady, Stayed, TwoReady, OfTwo, Rooted, OfferReady, OfferLeaves, Offered}
+use Rattle.book_alternatives.specs.Looking.{first_comes, second_comes, part_pending, staying, of_two, has_part, has_first, looked_at}
+use Rattle.book_alternatives.specs.declared.Look.{Look}
+use Rattle.book_alternatives.specs.declared.Look.TheVariants as Seen
+use Rattle.book_alternatives.specs.Offers.{ChangedIn, OwnSet, Tested, Alone, Looked, StayReady, Stayed, TwoReady, OfTwo, Rooted, OfferReady, OfferLeaves, Offered}
 use Rattle.book_alternatives.proofs.Sets.{changed_both, changed_wider, changed_beside, candidates_none, candidates_both, kept_before}
 use Rattle.book_alternatives.proofs.Roots.{PartRooted, first_rooted, second_rooted, rooted_behind, root_low}
 
@@ -77,13 +77,24 @@ pending_said bytes k p q fs f stored e has new =
 
 -- ---- the part that is looked at
 
-module _ (bytes : List ℕ) (k : ℕ) (r : Tick) (mask : ℕ) (d : Tick) (look p : ℕ) (looked : Looked look bytes k r mask d)
-    (part : LookedPart p bytes k look) (more : 1 < look) where
+-- The part of node k that is looked at, or becomes pending.
+pub record LookedPart (p : ℕ) (bytes : List ℕ) (k : ℕ) (look : Look) : Type 0 where
+  pub second : has_first look ≡ false → p ≡ second_of bytes k
+  pub first : has_first look ≡ true → p ≡ first_of bytes k
+
+pub part_second : (p : ℕ) (bytes : List ℕ) (k : ℕ) (look : Look) → p ≡ second_of bytes k → has_first look ≡ false → LookedPart p bytes k look
+part_second p bytes k look e is = record { second = λ _. e; first = λ f. absurd (true≢false (sym f ∙ is)) }
+
+pub part_first : (p : ℕ) (bytes : List ℕ) (k : ℕ) (look : Look) → p ≡ first_of bytes k → has_first look ≡ true → LookedPart p bytes k look
+part_first p bytes k look e is = record { second = λ f. absurd (true≢false (sym is ∙ f)); first = λ _. e }
+
+module _ (bytes : List ℕ) (k : ℕ) (r : Tick) (mask : ℕ) (d : Tick) (look : Look) (p : ℕ) (looked : Looked look bytes k r mask d)
+    (part : LookedPart p bytes k look) (more : has_part look ≡ true) where
   part_rooted : (low : ℕ) → Rooted bytes low k → PartRooted bytes low k p
-  part_rooted low root = elim (dec_lt 3 look) [
-    | yes l ↦ first_rooted bytes low k root p (part.first l) (looked.second (omega arith)) (looked.first (omega arith))
-    | no l ↦ second_rooted bytes low k root p (part.second (omega arith)) (looked.second (omega arith))
-  ]
+  part_rooted low root =
+      whether (has_first look)
+      (λ is. first_rooted bytes low k root p (part.first is) (looked.second more) (looked.first is))
+      (λ is. second_rooted bytes low k root p (part.second is) (looked.second more))
 
   -- What is asked of it.
   pub part_node : (n : ℕ) (sets room : List ℕ) → OfferReady bytes n k r sets room → IsNode bytes p
@@ -108,19 +119,6 @@ module _ (bytes : List ℕ) (k : ℕ) (r : Tick) (mask : ℕ) (d : Tick) (look p
         },
       )
 
-  -- Its set.
-  part_said : (n : ℕ) (q : Tick) (one : SetAt) (sets room after after_room : List ℕ) → Offered one bytes n p q mask d sets room after after_room
-      → q ≡ ticks (fresh_of bytes p) → (fs : List Formula) → AreNodes bytes n fs → (at : MarkedState mask) → (f : Formula) → Stored bytes f k
-      → pick (leb look 3) (λ _. second_comes at.tower fs at.state d f k) (λ _. first_comes at.tower fs at.state d f k)
-      ≡ answered after n one.at one.count
-  part_said n q one sets room after after_room call new fs are at f stored = elim (dec_lt 3 look) [
-    | yes l ↦ rw (lt-leb look 3 l)
-        (first_said bytes n p q mask d one sets room after after_room call new fs are at k f stored (part.first l) (looked.second (omega arith))
-        (looked.first (omega arith)))
-    | no l ↦ rw (le-leb look 3 (omega arith))
-        (second_said bytes n p q mask d one sets room after after_room call new fs are at k f stored (part.second (omega arith)) (looked.second (omega arith)))
-  ]
-
 -- ---- what is left
 
 pub own_leaves : (out : SetAt) (bytes : List ℕ) (k : ℕ) (sets room after : List ℕ) → OwnSet out k sets after → OfferLeaves out bytes k sets room after room
@@ -134,29 +132,38 @@ own_leaves out bytes k sets room after own =
       candidates = candidates_none room;
     }
 
-module _ (bytes : List ℕ) (n k : ℕ) (r : Tick) (mask : ℕ) (d : Tick) (sets room : List ℕ) (look : ℕ) (looked : Looked look bytes k r mask d) where
+module _ (bytes : List ℕ) (n k : ℕ) (r : Tick) (mask : ℕ) (d : Tick) (sets room : List ℕ) (look : Look) (looked : Looked look bytes k r mask d) where
   -- ---- nothing is looked at
 
-  pub offered_tested : (out : SetAt) (after : List ℕ) → Tested out (eqb look 1) n k sets after → look ≤ 1
+  pub offered_broken : (out : SetAt) (after : List ℕ) → Tested out false n k sets after → look ≡ Seen.Broken
       → Offered out bytes n k r mask d sets room after room
-  unfolding looked_at
-  offered_tested out after tested few =
+  unfolding looked_at if_so
+  offered_broken out after tested is =
       record {
         leaves = own_leaves out bytes k sets room after tested.own;
-        says = λ f s fs are at. tested.says fs are.all ∙ sym (looked.says f s fs at ∙ rw (le-leb look 1 few) refl);
+        says = λ f s fs are at. tested.says fs are.all ∙ sym (looked.says f s fs at ∙ rw is refl);
       }
 
-  module _ (p : ℕ) (part : LookedPart p bytes k look) (more : 1 < look) (q : Tick) (new : q ≡ ticks (fresh_of bytes p)) where
+  pub offered_passes : (out : SetAt) (after : List ℕ) → Tested out true n k sets after → look ≡ Seen.Passes
+      → Offered out bytes n k r mask d sets room after room
+  unfolding looked_at if_so
+  offered_passes out after tested is =
+      record {
+        leaves = own_leaves out bytes k sets room after tested.own;
+        says = λ f s fs are at. tested.says fs are.all ∙ sym (looked.says f s fs at ∙ rw is refl);
+      }
+
+  module _ (p : ℕ) (part : LookedPart p bytes k look) (more : has_part look ≡ true) (q : Tick) (new : q ≡ ticks (fresh_of bytes p)) where
     -- ---- its part becomes pending
 
-    pub offered_alone : (out : SetAt) (after : List ℕ) → Alone out n k p q sets after → look ≡ 2 → Offered out bytes n k r mask d sets room after room
+    pub offered_alone : (out : SetAt) (after : List ℕ) → Alone out n k p q sets after → look ≡ Seen.Part → Offered out bytes n k r mask d sets room after room
     unfolding looked_at
-    offered_alone out after alone two =
+    offered_alone out after alone is =
         record {
           leaves = own_leaves out bytes k sets room after alone.own;
           says = λ f s fs are at.
-              alone.says fs are.all ∙ pending_said bytes k p q fs f s (part.second (omega arith)) (looked.second (omega arith)) new
-              ∙ sym (looked.says f s fs at ∙ rw two refl);
+              alone.says fs are.all ∙ pending_said bytes k p q fs f s (part.second (ap has_first is)) (looked.second more) new
+              ∙ sym (looked.says f s fs at ∙ rw is refl);
         }
 
     -- ---- one part
@@ -188,10 +195,11 @@ module _ (bytes : List ℕ) (n k : ℕ) (r : Tick) (mask : ℕ) (d : Tick) (sets
             candidates_room = omega (arith, ready.candidates_room, call.leaves.candidates.size);
           }
 
-      pub offered_stays : (out : SetAt) (after after_room : List ℕ) → Stayed out bytes n k r d one mid mid_room after after_room
-          → (look ≡ 2 → ⊥) → (look ≡ 5 → ⊥) → Offered out bytes n k r mask d sets room after after_room
-      unfolding looked_at
-      offered_stays out after after_room stayed not_two not_five =
+      stays_by : (out : SetAt) (after after_room : List ℕ) → Stayed out bytes n k r d one mid mid_room after after_room
+          → ((f : Formula) → Stored bytes f k → (fs : List Formula) → AreNodes bytes n fs → (at : MarkedState mask)
+          → staying fs d f k r (answered mid n one.at one.count) ≡ looked_at look at.tower fs at.state d f k r)
+          → Offered out bytes n k r mask d sets room after after_room
+      stays_by out after after_room stayed same =
           record {
             leaves = record {
               most = stayed.most call.leaves.most;
@@ -203,27 +211,40 @@ module _ (bytes : List ℕ) (n k : ℕ) (r : Tick) (mask : ℕ) (d : Tick) (sets
                   (call.leaves.low from (part_rooted bytes k r mask d look p looked part more from root).0) (omega arith));
               candidates = candidates_both room mid_room after_room call.leaves.candidates stayed.candidates;
             };
-            says = λ f s fs are at.
-                stayed.says f s fs are
-                ∙ ap (staying fs d f k r) (sym (part_said bytes k r mask d look p looked part more n q one sets room mid mid_room call new fs are at f s))
-                ∙ sym (looked.says f s fs at ∙ rw (lt-leb look 1 more, ne_eqb look 2 not_two, ne_eqb look 5 not_five) refl);
+            says = λ f s fs are at. stayed.says f s fs are ∙ same f s fs are at ∙ sym (looked.says f s fs at);
           }
+
+      pub offered_second : (out : SetAt) (after after_room : List ℕ) → Stayed out bytes n k r d one mid mid_room after after_room
+          → look ≡ Seen.Second → Offered out bytes n k r mask d sets room after after_room
+      unfolding looked_at
+      offered_second out after after_room stayed is =
+          stays_by out after after_room stayed (λ f s fs are at.
+          rw is (ap (staying fs d f k r) (sym (second_said bytes n p q mask d one sets room mid mid_room call new fs are at k f s
+          (part.second (ap has_first is)) (looked.second more)))))
+
+      pub offered_first : (out : SetAt) (after after_room : List ℕ) → Stayed out bytes n k r d one mid mid_room after after_room
+          → look ≡ Seen.First → Offered out bytes n k r mask d sets room after after_room
+      unfolding looked_at
+      offered_first out after after_room stayed is =
+          stays_by out after after_room stayed (λ f s fs are at.
+          rw is (ap (staying fs d f k r) (sym (first_said bytes n p q mask d one sets room mid mid_room call new fs are at k f s
+          (part.first (ap has_first is)) (looked.second more) (looked.first (ap has_first is))))))
 
       -- ---- two parts
 
-      module _ (five : look ≡ 5) (p₂ : ℕ) (second : p₂ ≡ second_of bytes k) where
+      module _ (is : look ≡ Seen.Both) (p₂ : ℕ) (second : p₂ ≡ second_of bytes k) where
         second_part_rooted : (from : ℕ) → Rooted bytes from k → PartRooted bytes from k p₂
-        second_part_rooted from root = second_rooted bytes from k root p₂ second (looked.second (omega arith))
+        second_part_rooted from root = second_rooted bytes from k root p₂ second (looked.second more)
 
         apart : Rooted bytes (p + 1) p₂
-        apart = rooted_behind bytes 0 k ready.rooted p p₂ (part.first (omega arith)) second (looked.second (omega arith)) (looked.both five)
+        apart = rooted_behind bytes 0 k ready.rooted p p₂ (part.first (ap has_first is)) second (looked.second more) (looked.both is)
 
         pub second_is_node : IsNode bytes p₂
         second_is_node = let root = (second_part_rooted 0 ready.rooted).0 in is_node bytes p₂ root.formula root.stored
 
         module _ (q₂ : Tick) (new₂ : q₂ ≡ ticks (fresh_of bytes p₂)) where
           pub second_part_ready : (t : ℕ) → k ≡ t → (p₂ < t) × OfferReady bytes n p₂ q₂ mid mid_room
-          second_part_ready t is =
+          second_part_ready t same =
               let (root, low) = second_part_rooted 0 ready.rooted in (
                 omega arith,
                 record {
@@ -281,10 +302,10 @@ module _ (bytes : List ℕ) (n k : ℕ) (r : Tick) (mask : ℕ) (d : Tick) (sets
                   says = λ f s fs are at.
                       both.says f s fs are (stands fs are at)
                       ∙ ap₂ (of_two fs f)
-                      (first_kept ∙ sym (first_said bytes n p q mask d one sets room mid mid_room call new fs are at k f s (part.first (omega arith))
-                      (looked.second (omega arith)) (looked.first (omega arith))))
-                      (sym (second_said bytes n p₂ q₂ mask d two mid mid_room last last_room other new₂ fs are at k f s second (looked.second (omega arith))))
-                      ∙ sym (looked.says f s fs at ∙ rw five refl);
+                      (first_kept ∙ sym (first_said bytes n p q mask d one sets room mid mid_room call new fs are at k f s (part.first (ap has_first is))
+                      (looked.second more) (looked.first (ap has_first is))))
+                      (sym (second_said bytes n p₂ q₂ mask d two mid mid_room last last_room other new₂ fs are at k f s second (looked.second more)))
+                      ∙ sym (looked.says f s fs at ∙ rw is refl);
                 }
               where
                 -- it is what comes of the part
@@ -295,12 +316,6 @@ module _ (bytes : List ℕ) (n k : ℕ) (r : Tick) (mask : ℕ) (d : Tick) (sets
                     rw (first_kept ∙ call.says root.formula root.stored fs are at) (of_alone fs at.tower at.state d root.formula p q)
 
 -- ---- what else is asked
-
-pub offer_node : (bytes : List ℕ) (n k : ℕ) (r : Tick) (sets room : List ℕ) → OfferReady bytes n k r sets room → IsNode bytes k
-offer_node bytes n k r sets room ready = ready.nodes.nodes k ready.node
-
-pub offer_own : (bytes : List ℕ) (n k : ℕ) (r : Tick) (sets room : List ℕ) → OfferReady bytes n k r sets room → OwnReady n k sets
-offer_own bytes n k r sets room ready = record { few = ready.few; node = ready.node; sets_room = ready.sets_room }
 
 pub fresh_few : (bytes : List ℕ) (p : ℕ) (q : Tick) → q ≡ ticks (fresh_of bytes p) → IsNode bytes p → q.0 ≤ 254
 fresh_few bytes p q new node = rw new (fresh_low bytes p node)

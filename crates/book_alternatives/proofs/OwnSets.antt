@@ -3,7 +3,7 @@ use Prim.Native.Nat.{ℕ, ◌+◌, ◌-◌, ◌*◌, ◌≤◌, ◌<◌}
 use native.Mathlib.Omega.{arith}
 use mathlib.Core.Path.{◌≡◌, refl, ◌∙◌, ap}
 use mathlib.Core.Bool.{Bool, true, false, not}
-use mathlib.Core.Option.{none}
+use Rattle.std.specs.Prelude.{None}
 use mathlib.Core.List.{List, [], ◌∷◌}
 use lib.ListN.{length, set, take, drop, replicate, length-replicate}
 use lib.Seq.{take-set-lt, drop-set-add}
@@ -39,7 +39,7 @@ module _ (n at : ℕ) (sets zeros : List ℕ) (fits : at + n ≤ length sets)
   cleared_beside = beside_back sets at n zeros fits many
 
   -- Nothing is pending there.
-  pub cleared_part : pending_of (part (put_mid at (at + n - at) sets zeros) at n) ≡ replicate n none
+  pub cleared_part : pending_of (part (put_mid at (at + n - at) sets zeros) at n) ≡ replicate n None
   cleared_part = ap pending_of (part_back sets at n zeros fits many ∙ are) ∙ pending_none n
 
 -- ---- tested

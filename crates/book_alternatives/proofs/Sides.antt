@@ -2,7 +2,7 @@
 use Prim.Native.Nat.{ℕ, ◌≤◌, ◌<◌}
 use native.Mathlib.Omega.{arith}
 use mathlib.Core.Path.{◌≡◌, refl, sym, ◌∙◌}
-use mathlib.Core.Bool.{Bool, true, false, not, false≢true}
+use mathlib.Core.Bool.{Bool, true, false, not}
 use mathlib.Core.List.{List}
 use lib.Dec.{leb}
 use borrow.Author.Tests.{not-false, leb-true}
@@ -11,12 +11,6 @@ use Rattle.logic.specs.Sides.{one_sided}
 use Rattle.book_progression.specs.NodeBytes.{code_of, first_of, second_of}
 use Rattle.book_progression.proofs.Nodes.{by_kind, by_until, and_first, and_second, or_first, or_second, until_first, until_second, next_part, always_part}
 use Rattle.book_alternatives.specs.Offers.{two_sided, TwoSidedAt, OneSidedAt}
-
-pub sides_two : (bytes : List ℕ) (k : ℕ) → OneSidedAt false bytes k
-sides_two bytes k = record { says = λ e. absurd (false≢true e) }
-
-pub sides_so : (b : Bool) (bytes : List ℕ) (k : ℕ) → OneSidedAt b bytes k → b ≡ true → OneSidedAt true bytes k
-sides_so b bytes k one so = record { says = λ _. one.says so }
 
 module _ (bytes : List ℕ) (k code : ℕ) (e : code ≡ code_of bytes k) where
   pub sides_leaf : code ≤ 3 → OneSidedAt true bytes k

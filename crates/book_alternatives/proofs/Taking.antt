@@ -3,7 +3,8 @@ use Prim.Native.Nat.{ℕ, ◌+◌, ◌-◌, ◌*◌, ◌≤◌, ◌<◌}
 use native.Mathlib.Omega.{arith}
 use mathlib.Core.Path.{◌≡◌, refl, sym, ◌∙◌, ap, ap₂}
 use mathlib.Core.Bool.{Bool, true, false, ◌&&◌}
-use mathlib.Core.Option.{some, bind}
+use Rattle.std.specs.Prelude.{Some}
+use Rattle.base.specs.Options.{bind}
 use mathlib.Core.List.{List, [], ◌∷◌}
 use lib.ListN.{length, get_or, set}
 use borrow.Author.Tests.{le-leb, lt-leb}
@@ -18,18 +19,18 @@ use Rattle.alternatives.specs.OneAlternative.{single}
 use Rattle.alternatives.proofs.Behind.{put_alone, behind_put}
 use Rattle.alternatives.proofs.OneAlternative.{combined_step}
 use Rattle.book_progression.specs.PendingBytes.{pending_of, part}
-use Rattle.book_progression.specs.NodeBytes.{code_of, Stored, IsNode}
-use Rattle.book_progression.specs.Promises.{Merged, HasNodes}
+use Rattle.book_progression.specs.NodeBytes.{code_of, Stored}
+use Rattle.book_progression.specs.Promises.{Merged}
 use Rattle.book_progression.proofs.Nodes.{by_kind, by_and}
 use Rattle.book_progression.proofs.Areas.{part_at, beside_set, beside_both}
 use Rattle.book_progression.proofs.Putting.{put_stored}
 use Rattle.alternative_bytes.specs.AlternativeBytes.{alternative_in}
 use Rattle.alternative_bytes.proofs.Laws.{alternative_length}
 use Rattle.set_bytes.specs.SetBytes.{answered}
-use Rattle.set_bytes.specs.Promises.{Combines, JoinsSets, SetsReady}
+use Rattle.set_bytes.specs.Promises.{Combines, JoinsSets}
 use Rattle.book_alternatives.specs.declared.SetAt.{SetAt}
 use Rattle.book_alternatives.specs.Looking.{stays, staying, of_two}
-use Rattle.book_alternatives.specs.Offers.{OwnReady, Alone, PutIn, StayReady, Stayed, TwoReady, OfTwo}
+use Rattle.book_alternatives.specs.Offers.{Alone, PutIn, StayReady, Stayed, OfTwo}
 use Rattle.book_alternatives.proofs.Sets.{changed_none, changed_beside, candidates_none, kept_before, one_answered}
 use Rattle.book_alternatives.proofs.OwnSets.{set_at, part_set}
 use Rattle.book_alternatives.proofs.Sitting.{stored_sits}
@@ -52,7 +53,7 @@ combined_put : (fs : List Formula) (f : Formula) (k : ℕ) (r : Tick) (p : Pendi
     → combined fs (these (p ∷ [])) (alone_pending fs k r) ≡ these (put f k r p ∷ [])
 unfolding single bind alone_pending
 combined_put fs f k r p sits sized =
-    combined_step fs (some p) (λ q. some (put f k r q)) (alone_pending fs k r) sized (behind_put fs f k r sits)
+    combined_step fs (Some p) (λ q. Some (put f k r q)) (alone_pending fs k r) sized (behind_put fs f k r sits)
     (ap (λ q. these (q ∷ [])) (sym (put_alone fs f k r sits)))
 
 -- ---- put_in
@@ -69,31 +70,6 @@ put_in bytes k r at sets left merged =
     }
 
 module _ (bytes : List ℕ) (n k : ℕ) (r : Tick) (one : SetAt) (sets room : List ℕ) (ready : StayReady bytes n k r one sets room) where
-  -- ---- what is asked
-
-  pub stay_node : IsNode bytes k
-  stay_node = ready.nodes.nodes k ready.node
-
-  pub stay_nodes : HasNodes bytes n
-  stay_nodes = ready.nodes
-
-  pub stay_own : OwnReady n k sets
-  stay_own = record { few = ready.few; node = ready.node; sets_room = ready.sets_room }
-
-  pub stay_sets : (own : SetAt) (part : ℕ) (q : Tick) (mid : List ℕ) → Alone own n k part q sets mid
-      → SetsReady n mid one.at own.at own.at room
-  stay_sets own part q mid alone =
-      record {
-        nodes = ready.few;
-        first = omega (arith, ready.few, ready.node, ready.below, ready.sets_room, alone.own.beside.size);
-        second = omega (arith, ready.few, ready.node, ready.sets_room, alone.own.place, alone.own.beside.size);
-        target = omega (arith, ready.few, ready.node, ready.sets_room, alone.own.place, alone.own.beside.size);
-        candidates = ready.candidates_room;
-      }
-
-  pub put_there : one.at + k < length sets
-  put_there = omega (arith, ready.below, ready.few, ready.node, ready.sets_room)
-
   -- ---- stay
 
   -- It is as it was.
@@ -161,20 +137,6 @@ module _ (bytes : List ℕ) (n k : ℕ) (r : Tick) (one : SetAt) (sets room : Li
       }
 
 -- ---- of two
-
-module _ (bytes : List ℕ) (n k : ℕ) (one two : SetAt) (sets room : List ℕ) (ready : TwoReady bytes n k one two sets room) where
-  pub two_node : IsNode bytes k
-  two_node = ready.nodes.nodes k ready.node
-
-  pub two_sets : SetsReady n sets one.at two.at (960 * k) room
-  two_sets =
-      record {
-        nodes = ready.few;
-        first = omega (arith, ready.few, ready.node, ready.first, ready.sets_room);
-        second = omega (arith, ready.few, ready.node, ready.second, ready.sets_room);
-        target = omega (arith, ready.few, ready.node, ready.sets_room);
-        candidates = ready.candidates_room;
-      }
 
 module _ (bytes : List ℕ) (n k : ℕ) (one two : SetAt) (sets room : List ℕ) (code count : ℕ) (after after_room : List ℕ) where
   pub two_and : Combines count bytes n sets one.at one.count two.at two.count (960 * k) room after after_room

@@ -1,5 +1,5 @@
 -- What is looked at of a node, and what it makes of the sets of its parts.
-use Rattle.std.specs.Prelude.{ℕ, Bool, true, false, ◌&&◌, List, leb, eqb}
+use Rattle.std.specs.Prelude.{ℕ, Bool, true, false, ◌&&◌, List}
 use Rattle.base.specs.Choice.{pick}
 use Rattle.logic.specs.Time.{minus, at_most}
 use Rattle.logic.specs.Tower.{Tower}
@@ -7,7 +7,9 @@ use Rattle.logic.specs.Book.{Formula, constant, proposition, and, or, next, alwa
 use Rattle.logic.specs.declared.Tick.{Tick}
 use Rattle.pending.specs.Pending.{fresh}
 use Rattle.alternatives.specs.Alternatives.{Alternatives, broken, combined, joined_with}
-use Rattle.alternatives.specs.Progression.{nothing_pending, alone_pending, if_so, alternatives_of}
+use Rattle.alternatives.specs.Progression.{nothing_pending, alone_pending, alternatives_of}
+use Rattle.book_alternatives.specs.declared.Look.{Look}
+use Rattle.book_alternatives.specs.declared.Look.TheVariants as Seen
 
 -- the set of the first part of a formula that is node k, and that of its second or only one
 unfoldable pub first_comes : Tower → List Formula → ℕ → Tick → Formula → ℕ → Alternatives
@@ -62,11 +64,29 @@ of_two fs (next c u g) s t = joined_with fs s t
 of_two fs (always_for u g) s t = joined_with fs s t
 of_two fs (until u f g) s t = joined_with fs s t
 
--- What comes of node k by what is looked at: 0 and 1, nothing, since the step is broken, or since nothing comes of it; 2, its part becomes
--- pending; 3, the second or only part; 4, the first; 5, both.
-unfoldable pub looked_at : ℕ → Tower → List Formula → ℕ → Tick → Formula → ℕ → Tick → Alternatives
-looked_at look tower fs x d f k r =
-    pick (leb look 1) (λ _. if_so (eqb look 1) (nothing_pending fs)) (λ _.
-    pick (eqb look 2) (λ _. part_pending fs f k) (λ _.
-    pick (eqb look 5) (λ _. of_two fs f (first_comes tower fs x d f k) (second_comes tower fs x d f k)) (λ _.
-    staying fs d f k r (pick (leb look 3) (λ _. second_comes tower fs x d f k) (λ _. first_comes tower fs x d f k)))))
+-- what is looked at has a part, which is looked at or becomes pending; it has the first one
+abbrev pub has_part : Look → Bool
+has_part Seen.Broken = false
+has_part Seen.Passes = false
+has_part Seen.Part = true
+has_part Seen.Second = true
+has_part Seen.First = true
+has_part Seen.Both = true
+
+abbrev pub has_first : Look → Bool
+has_first Seen.Broken = false
+has_first Seen.Passes = false
+has_first Seen.Part = false
+has_first Seen.Second = false
+has_first Seen.First = true
+has_first Seen.Both = true
+
+-- What comes of node k by what is looked at: nothing, since the step is broken, or since nothing comes of it; its part becomes pending; the second
+-- or only part; the first; both.
+unfoldable pub looked_at : Look → Tower → List Formula → ℕ → Tick → Formula → ℕ → Tick → Alternatives
+looked_at Seen.Broken tower fs x d f k r = broken
+looked_at Seen.Passes tower fs x d f k r = nothing_pending fs
+looked_at Seen.Part tower fs x d f k r = part_pending fs f k
+looked_at Seen.Second tower fs x d f k r = staying fs d f k r (second_comes tower fs x d f k)
+looked_at Seen.First tower fs x d f k r = staying fs d f k r (first_comes tower fs x d f k)
+looked_at Seen.Both tower fs x d f k r = of_two fs f (first_comes tower fs x d f k) (second_comes tower fs x d f k)

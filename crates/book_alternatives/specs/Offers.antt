@@ -2,7 +2,7 @@
 -- marks. The sets of the nodes lie in one area, that of node k at 960 k; behind them the set that is combined so far, and the set that is joined
 -- so far.
 use Rattle.std.specs.Prelude.{ℕ, ◌+◌, ◌*◌, ◌≤◌, ◌<◌, ◌≡◌, Bool, true, false, ◌&&◌, List, length, take, drop}
-use Rattle.std.proofs.Math.Option.{Option, none, some}
+use Rattle.std.specs.Prelude.{Option, None, Some}
 use Rattle.logic.specs.Tower.{Tower}
 use Rattle.logic.specs.Book.{Formula, timed, size, nodes, root, Rule, Book, constant, proposition, and, or, next, always_for, until}
 use Rattle.logic.specs.Sides.{one_sided, OneSided}
@@ -12,12 +12,14 @@ use Rattle.alternatives.specs.Alternatives.{Alternatives, combined, joined_with}
 use Rattle.alternatives.specs.Progression.{nothing_pending, alone_pending, if_so, alternatives_of, combined_nodes, combined_rule, combined_rules, alternatives_behind, progressed_set}
 use Rattle.reading.specs.BookArea.{nodes_in}
 use Rattle.book_progression.specs.PendingBytes.{cell_of}
-use Rattle.book_progression.specs.NodeBytes.{code_of, first_of, second_of, Stored, HeldBook, IsHeld, MarkedState}
+use Rattle.book_progression.specs.NodeBytes.{code_of, Stored, HeldBook, IsHeld, MarkedState}
 use Rattle.book_progression.specs.Promises.{AreNodes, HasNodes, Beside, LineIs}
 use Rattle.alternative_bytes.specs.AlternativeBytes.{alternative_in}
 use Rattle.set_bytes.specs.SetBytes.{set_size, candidates_size, set_in, answered}
 use Rattle.set_bytes.specs.Promises.{Candidates, Leaves, NothingToDrop}
-use Rattle.book_alternatives.specs.Looking.{staying, of_two, looked_at}
+use Rattle.book_alternatives.specs.Looking.{staying, of_two, has_part, has_first, looked_at}
+use Rattle.book_alternatives.specs.declared.Look.{Look}
+use Rattle.book_alternatives.specs.declared.Look.TheVariants as Seen
 use Rattle.book_alternatives.specs.declared.SetAt.{SetAt}
 
 -- where the set that is combined so far begins, where the set that is joined so far, and where the sets end
@@ -59,17 +61,12 @@ pub record Alone (out : SetAt) (n k part : ℕ) (r : Tick) (sets after : List �
   pub says : (fs : List Formula) → length fs ≡ n → answered after n out.at out.count ≡ alone_pending fs part r
 
 -- What is looked at of node k with r ticks left. What has a part to be looked at has it: its code says so.
-pub record Looked (look : ℕ) (bytes : List ℕ) (k : ℕ) (r : Tick) (mask : ℕ) (d : Tick) : Type 0 where
-  pub second : 2 ≤ look → 3 < code_of bytes k
-  pub first : 4 ≤ look → 6 < code_of bytes k → code_of bytes k ≡ 12
-  pub both : look ≡ 5 → code_of bytes k < 7
+pub record Looked (look : Look) (bytes : List ℕ) (k : ℕ) (r : Tick) (mask : ℕ) (d : Tick) : Type 0 where
+  pub second : has_part look ≡ true → 3 < code_of bytes k
+  pub first : has_first look ≡ true → 6 < code_of bytes k → code_of bytes k ≡ 12
+  pub both : look ≡ Seen.Both → code_of bytes k < 7
   pub says : (f : Formula) → Stored bytes f k → (fs : List Formula) → (at : MarkedState mask)
       → alternatives_of at.tower fs at.state d f k r ≡ looked_at look at.tower fs at.state d f k r
-
--- The part of node k that is looked at, or becomes pending.
-pub record LookedPart (p : ℕ) (bytes : List ℕ) (k look : ℕ) : Type 0 where
-  pub second : look ≤ 3 → p ≡ second_of bytes k
-  pub first : 3 < look → p ≡ first_of bytes k
 
 -- Only the bytes from place `low` to place `high` have changed.
 pub record ChangedIn (area : List ℕ) (low high : ℕ) (after : List ℕ) : Type 0 where
@@ -236,8 +233,8 @@ pub record CombinedInPlace (out : ℕ) (bytes : List ℕ) (n k : ℕ) (r : Tick)
 
 -- a node by its cell: it is combined with what stands so far if it is pending
 unfoldable pub combined_cell : Tower → List Formula → ℕ → Tick → Formula → ℕ → Option Tick → Alternatives → Alternatives
-combined_cell tower fs x d f k none s = s
-combined_cell tower fs x d f k (some r) s = combined fs s (alternatives_of tower fs x d f k r)
+combined_cell tower fs x d f k None s = s
+combined_cell tower fs x d f k (Some r) s = combined fs s (alternatives_of tower fs x d f k r)
 
 -- Node k is combined with what stands so far if its cell says that it is pending.
 pub record CellCombined (out : ℕ) (bytes : List ℕ) (n k cell mask : ℕ) (d : Tick) (count : ℕ) (sets room after after_room : List ℕ) : Type 0 where

@@ -7,7 +7,7 @@ ghost use Rattle.reading.specs.BookArea.{nodes_in};
 ghost use Rattle.book_progression.specs.NodeBytes.{IsNode, IsHeld};
 ghost use Rattle.book_progression.specs.Promises.{IsLine};
 ghost use Rattle.set_bytes.specs.SetBytes.{candidates_size};
-ghost use Rattle.book_alternatives.specs.Offers.{sets_size, TimedAt, TwoSidedAt, OneSidedAt, TwoTimed, OwnReady, Tested, Alone, Looked, LookedPart, PutIn, StayReady, Stayed, TwoReady, OfTwo, OfferReady, Offered, InPlaceReady, OfferedOne, StepReady, CombineReady, NodeCombined, CombinedInPlace, CellCombined, NodesCombined, LineCombined, LinesCombined, NoneCombined, AlternativeReady, Behind, JoinedStands, CombinedCopied, BehindJoined, Progressed};
+ghost use Rattle.book_alternatives.specs.Offers.{sets_size, TimedAt, TwoSidedAt, OneSidedAt, TwoTimed, OwnReady, Tested, Alone, Looked, PutIn, StayReady, Stayed, TwoReady, OfTwo, OfferReady, Offered, InPlaceReady, OfferedOne, StepReady, CombineReady, NodeCombined, CombinedInPlace, CellCombined, NodesCombined, LineCombined, LinesCombined, NoneCombined, AlternativeReady, Behind, JoinedStands, CombinedCopied, BehindJoined, Progressed};
 
 use book_progression::{line, node};
 use logic::Tick;
@@ -24,17 +24,15 @@ pub const JOINED: usize = 58560;
 
 // What is looked at of a node (specs/Looking.antt): nothing, since the step is broken, or since nothing
 // comes of it; its part, which becomes pending; the second or only part; the first; both.
-const BROKEN: u8 = 0;
-
-const PASSES: u8 = 1;
-
-const PART: u8 = 2;
-
-const SECOND: u8 = 3;
-
-const FIRST: u8 = 4;
-
-const BOTH: u8 = 5;
+#[derive(Clone, Copy)]
+enum Look {
+    Broken,
+    Passes,
+    Part,
+    Second,
+    First,
+    Both,
+}
 
 // A set of alternatives: where it lies, and how many there are, 17 for over 16.
 #[derive(Clone, Copy)]
@@ -55,10 +53,7 @@ pub fn is_timed(book: &[u8], k: usize) -> bool
     if node::NO_MORE <= code {
         return true;
     }
-    if is_timed(book, node::first(book, k)) {
-        return true;
-    }
-    is_timed(book, node::second(book, k))
+    is_timed(book, node::first(book, k)) || is_timed(book, node::second(book, k))
 }
 
 // Whether node k is an or with two timed sides.
@@ -66,10 +61,7 @@ fn is_two_sided(book: &[u8], k: usize) -> bool
     requires { IsNode book.now k }
     ensures { TwoSidedAt result book.now k }
 {
-    if node::code(book, k) != node::OR_FIRST_TIMED {
-        return false;
-    }
-    is_timed(book, node::second(book, k))
+    node::code(book, k) == node::OR_FIRST_TIMED && is_timed(book, node::second(book, k))
 }
 
 // Whether no or in node k has two timed sides.
@@ -120,10 +112,7 @@ fn gives_one(book: &[u8], k: usize) -> bool
     requires { IsNode book.now k }
     ensures { OneSidedAt result book.now k }
 {
-    if has_leaf_parts(book, k) {
-        return true;
-    }
-    is_one_sided(book, k)
+    has_leaf_parts(book, k) || is_one_sided(book, k)
 }
 
 // Whether some or of the book has two timed sides.
@@ -132,12 +121,10 @@ pub fn two_timed(book: &[u8]) -> bool
     ensures { TwoTimed result book.now }
 {
     let n = book_progression::node_count(book);
-    let mut k = 0;
-    while k < n {
+    for k in 0..n {
         if is_two_sided(book, k) {
             return true;
         }
-        k += 1;
     }
     false
 }
@@ -166,70 +153,59 @@ fn alone(n: usize, k: usize, part: usize, r: Tick, sets: &mut [u8]) -> SetAt
 {
     let at = SET * k;
     area_bytes::clear(&mut sets[at..at + n]);
-    sets[at + part] = (r.0 + 1) as u8;
+    sets[at + part] = book_progression::cell(r);
     SetAt { at, count: 1 }
 }
 
 // What is looked at of node k with r ticks left, as a state with these marks is left by a step of
 // length d. Not looked at are the timed side of an or where its untimed side holds, and the first part
 // of an until that ends or breaks.
-fn looks(book: &[u8], k: usize, r: Tick, mask: usize, d: Tick) -> u8
+fn looks(book: &[u8], k: usize, r: Tick, mask: usize, d: Tick) -> Look
     requires { IsNode book.now k }
     ensures { Looked result book.now k r mask d }
 {
     let code = node::code(book, k);
     if code <= node::WANTED {
         if book_progression::leaf_holds(book, k, mask) {
-            return PASSES;
+            return Look::Passes;
         }
-        return BROKEN;
+        return Look::Broken;
     }
     if code == node::AND {
-        return BOTH;
+        return Look::Both;
     }
     if code == node::ALWAYS {
-        return SECOND;
+        return Look::Second;
     }
     let second = node::second(book, k);
     if code == node::UNTIL {
         if book_progression::part_holds(book, second, mask) {
-            return PASSES;
+            return Look::Passes;
         }
-        if r.0 < d.0 {
-            return BROKEN;
+        if r < d {
+            return Look::Broken;
         }
-        return FIRST;
+        return Look::First;
     }
     if node::NO_MORE <= code {
         if book_progression::compares(code, d, Tick(node::number(book, k) as u64)) {
-            return PART;
+            return Look::Part;
         }
-        return BROKEN;
+        return Look::Broken;
     }
     if code == node::OR_FIRST_TIMED {
         if is_timed(book, second) {
-            return BOTH;
+            return Look::Both;
         }
         if book_progression::part_holds(book, second, mask) {
-            return PASSES;
+            return Look::Passes;
         }
-        return FIRST;
+        return Look::First;
     }
     if book_progression::part_holds(book, node::first(book, k), mask) {
-        return PASSES;
+        return Look::Passes;
     }
-    SECOND
-}
-
-// The part of node k that is looked at first, or becomes pending.
-fn looked_part(book: &[u8], k: usize, look: u8) -> usize
-    requires { IsNode book.now k }
-    ensures { LookedPart result book.now k look }
-{
-    if look <= SECOND {
-        return node::second(book, k);
-    }
-    node::first(book, k)
+    Look::Second
 }
 
 // Node k becomes pending with r ticks in the alternative at this place.
@@ -240,7 +216,7 @@ fn put_in(book: &[u8], k: usize, r: Tick, at: usize, sets: &mut [u8])
     ensures { PutIn book.now k r at sets.old sets.new }
 {
     let left = book_progression::merged(book, k, r, sets[at + k]);
-    sets[at + k] = (left.0 + 1) as u8;
+    sets[at + k] = book_progression::cell(left);
 }
 
 // The set of its part as that of node k, with node k itself if it stays pending: with d ticks fewer
@@ -261,7 +237,7 @@ fn stay(
     if node::code(book, k) < node::ALWAYS {
         return one;
     }
-    if r.0 < d.0 {
+    if r < d {
         return one;
     }
     let left = Tick(r.0 - d.0);
@@ -342,31 +318,49 @@ pub fn offer(
     if gives_one(book, k) {
         return offer_one(book, n, k, r, mask, d, sets);
     }
-    let look = looks(book, k, r, mask, d);
-    if look <= PASSES {
-        return tested(look == PASSES, n, k, sets);
+    match looks(book, k, r, mask, d) {
+        Look::Broken => tested(false, n, k, sets),
+        Look::Passes => tested(true, n, k, sets),
+        Look::Part => {
+            let part = node::second(book, k);
+            alone(n, k, part, node::fresh(book, part), sets)
+        }
+        Look::Second => {
+            let part = node::second(book, k);
+            let one = offer(book, n, part, node::fresh(book, part), mask, d, sets, room);
+            stay(book, n, k, r, d, one, sets, room)
+        }
+        Look::First => {
+            let part = node::first(book, k);
+            let one = offer(book, n, part, node::fresh(book, part), mask, d, sets, room);
+            stay(book, n, k, r, d, one, sets, room)
+        }
+        Look::Both => {
+            let first = node::first(book, k);
+            let one = offer(
+                book,
+                n,
+                first,
+                node::fresh(book, first),
+                mask,
+                d,
+                sets,
+                room,
+            );
+            let second = node::second(book, k);
+            let two = offer(
+                book,
+                n,
+                second,
+                node::fresh(book, second),
+                mask,
+                d,
+                sets,
+                room,
+            );
+            of_two(book, n, k, one, two, sets, room)
+        }
     }
-    let part = looked_part(book, k, look);
-    let fresh = node::fresh(book, part);
-    if look == PART {
-        return alone(n, k, part, fresh, sets);
-    }
-    let one = offer(book, n, part, fresh, mask, d, sets, room);
-    if look != BOTH {
-        return stay(book, n, k, r, d, one, sets, room);
-    }
-    let second = node::second(book, k);
-    let two = offer(
-        book,
-        n,
-        second,
-        node::fresh(book, second),
-        mask,
-        d,
-        sets,
-        room,
-    );
-    of_two(book, n, k, one, two, sets, room)
 }
 
 // ---- a step
@@ -427,12 +421,10 @@ fn combine_node(
     requires { CombineReady book.now n k r mask count sets.old room.old }
     ensures { NodeCombined result book.now n k r mask d count sets.old room.old sets.new room.new }
 {
-    if count == 1 {
-        if gives_one(book, k) {
-            return combine_in_place(book, n, k, r, mask, d, sets);
-        }
+    if count == 1 && gives_one(book, k) {
+        return combine_in_place(book, n, k, r, mask, d, sets);
     }
-    if looks(book, k, r, mask, d) == PASSES {
+    if let Look::Passes = looks(book, k, r, mask, d) {
         return count;
     }
     combine_general(book, n, k, r, mask, d, count, sets, room)
@@ -454,20 +446,10 @@ fn combine_cell(
     requires k_lt_n { k < n }
     ensures { CellCombined result book.now n k cell mask d count sets.old room.old sets.new room.new }
 {
-    if cell == 0 {
+    let Some(r) = book_progression::pending(cell) else {
         return count;
-    }
-    combine_node(
-        book,
-        n,
-        k,
-        Tick(cell as u64 - 1),
-        mask,
-        d,
-        count,
-        sets,
-        room,
-    )
+    };
+    combine_node(book, n, k, r, mask, d, count, sets, room)
 }
 
 // Every pending node of the old alternative is combined with what stands so far. Most cells are empty.
@@ -538,10 +520,8 @@ fn combine_lines(
 {
     let lines = line::count(book);
     let mut left = count;
-    let mut i = 0;
-    while i < lines {
+    for i in 0..lines {
         left = combine_line(book, n, i, mask, d, left, sets, room);
-        i += 1;
     }
     left
 }
@@ -582,12 +562,7 @@ fn copy_combined(next: usize, sets: &mut [u8])
     if 16 < next {
         return;
     }
-    let size = SIZE * next;
-    let mut k = 0;
-    while k < size {
-        sets[JOINED + k] = sets[COMBINED + k];
-        k += 1;
-    }
+    sets.copy_within(COMBINED..COMBINED + SIZE * next, JOINED);
 }
 
 // It is joined with what stands so far, of which there are `count`; if there are none, it is copied.
@@ -635,10 +610,8 @@ pub fn progressed(
 {
     let n = book_progression::node_count(book);
     let mut left = 0;
-    let mut i = 0;
-    while i < count {
+    for i in 0..count {
         left = join_behind(book, n, mask, d, old, from + SIZE * i, left, sets, room);
-        i += 1;
     }
     left
 }

@@ -3,7 +3,7 @@ use Prim.Native.Nat.{ℕ, zero, suc, ◌+◌, ◌-◌, ◌*◌, ◌≤◌, ◌<�
 use native.Mathlib.Omega.{arith}
 use mathlib.Core.Path.{◌≡◌, refl, ◌∙◌, ap}
 use mathlib.Core.Bool.{Bool, true, false}
-use mathlib.Core.Option.{Option, none, some}
+use Rattle.std.specs.Prelude.{Option, None, Some}
 use mathlib.Core.List.{List, []}
 use lib.ListN.{length}
 use lib.Dec.{eqb}
@@ -28,24 +28,24 @@ pub stands_inside : (s : List ℕ) (p b : ℕ) → 1 ≤ b → stands s p b ≡ 
 unfolding stands
 stands_inside s p b h e = byte_inside s p (omega (arith, eqb-true (byte_at s p) b e))
 
-some_same : {A : Type 0} {x y : A} → some x ≡ some y → x ≡ y
+some_same : {A : Type 0} {x y : A} → Some x ≡ Some y → x ≡ y
 some_same e = cc
 
-no_bound_none {ℓ} : {C : Type ℓ} (usual : ℕ) (s : List ℕ) (p : ℕ) (b : BoundRead) → bound_at usual no_bound s p ≡ some b → C
+no_bound_none {ℓ} : {C : Type ℓ} (usual : ℕ) (s : List ℕ) (p : ℕ) (b : BoundRead) → bound_at usual no_bound s p ≡ Some b → C
 unfolding bound_at
 no_bound_none usual s p b e = let z : ◌≡◌ {A = ℕ} 0 1 = cc in absurd (omega arith)
 
 -- The bound behind a letter that ends at p ends further on.
-pub bound_end : (usual : ℕ) (kind : Bound) (s : List ℕ) (p : ℕ) (b : BoundRead) → bound_at usual kind s p ≡ some b → p ≤ b.next
+pub bound_end : (usual : ℕ) (kind : Bound) (s : List ℕ) (p : ℕ) (b : BoundRead) → bound_at usual kind s p ≡ Some b → p ≤ b.next
 bound_end usual no_bound s p b = no_bound_none usual s p b
 bound_end usual compared s p b =
-    compared_by (λ (o : Option BoundRead). o ≡ some b → p ≤ b.next) usual s p (λ e. let z : ◌≡◌ {A = ℕ} 0 1 = cc in absurd (omega arith))
+    compared_by (λ (o : Option BoundRead). o ≡ Some b → p ≤ b.next) usual s p (λ e. let z : ◌≡◌ {A = ℕ} 0 1 = cc in absurd (omega arith))
     (λ i c j count t q number d before e. omega (arith, ap (λ (x : BoundRead). x.next) (some_same e), (before [] q (passages_end q)).ends))
 bound_end usual optional s p b =
-    optional_by (λ (o : Option BoundRead). o ≡ some b → p ≤ b.next) usual s p (λ t q bound d passage e. omega (arith, ap (λ (x : BoundRead). x.next) (some_same e), passage.ends))
+    optional_by (λ (o : Option BoundRead). o ≡ Some b → p ≤ b.next) usual s p (λ t q bound d passage e. omega (arith, ap (λ (x : BoundRead). x.next) (some_same e), passage.ends))
 
 -- Only a byte other than 0 is the letter of a connective.
-pub lettered : (b : ℕ) (c : Connective) → connective connectives b ≡ some c → 1 ≤ b
+pub lettered : (b : ℕ) (c : Connective) → connective connectives b ≡ Some c → 1 ≤ b
 unfolding connectives connective
 lettered zero c e = let z : ◌≡◌ {A = ℕ} 0 1 = cc in absurd (omega arith)
 lettered (suc b) c e = omega arith
@@ -106,8 +106,8 @@ module _ (usual : ℕ) (s : List ℕ) (read other : Reader) (sound : (level : Le
   bound_same : (c : Connective) (o : Option BoundRead) → p < length s → bound_at usual c.bound s (p + 1) ≡ o
       → with_bound s c o read ≡ with_bound s c o other
   unfolding with_bound
-  bound_same c none lt e = refl
-  bound_same c (some b) lt e =
+  bound_same c None lt e = refl
+  bound_same c (Some b) lt e =
       let past = bound_end usual c.bound s (p + 1) b e in
       pick_same (eqb c.parts 1) _ _ _ _
       (λ _. onward_same _ _ _ _ (agree unit_level (skip s b.next) (omega (arith, skip_ahead s b.next)) lt) (λ g d q f. refl))
@@ -115,8 +115,8 @@ module _ (usual : ℕ) (s : List ℕ) (read other : Reader) (sound : (level : Le
 
   led_same : (o : Option Connective) → connective connectives (byte_at s p) ≡ o → led usual s p o read ≡ led usual s p o other
   unfolding led
-  led_same none e = refl
-  led_same (some c) e =
+  led_same None e = refl
+  led_same (Some c) e =
       pick_same (stands s p 84) _ _ _ _ (λ _. refl) (λ _.
       pick_same (stands s p 70) _ _ _ _ (λ _. refl) (λ _.
       bound_same c (bound_at usual c.bound s (p + 1)) (byte_inside s p (lettered (byte_at s p) c e)) refl))

@@ -1,6 +1,6 @@
 -- What the readers of formulas answer and leave in the area.
 use Rattle.std.specs.Prelude.{ℕ, suc, ◌+◌, ◌-◌, ◌*◌, ◌<◌, max, ◌≡◌, Bool, List, eqb, length}
-use Rattle.std.proofs.Math.Option.{Option, none, some}
+use Rattle.std.specs.Prelude.{Option, None, Some}
 use Rattle.base.specs.Choice.{pick}
 use Rattle.base.specs.Text.{byte}
 use Rattle.base.specs.Recursion.{run}
@@ -14,11 +14,11 @@ use Rattle.book_nodes.specs.State.{State, state_of, usual_in, absorb, bounded_no
 unfoldable pub parse : ℕ → List ℕ → Level → ℕ → Parsed
 parse usual s level p = run (calls_left s) (λ _. bad) (read_step usual s) (record { level = level; place = p })
 
--- The answer of a reader that should read x, where there is room for so many brackets: 0 if that is not of the grammar, and then
+-- The answer of a reader that should read x, where there is room for so many brackets: none if that is not of the grammar, and then
 -- nothing is said of the area; else the position after it, and the formula is absorbed.
-pub data Reads (r : ℕ) (x : Parsed) (room : ℕ) (a z : List ℕ) : Type 0 where
-  not_of : x ≡ bad → r ≡ 0 → Reads r x room a z
-  is_read : (f : Formula) (brackets : ℕ) → x ≡ got f brackets r → state_of z ≡ absorb room brackets f (state_of a) → Reads r x room a z
+pub data Reads (x : Parsed) (room : ℕ) (a z : List ℕ) : Option ℕ → Type 0 where
+  not_of : x ≡ bad → Reads x room a z None
+  is_read : (f : Formula) (brackets q : ℕ) → x ≡ got f brackets q → state_of z ≡ absorb room brackets f (state_of a) → Reads x room a z (Some q)
 
 -- The two connectives that join what stands on both sides, and for each: the whole, what is joined, what is still to be joined, and its byte.
 pub data Joint : Type 0 where
@@ -61,31 +61,31 @@ unfoldable pub mark_code : Bool → ℕ
 mark_code wanted = pick wanted (λ _. 3) (λ _. 2)
 
 -- What reading a mark answers and leaves, wherever there is room for any number of brackets.
-pub record Marks (r : ℕ) (wanted : Bool) (s : List ℕ) (p : ℕ) (a z : List ℕ) : Type 0 where
-  pub reads : (room : ℕ) → Reads r (marked_unit (mark_at wanted s p)) room a z
+pub record Marks (r : Option ℕ) (wanted : Bool) (s : List ℕ) (p : ℕ) (a z : List ℕ) : Type 0 where
+  pub reads : (room : ℕ) → Reads (marked_unit (mark_at wanted s p)) room a z r
 
 -- a connective with a bound, whose letter is at p
 unfoldable pub with_connective : ℕ → List ℕ → ℕ → Option Connective → Parsed
-with_connective usual s p none = bad
-with_connective usual s p (some c) = with_bound s c (bound_at usual c.bound s (p + 1)) (parse usual s)
+with_connective usual s p None = bad
+with_connective usual s p (Some c) = with_bound s c (bound_at usual c.bound s (p + 1)) (parse usual s)
 
 -- what follows a connective that begins with byte b at p
 unfoldable pub led_at : ℕ → List ℕ → ℕ → ℕ → Parsed
 led_at usual s p b = with_connective usual s p (connective connectives b)
 
 -- What it answers and leaves, if the byte is neither `T` nor `F`.
-pub record LetterLeads (r b : ℕ) (s : List ℕ) (p room : ℕ) (a z : List ℕ) : Type 0 where
-  pub reads : Reads r (led_at (usual_in a) s p b) room a z
+pub record LetterLeads (r : Option ℕ) (b : ℕ) (s : List ℕ) (p room : ℕ) (a z : List ℕ) : Type 0 where
+  pub reads : Reads (led_at (usual_in a) s p b) room a z r
 
 -- the code of the node of `A`, or of `N` with the comparison of this code
 unfoldable pub one_code : ℕ → ℕ → ℕ
 one_code b code = pick (eqb b (byte "A")) (λ _. 11) (λ _. code)
 
 -- What reading the part of a connective with one part answers, and that the node with this code and bound is put behind it.
-pub data ReadsOne (r : ℕ) (x : Parsed) (code amount room : ℕ) (a z : List ℕ) : Type 0 where
-  not_one : x ≡ bad → r ≡ 0 → ReadsOne r x code amount room a z
-  one_read : (g : Formula) (brackets : ℕ) → x ≡ got g brackets r → state_of z ≡ bounded_node code amount 0 (absorb room brackets g (state_of a))
-      → ReadsOne r x code amount room a z
+pub data ReadsOne (x : Parsed) (code amount room : ℕ) (a z : List ℕ) : Option ℕ → Type 0 where
+  not_one : x ≡ bad → ReadsOne x code amount room a z None
+  one_read : (g : Formula) (brackets q : ℕ) → x ≡ got g brackets q → state_of z ≡ bounded_node code amount 0 (absorb room brackets g (state_of a))
+      → ReadsOne x code amount room a z (Some q)
 
 -- the part of `E t g` behind its bound, and the formula
 unfoldable pub within_at : ℕ → List ℕ → ℕ → ℕ → Parsed
@@ -102,9 +102,9 @@ second_at usual s p amount f b =
     onward (parse usual s or_level (skip s u)) (λ g c v. behind s v (byte ")") (λ w. got (until (ticks amount) f g) (suc (max b c)) w)))
 
 -- The answer of reading that, from the state in which the first part was absorbed.
-pub data Ended (r : ℕ) (x : Parsed) (room : ℕ) (st : State) (z : List ℕ) : Type 0 where
-  not_ended : x ≡ bad → r ≡ 0 → Ended r x room st z
-  is_ended : (f : Formula) (brackets : ℕ) → x ≡ got f (suc brackets) r → state_of z ≡ absorb room brackets f st → Ended r x room st z
+pub data Ended (x : Parsed) (room : ℕ) (st : State) (z : List ℕ) : Option ℕ → Type 0 where
+  not_ended : x ≡ bad → Ended x room st z None
+  is_ended : (f : Formula) (brackets q : ℕ) → x ≡ got f (suc brackets) q → state_of z ≡ absorb room brackets f st → Ended x room st z (Some q)
 
-pub record Seconds (r : ℕ) (s : List ℕ) (p amount room : ℕ) (a z : List ℕ) : Type 0 where
-  pub from : (st : State) (f : Formula) (b : ℕ) → state_of a ≡ absorb room b f st → Ended r (second_at st.usual s p amount f b) room st z
+pub record Seconds (r : Option ℕ) (s : List ℕ) (p amount room : ℕ) (a z : List ℕ) : Type 0 where
+  pub from : (st : State) (f : Formula) (b : ℕ) → state_of a ≡ absorb room b f st → Ended (second_at st.usual s p amount f b) room st z r

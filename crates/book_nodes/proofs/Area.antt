@@ -112,13 +112,9 @@ put_room a code number first second w le e lt = go (4 * w) (ap (λ (k : ℕ). 4 
 
 -- ---- notes
 
-pub note_less : (a : List ℕ) (k : ℕ) → 512 ≤ length a → k < byte_at a fault_at → state_of (set a fault_at k) ≡ noted k (state_of a)
+pub least_noted : (a : List ℕ) (k r : ℕ) → 512 ≤ length a → r ≡ min (byte_at a fault_at) k → state_of (set a fault_at r) ≡ noted k (state_of a)
 unfolding noted state_of
-note_less a k le lt = let m : min k (byte_at a fault_at) ≡ k = omega arith in state_set a fault_at k (omega arith) (omega arith) ∙ rw m
-
-pub note_more : (a : List ℕ) (k : ℕ) → byte_at a fault_at ≤ k → state_of a ≡ noted k (state_of a)
-unfolding noted state_of
-note_more a k h = let m : min k (byte_at a fault_at) ≡ byte_at a fault_at = omega arith in rw m
+least_noted a k r le e = let m : min k (byte_at a fault_at) ≡ r = omega arith in state_set a fault_at r (omega arith) (omega arith) ∙ rw m
 
 pub timed_not : (a : List ℕ) (t : ℕ) → t ≡ (state_of a).is_timed → t ≡ 0
     → state_of a ≡ noted_if (not (eqb (state_of a).is_timed 0)) 10 (state_of a)
@@ -148,13 +144,9 @@ pub usual_read : (a : List ℕ) (w : ℕ) → w ≡ byte_at a usual_at → w ≡
 unfolding state_of
 usual_read a w e = e
 
-pub last_none : (a : List ℕ) (n : ℕ) → n ≡ byte_at a node_count_at → n ≡ 0 → 0 ≡ last_node (state_of a)
+pub last_read : (a : List ℕ) (r : ℕ) → r ≡ byte_at a node_count_at - 1 → r ≡ last_node (state_of a)
 unfolding state_of last_node
-last_none a n e f = omega arith
-
-pub last_one : (a : List ℕ) (n : ℕ) → n ≡ byte_at a node_count_at → n - 1 ≡ last_node (state_of a)
-unfolding state_of last_node
-last_one a n e = rw e
+last_read a r e = e
 
 -- ---- nodes
 

@@ -31,6 +31,15 @@ pub const MARKS: usize = 484;
 
 pub const USUAL: usize = 485;
 
+// The numbers of the refusals that are noted.
+pub const NUMBER_FAULT: u8 = 7;
+
+pub const MARK_FAULT: u8 = 8;
+
+pub const LIMIT_FAULT: u8 = 9;
+
+pub const TIMED_FAULT: u8 = 10;
+
 // The codes of nodes (reading/specs/BookArea).
 pub const AND: u8 = 4;
 
@@ -50,7 +59,7 @@ fn put(area: &mut [u8], code: u8, number: u8, first: u8, second: u8)
         area[NODE_COUNT] = MOST_NODES + 1;
         return;
     }
-    let at = NODE_SIZE * wide(n);
+    let at = NODE_SIZE * usize::from(n);
     area[at] = code;
     area[at + 1] = number;
     area[at + 2] = first;
@@ -58,21 +67,12 @@ fn put(area: &mut [u8], code: u8, number: u8, first: u8, second: u8)
     area[NODE_COUNT] = n + 1;
 }
 
-fn wide(n: u8) -> usize
-    ensures { result ≡ n }
-{
-    n as usize
-}
-
 // The number of a refusal is noted, if it is less than what was noted before.
 pub fn note(area: &mut [u8], fault: u8)
     requires { 512 ≤ length area.old }
     ensures { State.state_of area.new ≡ State.noted fault (State.state_of area.old) }
 {
-    if area[FAULT] <= fault {
-        return;
-    }
-    area[FAULT] = fault;
+    area[FAULT] = area[FAULT].min(fault);
 }
 
 // Whether the formula read last is timed.
@@ -95,7 +95,7 @@ pub fn usual(area: &[u8]) -> usize
     requires { 512 ≤ length area.now }
     ensures { result ≡ State.usual_in area.now }
 {
-    wide(area[USUAL])
+    usize::from(area[USUAL])
 }
 
 // The number of the node read last.
@@ -103,8 +103,7 @@ pub fn last_node(area: &[u8]) -> u8
     requires { 512 ≤ length area.now }
     ensures { result ≡ State.last_node (State.state_of area.now) }
 {
-    let n = area[NODE_COUNT];
-    if n == 0 { 0 } else { n - 1 }
+    area[NODE_COUNT].saturating_sub(1)
 }
 
 // A node without parts.
@@ -116,16 +115,16 @@ pub fn leaf(area: &mut [u8], code: u8, number: u8)
     tell_timed(area, 0);
 }
 
-// 8 is noted if there is no such mark.
+// MARK_FAULT is noted if there is no such mark.
 fn note_mark(area: &mut [u8], value: usize)
     requires { 512 ≤ length area.old }
     ensures { State.state_of area.new ≡ State.noted_if (leb (State.state_of area.old).marks value) 8 (State.state_of area.old) }
 {
-    let marks = wide(area[MARKS]);
+    let marks = usize::from(area[MARKS]);
     if value < marks {
         return;
     }
-    note(area, 8);
+    note(area, MARK_FAULT);
 }
 
 // A node of a mark.
@@ -137,13 +136,13 @@ pub fn mark_node(area: &mut [u8], code: u8, value: usize)
     leaf(area, code, (value % 256) as u8);
 }
 
-// An opening bracket, where there is room for so many: 9 is noted if there is none. Answers the room that is left.
+// An opening bracket, where there is room for so many: LIMIT_FAULT is noted if there is none. Answers the room that is left.
 pub fn open(area: &mut [u8], room: usize) -> usize
     requires { 512 ≤ length area.old }
     ensures { State.Opens result room area.old area.new }
 {
     if room == 0 {
-        note(area, 9);
+        note(area, LIMIT_FAULT);
         return 0;
     }
     room - 1
@@ -176,7 +175,7 @@ pub fn or_node(area: &mut [u8], first: u8, timed: u8)
     tell_timed(area, 1);
 }
 
-// 10 is noted if the formula read last is timed.
+// TIMED_FAULT is noted if the formula read last is timed.
 fn note_timed(area: &mut [u8])
     requires { 512 ≤ length area.old }
     ensures { State.state_of area.new ≡ State.noted_if (not (eqb (State.state_of area.old).is_timed 0)) 10 (State.state_of area.old) }
@@ -184,10 +183,10 @@ fn note_timed(area: &mut [u8])
     if is_timed(area) == 0 {
         return;
     }
-    note(area, 10);
+    note(area, TIMED_FAULT);
 }
 
-// 7 is noted if the number is above the largest there may be.
+// NUMBER_FAULT is noted if the number is above the largest there may be.
 fn note_number(area: &mut [u8], amount: usize)
     requires { 512 ≤ length area.old }
     ensures { State.state_of area.new ≡ State.noted_if (ltb 254 amount) 7 (State.state_of area.old) }
@@ -195,7 +194,7 @@ fn note_number(area: &mut [u8], amount: usize)
     if amount <= MOST_TICKS {
         return;
     }
-    note(area, 7);
+    note(area, NUMBER_FAULT);
 }
 
 // A node with a bound, its last part read last.

@@ -5,7 +5,7 @@ use mathlib.Core.Path.{◌≡◌, refl}
 use mathlib.Core.Bool.{false}
 use mathlib.Core.List.{List, Memᴰ}
 use borrow.Author.Tests.{leb-false, lt-leb}
-use Rattle.base.specs.Answers.{give}
+use Rattle.std.specs.Prelude.{Ok}
 use Rattle.base.proofs.Lists.{or_fails_left, or_fails_right, or_neither}
 use Rattle.logic.specs.Tower.{most_marks}
 use Rattle.logic.specs.Book.{Formula, constant, proposition, and, or, next, always_for, until, Rule, Book}
@@ -35,14 +35,14 @@ fewer_marks marks more le (until t f g) e =
     (fewer_marks marks more le g (or_fails_right (over_mark marks f) (over_mark marks g) e))
 
 -- the numbers and marks of a book that was read
-book_low : (marks : ℕ) → marks ≤ most_marks → (text : List ℕ) (book : Book) → read_book marks text ≡ give book → (rule : Rule) → Memᴰ rule book
+book_low : (marks : ℕ) → marks ≤ most_marks → (text : List ℕ) (book : Book) → read_book marks text ≡ Ok book → (rule : Rule) → Memᴰ rule book
     → Low rule.formula
 book_low marks few text book e =
     each_rule (λ rule. Low rule.formula) marks
     (λ before rule well. record { numbers = well.numbers; marks = fewer_marks marks most_marks few rule.formula well.propositions }) text book e
 
 -- An area that holds a book which was read holds it within the limits.
-pub held_read : (marks : ℕ) (text area : List ℕ) (book : Book) → marks ≤ most_marks → read_book marks text ≡ give book → HoldsBook area book
+pub held_read : (marks : ℕ) (text area : List ℕ) (book : Book) → marks ≤ most_marks → read_book marks text ≡ Ok book → HoldsBook area book
     → HeldBook area book
 held_read marks text area book few e holds =
     record {

@@ -1,11 +1,13 @@
 -- What is pending, as bytes and as it is meant: the two say the same.
-use Prim.Native.Nat.{ℕ, zero, suc, ◌+◌, ◌-◌}
+use Prim.Native.Nat.{ℕ, zero, suc, ◌+◌, ◌-◌, ◌≤◌, ◌<◌}
+use native.Mathlib.Omega.{arith}
 use native.Mathlib.Numerals.{add-one, sub-one}
 use mathlib.Core.Path.{◌≡◌, refl, sym, ◌∙◌, ap}
-use mathlib.Core.Option.{none, some}
+use Rattle.std.specs.Prelude.{None, Some}
 use mathlib.Core.List.{List, [], ◌∷◌, map}
 use lib.ListN.{length, get_or, set, replicate, length-map, get_or-map}
 use Rattle.logic.specs.Time.{ticks}
+use Rattle.logic.specs.declared.Tick.{Tick}
 use Rattle.pending.specs.Pending.{Pending}
 use Rattle.book_progression.specs.PendingBytes.{cell_of, cell_byte, pending_of}
 
@@ -16,12 +18,27 @@ byte_of_cell zero = refl
 byte_of_cell (suc n) = refl
 
 -- A byte that is not 0 says that its node is pending.
-pub cell_there : (n : ℕ) → (n ≡ 0 → ⊥) → cell_of n ≡ some (ticks (n - 1))
+pub cell_there : (n : ℕ) → (n ≡ 0 → ⊥) → cell_of n ≡ Some (ticks (n - 1))
 unfolding cell_of
 cell_there zero not-zero = absurd (not-zero refl)
 cell_there (suc n) not-zero = rw sub-one
 
-pub cell_one_more : (n : ℕ) → cell_of (n + 1) ≡ some (ticks n)
+-- A byte of 0 says nothing.
+pub cell_empty : (n : ℕ) → n ≡ 0 → None ≡ cell_of n
+unfolding cell_of
+cell_empty n e = rw e refl
+
+-- Where it says that so many ticks are left, it is one more.
+pub cell_ticks : (n : ℕ) (q : Tick) → Some q ≡ cell_of n → n ≡ q.0 + 1
+unfolding cell_of
+cell_ticks zero q e = absurd (cc)
+cell_ticks (suc n) q e = let same : q ≡ ticks n = cc in rw (same, add-one)
+
+-- They are at most 254.
+pub cell_low : (n : ℕ) (q : Tick) → Some q ≡ cell_of n → n < 256 → q.0 ≤ 254
+cell_low n q there byte = omega (arith, cell_ticks n q there)
+
+pub cell_one_more : (n : ℕ) → cell_of (n + 1) ≡ Some (ticks n)
 unfolding cell_of
 cell_one_more n = rw add-one
 
@@ -31,7 +48,7 @@ unfolding pending_of
 pending_length cells = length-map cells cell_of
 
 -- What is pending of node k is what its byte says.
-pub pending_at : (cells : List ℕ) (k : ℕ) → get_or (pending_of cells) k none ≡ cell_of (get_or cells k 0)
+pub pending_at : (cells : List ℕ) (k : ℕ) → get_or (pending_of cells) k None ≡ cell_of (get_or cells k 0)
 unfolding pending_of cell_of
 pending_at cells k = get_or-map cell_of cells k 0
 
@@ -43,10 +60,10 @@ pending_set (c ∷ cells) zero v = refl
 pending_set (c ∷ cells) (suc k) v = ap (λ (l : Pending). cell_of c ∷ l) (pending_set cells k v)
 
 -- Bytes of 0 say that nothing is pending.
-pub pending_none : (n : ℕ) → pending_of (replicate n 0) ≡ replicate n none
+pub pending_none : (n : ℕ) → pending_of (replicate n 0) ≡ replicate n None
 unfolding pending_of cell_of
 pending_none zero = refl
-pending_none (suc n) = ap (λ (l : Pending). none ∷ l) (pending_none n)
+pending_none (suc n) = ap (λ (l : Pending). None ∷ l) (pending_none n)
 
 -- Bytes are equal exactly if they say the same.
 pub pending_eq : (a b : List ℕ) → pending_of a ≡ pending_of b → a ≡ b

@@ -3,7 +3,8 @@ use Prim.Native.Nat.{ℕ, ◌<◌}
 use native.Mathlib.Omega.{arith}
 use mathlib.Core.Path.{◌≡◌, refl, sym, ap}
 use mathlib.Core.Bool.{Bool, true, false}
-use mathlib.Core.Option.{Option, none, some, bind}
+use Rattle.std.specs.Prelude.{Option, None, Some}
+use Rattle.base.specs.Options.{bind}
 use mathlib.Core.List.{List}
 use lib.ListN.{get_or}
 use lib.Seq.{get_or-set_other, set_comm}
@@ -20,19 +21,19 @@ put_put : (f g : Formula) (k j : ℕ) (r s : Tick) (p : Pending) → j < k → p
 unfolding put
 put_put f g k j r s p below =
     rw (
-      get_or-set_other p k j (some (coming f r (get_or p k none))) none (λ e. omega arith),
-      get_or-set_other p j k (some (coming g s (get_or p j none))) none (λ e. omega arith),
+      get_or-set_other p k j (Some (coming f r (get_or p k None))) None (λ e. omega arith),
+      get_or-set_other p j k (Some (coming g s (get_or p j None))) None (λ e. omega arith),
     )
     (set_comm p k j _ _ (λ e. omega arith))
 
 -- A step commutes with a change of what is pending: the change may be made before it or behind it.
 abbrev Commutes : (Pending → Pending) → (Pending → Option Pending) → Type 0
-Commutes change step = (p : Pending) → step (change p) ≡ bind (step p) (λ q. some (change q))
+Commutes change step = (p : Pending) → step (change p) ≡ bind (step p) (λ q. Some (change q))
 
 module _ (change : Pending → Pending) where
-  commutes_some : (step : Pending → Pending) → ((p : Pending) → step (change p) ≡ change (step p)) → Commutes change (λ p. some (step p))
+  commutes_some : (step : Pending → Pending) → ((p : Pending) → step (change p) ≡ change (step p)) → Commutes change (λ p. Some (step p))
   unfolding bind
-  commutes_some step same p = ap (λ q. some q) (same p)
+  commutes_some step same p = ap (λ q. Some q) (same p)
 
   commutes_provided : (b : Bool) (step : Pending → Option Pending) → Commutes change step → Commutes change (λ p. provided b (step p))
   unfolding bind provided
@@ -48,9 +49,9 @@ module _ (change : Pending → Pending) where
   unfolding bind
   commutes_bind step then one two p = rw (one p) (go (step p))
     where
-      go : (o : Option Pending) → bind (bind o (λ q. some (change q))) then ≡ bind (bind o then) (λ q. some (change q))
-      go none = refl
-      go (some q) = two q
+      go : (o : Option Pending) → bind (bind o (λ q. Some (change q))) then ≡ bind (bind o then) (λ q. Some (change q))
+      go None = refl
+      go (Some q) = two q
 
 module _ (bytes : List ℕ) (tower : Tower) (x : ℕ) (d : Tick) (f : Formula) (k : ℕ) (r : Tick) where
   -- node k becomes pending
@@ -58,11 +59,11 @@ module _ (bytes : List ℕ) (tower : Tower) (x : ℕ) (d : Tick) (f : Formula) (
   putting p = put f k r p
 
   -- a lower node becomes pending,
-  commutes_put : (g : Formula) (j : ℕ) (s : Tick) → j < k → Commutes putting (λ p. some (put g j s p))
+  commutes_put : (g : Formula) (j : ℕ) (s : Tick) → j < k → Commutes putting (λ p. Some (put g j s p))
   commutes_put g j s below = commutes_some putting (λ p. put g j s p) (λ p. put_put f g k j r s p below)
 
   -- or stays so,
-  commutes_stay : (g : Formula) (j : ℕ) (s : Tick) (b : Bool) → j < k → Commutes putting (λ p. some (pick b (λ _. put g j s p) (λ _. p)))
+  commutes_stay : (g : Formula) (j : ℕ) (s : Tick) (b : Bool) → j < k → Commutes putting (λ p. Some (pick b (λ _. put g j s p) (λ _. p)))
   commutes_stay g j s true below = commutes_put g j s below
   commutes_stay g j s false below = commutes_some putting (λ p. p) (λ p. refl)
 
@@ -70,9 +71,9 @@ module _ (bytes : List ℕ) (tower : Tower) (x : ℕ) (d : Tick) (f : Formula) (
   commutes_progress : (g : Formula) (j : ℕ) (s : Tick) → Stored bytes g j → j < k → Commutes putting (λ p. progress tower x d g j s p)
   unfolding progress Stored
   commutes_progress (constant b) j s stored below =
-      commutes_provided putting (holds tower x (constant b)) (λ p. some p) (commutes_some putting (λ p. p) (λ p. refl))
+      commutes_provided putting (holds tower x (constant b)) (λ p. Some p) (commutes_some putting (λ p. p) (λ p. refl))
   commutes_progress (proposition w m) j s stored below =
-      commutes_provided putting (holds tower x (proposition w m)) (λ p. some p) (commutes_some putting (λ p. p) (λ p. refl))
+      commutes_provided putting (holds tower x (proposition w m)) (λ p. Some p) (commutes_some putting (λ p. p) (λ p. refl))
   commutes_progress (and g h) j s stored below =
       commutes_bind putting _ _ (commutes_progress g (first_part j h) (fresh g) stored.1 (omega (arith, stored.3)))
       (commutes_progress h (second_part j) (fresh h) stored.2 (omega (arith, stored.4)))
@@ -93,10 +94,10 @@ module _ (bytes : List ℕ) (tower : Tower) (x : ℕ) (d : Tick) (f : Formula) (
       (commutes_bind putting _ _ (commutes_progress g (first_part j h) (fresh g) stored.1 (omega (arith, stored.3)))
       (commutes_put (until t g h) j (minus s d) below)))
 
-bind_some : (o : Option Pending) → bind o (λ p. some p) ≡ o
+bind_some : (o : Option Pending) → bind o (λ p. Some p) ≡ o
 unfolding bind
-bind_some none = refl
-bind_some (some p) = refl
+bind_some None = refl
+bind_some (Some p) = refl
 
 -- An A may stay before its part progresses.
 pub always_first : (bytes : List ℕ) (tower : Tower) (x : ℕ) (d t : Tick) (g : Formula) (k : ℕ) (r : Tick) (p : Pending) → Stored bytes (always_for t g) k
@@ -105,7 +106,7 @@ pub always_first : (bytes : List ℕ) (tower : Tower) (x : ℕ) (d t : Tick) (g 
 unfolding progress Stored
 always_first bytes tower x d t g k r p stored = go (at_most d r)
   where
-    go : (b : Bool) → bind (progress tower x d g (second_part k) (fresh g) p) (λ q. some (pick b (λ _. put (always_for t g) k (minus r d) q) (λ _. q)))
+    go : (b : Bool) → bind (progress tower x d g (second_part k) (fresh g) p) (λ q. Some (pick b (λ _. put (always_for t g) k (minus r d) q) (λ _. q)))
         ≡ progress tower x d g (second_part k) (fresh g) (pick b (λ _. put (always_for t g) k (minus r d) p) (λ _. p))
     go true = sym (commutes_progress bytes tower x d (always_for t g) k (minus r d) g (second_part k) (fresh g) stored.1 stored.2 p)
     go false = bind_some (progress tower x d g (second_part k) (fresh g) p)

@@ -2,10 +2,9 @@
 use Prim.Native.Nat.{ℕ, ◌≤◌, ◌<◌}
 use native.Mathlib.Omega.{arith}
 use mathlib.Core.Path.{◌≡◌, refl, sym, ◌∙◌}
-use mathlib.Core.Bool.{Bool, true, false, beq, not}
+use mathlib.Core.Bool.{Bool, true, false, beq}
 use mathlib.Core.List.{List}
 use lib.Dec.{eqb}
-use borrow.Author.Tests.{not-true, not-false}
 use Rattle.logic.specs.Tower.{bit}
 use Rattle.logic.specs.Book.{constant, proposition}
 use Rattle.pending.specs.Pending.{holds}
@@ -47,20 +46,20 @@ module _ (bytes : List ℕ) (k mask : ℕ) where
       }
 
   module _ (code p : ℕ) (a : Bool) (e : code ≡ code_of bytes k) (first : p ≡ first_of bytes k) (left : HoldsAt a bytes p mask) where
-    pub holds_and_not : code ≡ 4 → not a ≡ true → HoldsAt false bytes k mask
+    pub holds_and_not : code ≡ 4 → a ≡ false → HoldsAt false bytes k mask
     unfolding holds
     holds_and_not four fails =
         record {
           says = λ f s at. by_and bytes k (λ f. false ≡ holds at.tower at.state f) f s (omega arith)
-              (λ g h s. sym (rw (← left.says g (and_first bytes k p g h s first) at, not-true a fails)));
+              (λ g h s. sym (rw (← left.says g (and_first bytes k p g h s first) at, fails)));
         }
 
-    pub holds_and : (q : ℕ) (b : Bool) → code ≡ 4 → not a ≡ false → q ≡ second_of bytes k → HoldsAt b bytes q mask → HoldsAt b bytes k mask
+    pub holds_and : (q : ℕ) (b : Bool) → code ≡ 4 → a ≡ true → q ≡ second_of bytes k → HoldsAt b bytes q mask → HoldsAt b bytes k mask
     unfolding holds
     holds_and q b four passes second right =
         record {
           says = λ f s at. by_and bytes k (λ f. b ≡ holds at.tower at.state f) f s (omega arith)
-              (λ g h s. sym (rw (← left.says g (and_first bytes k p g h s first) at, not-false a passes, ← right.says h (and_second bytes k q g h s second) at)));
+              (λ g h s. sym (rw (← left.says g (and_first bytes k p g h s first) at, passes, ← right.says h (and_second bytes k q g h s second) at)));
         }
 
     pub holds_or_first : 3 < code → code < 7 → (code ≡ 4 → ⊥) → a ≡ true → HoldsAt true bytes k mask

@@ -12,7 +12,7 @@ use Rattle.pending.specs.Pending.{progress}
 use Rattle.reading.specs.BookArea.{node_second}
 use Rattle.book_progression.specs.PendingBytes.{pending_of, outcome}
 use Rattle.book_progression.specs.NodeBytes.{code_of, second_of, fresh_of, Stored, IsNode}
-use Rattle.book_progression.specs.Promises.{NodeReady, Stays, Progresses, StaysNested}
+use Rattle.book_progression.specs.Promises.{NodeReady, Stays, Progresses}
 use Rattle.book_progression.proofs.Nodes.{by_always, always_part, second_node, second_below, fresh_low}
 use Rattle.book_progression.proofs.Commuting.{always_first}
 use Rattle.book_progression.proofs.Progressing.{child}
@@ -42,9 +42,6 @@ pub record Nesting (bytes : List ℕ) (d : Tick) (k : ℕ) (r : Tick) (first : L
   pub ready : NodeReady bytes q left cells
   pub says : Leaves bytes d k r first q left cells
 
-pub nesting_first : (bytes : List ℕ) (d : Tick) (k : ℕ) (r : Tick) (cells : List ℕ) → NodeReady bytes k r cells → Nesting bytes d k r cells k r cells
-nesting_first bytes d k r cells ready = record { low = omega arith; size = refl; ready = ready; says = λ b mask last call. call }
-
 module _ (bytes : List ℕ) (d : Tick) (k : ℕ) (r : Tick) (first : List ℕ) (q : ℕ) (left : Tick) (cells : List ℕ)
     (going : Nesting bytes d k r first q left cells) (code : ℕ) (same : code ≡ code_of bytes q) where
   pub nesting_less : (n : ℕ) → code ≡ 11 → n ≡ second_of bytes q → n < q
@@ -65,6 +62,3 @@ module _ (bytes : List ℕ) (d : Tick) (k : ℕ) (r : Tick) (first : List ℕ) (
         says = λ b mask last call.
             going.says b mask last (one_always bytes d q left cells n after (sym same ∙ eleven) stays part b mask last (rw (← is) call));
       }
-
-  pub nesting_end : (code ≡ 11 → ⊥) → StaysNested (record { node = q; left = left }) bytes k r d first cells
-  nesting_end other = record { low = going.low; ready = going.ready; other = λ e. other (same ∙ e); says = going.says }

@@ -3,7 +3,8 @@ use Prim.Native.Nat.{ℕ, ◌≤◌, ◌<◌}
 use native.Mathlib.Omega.{arith}
 use mathlib.Core.Path.{◌≡◌, refl, sym, ◌∙◌, ap}
 use mathlib.Core.Bool.{Bool, true, false, not}
-use mathlib.Core.Option.{some, bind}
+use Rattle.std.specs.Prelude.{Some}
+use Rattle.base.specs.Options.{bind}
 use mathlib.Core.List.{List}
 use lib.ListN.{length}
 use borrow.Author.Tests.{not-true, not-false, le-leb, lt-leb}
@@ -19,7 +20,7 @@ use Rattle.book_progression.specs.Promises.{HoldsAt, NodeReady, NextReady, Nexts
 use Rattle.book_progression.proofs.Nodes.{by_kind, by_until, by_and, by_or, and_first, and_second, or_first, or_second, until_first, until_second, first_below, until_below, second_below, fresh_low, fresh_is}
 
 -- a test that alone decides
-provided_outcome : (b : Bool) (cells : List ℕ) → provided b (some (pending_of cells)) ≡ outcome b cells
+provided_outcome : (b : Bool) (cells : List ℕ) → provided b (Some (pending_of cells)) ≡ outcome b cells
 unfolding provided outcome
 provided_outcome true cells = refl
 provided_outcome false cells = refl
@@ -105,7 +106,7 @@ module _ (bytes : List ℕ) (k : ℕ) (r : Tick) (mask : ℕ) (d : Tick) (cells 
           go : (t : Tick) (f g : Formula) → Stored bytes (until t f g) k → (at : MarkedState mask) → At true after at (until t f g)
           go t f g s at =
               rw (ended t f g s at, fails, le-leb d.0 r.0 early, until_child t f g s at, not-false a passes)
-              (ap (λ l. some l) (sym (stays.says (until t f g) s ∙ rw (le-leb d.0 r.0 early))))
+              (ap (λ l. Some l) (sym (stays.says (until t f g) s ∙ rw (le-leb d.0 r.0 early))))
 
   -- both parts of an and, the first before the second
   module _ (four : code ≡ 4) (p : ℕ) (q : Tick) (a : Bool) (mid : List ℕ) (first : p ≡ first_of bytes k) (new : q ≡ ticks (fresh_of bytes p))
@@ -176,13 +177,6 @@ module _ (bytes : List ℕ) (k : ℕ) (r : Tick) (mask : ℕ) (d : Tick) (cells 
 
 -- Nothing comes of an or whose untimed first side holds.
 module _ (bytes : List ℕ) (k mask : ℕ) where
-  pub not_passing : Passes false bytes k mask
-  not_passing =
-      record {
-        code = λ is-so. let z : ◌≡◌ {A = ℕ} 0 1 = cc in absurd (omega arith);
-        first = λ is-so. let z : ◌≡◌ {A = ℕ} 0 1 = cc in absurd (omega arith);
-      }
-
   pub passing : (code p : ℕ) (h : Bool) → code ≡ code_of bytes k → code ≡ 6 → p ≡ first_of bytes k → HoldsAt h bytes p mask → Passes h bytes k mask
   passing code p h e six first held = record { code = λ is-so. sym e ∙ six; first = λ is-so. rw (← first) held }
 

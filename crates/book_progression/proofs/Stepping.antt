@@ -5,7 +5,8 @@ use native.Mathlib.Omega.{arith}
 use native.Mathlib.Numerals.{add-one}
 use mathlib.Core.Path.{◌≡◌, refl, sym, ◌∙◌, ap}
 use mathlib.Core.Bool.{Bool, true, false, not}
-use mathlib.Core.Option.{Option, none, some, bind}
+use Rattle.std.specs.Prelude.{Option, None, Some}
+use Rattle.base.specs.Options.{bind}
 use mathlib.Core.List.{List, ◌∷◌}
 use lib.ListN.{length, get_or, take, drop, replicate, length-replicate, drop_of_length-le}
 use lib.Seq.{drop-cons}
@@ -13,7 +14,6 @@ use borrow.Author.Tests.{not-true, not-false}
 use borrow.Rule.Slice.PartMut.{put_mid}
 use Rattle.base.specs.Bytes.{number_at}
 use Rattle.area_bytes.proofs.Numbers.{zero_bytes}
-use Rattle.logic.specs.Time.{ticks}
 use Rattle.logic.specs.Tower.{Tower}
 use Rattle.logic.specs.Book.{Formula, constant, nodes, Book}
 use Rattle.logic.specs.declared.Tick.{Tick}
@@ -22,25 +22,25 @@ use Rattle.reading.specs.BookArea.{nodes_in}
 use Rattle.book_progression.specs.PendingBytes.{cell_of, pending_of, part, outcome}
 use Rattle.book_progression.specs.NodeBytes.{IsNode, HeldBook, MarkedState}
 use Rattle.book_progression.specs.Promises.{NodeReady, Progresses, cell_step, CellSteps, AreNodes, HasNodes, Parts, EmptyTo, Beside, NodesProgress, LinesProgress, LinesBegin, Emptied, Progressed, PendingBegun}
-use Rattle.book_progression.proofs.Cells.{cell_there, pending_at, pending_length, pending_none}
+use Rattle.book_progression.proofs.Cells.{cell_low, pending_at, pending_length, pending_none}
 use Rattle.book_progression.proofs.Areas.{lent, lent_length, part_length, part_at, part_back, beside_back, beside_none, beside_both, apart_at, apart_part}
 use Rattle.book_progression.proofs.BookHeld.{held_nodes}
 
 -- ---- one cell
 
 module _ (bytes : List ℕ) (k cell mask : ℕ) (d : Tick) (cells : List ℕ) where
-  pub cell_none : cell ≡ 0 → CellSteps true bytes k cell mask d cells cells
-  unfolding cell_of cell_step outcome
-  cell_none e = record { says = λ f s at. rw e }
+  pub cell_none : None ≡ cell_of cell → CellSteps true bytes k cell mask d cells cells
+  unfolding cell_step outcome
+  cell_none e = record { says = λ f s at. rw (← e) }
 
-  pub cell_progresses : (b : Bool) (after : List ℕ) → (cell ≡ 0 → ⊥) → Progresses b bytes k (ticks (cell - 1)) mask d cells after
+  pub cell_progresses : (r : Tick) (b : Bool) (after : List ℕ) → Some r ≡ cell_of cell → Progresses b bytes k r mask d cells after
       → CellSteps b bytes k cell mask d cells after
   unfolding cell_step
-  cell_progresses b after there call = record { says = λ f s at. rw (cell_there cell there) (call.says f s at) }
+  cell_progresses r b after there call = record { says = λ f s at. rw (← there) (call.says f s at) }
 
-pub cell_ready : (bytes : List ℕ) (k cell : ℕ) (cells : List ℕ) → cell < 256 → IsNode bytes k → k < length cells
-    → NodeReady bytes k (ticks (cell - 1)) cells
-cell_ready bytes k cell cells byte node low = record { node = node; cell = low; left = omega arith }
+pub cell_ready : (bytes : List ℕ) (k cell : ℕ) (r : Tick) (cells : List ℕ) → Some r ≡ cell_of cell → cell < 256 → IsNode bytes k → k < length cells
+    → NodeReady bytes k r cells
+cell_ready bytes k cell r cells there byte node low = record { node = node; cell = low; left = cell_low cell r there byte }
 
 -- ---- all nodes
 
@@ -48,8 +48,8 @@ cell_ready bytes k cell cells byte node low = record { node = node; cell = low; 
 nodes_cons : (tower : Tower) (x : ℕ) (d : Tick) (f : Formula) (fs : List Formula) (k : ℕ) (o : Option Tick) (cells p : Pending)
     → progress_nodes tower x d (f ∷ fs) k (o ∷ cells) p ≡ bind (cell_step tower x d f k o p) (λ q. progress_nodes tower x d fs (suc k) cells q)
 unfolding progress_nodes cell_step bind
-nodes_cons tower x d f fs k none cells p = refl
-nodes_cons tower x d f fs k (some r) cells p = refl
+nodes_cons tower x d f fs k None cells p = refl
+nodes_cons tower x d f fs k (Some r) cells p = refl
 
 -- How far the nodes have progressed: those from number k on are left to do.
 pub record NodesGoing (bytes : List ℕ) (count mask : ℕ) (d : Tick) (first : List ℕ) (from to : ℕ) (area : List ℕ) (k : ℕ) : Type 0 where
@@ -78,7 +78,7 @@ module _ (bytes : List ℕ) (count mask : ℕ) (d : Tick) (first : List ℕ) (fr
 
   module _ (parts : Parts (length first) count from to) (low : k < count) where
     -- the cell is the one of the part that is read
-    cell : cell_of (get_or area (from + k) 0) ≡ get_or (pending_of (part first from count)) k none
+    cell : cell_of (get_or area (from + k) 0) ≡ get_or (pending_of (part first from count)) k None
     cell =
         ap cell_of (apart_at first from to count area parts going.beside k low ∙ sym (part_at first from count k low))
         ∙ sym (pending_at (part first from count) k)
@@ -96,8 +96,8 @@ module _ (bytes : List ℕ) (count mask : ℕ) (d : Tick) (first : List ℕ) (fr
         ∙ ap (λ l. progress_nodes at.tower at.state d l k (drop k (pending_of (part first from count))) (pending_of (part area to count)))
         (drop-cons fs k (constant false) many)
         ∙ ap (λ l. progress_nodes at.tower at.state d (get_or fs k (constant false) ∷ drop (suc k) fs) k l (pending_of (part area to count)))
-        (drop-cons (pending_of (part first from count)) k none more)
-        ∙ nodes_cons at.tower at.state d (get_or fs k (constant false)) (drop (suc k) fs) k (get_or (pending_of (part first from count)) k none)
+        (drop-cons (pending_of (part first from count)) k None more)
+        ∙ nodes_cons at.tower at.state d (get_or fs k (constant false)) (drop (suc k) fs) k (get_or (pending_of (part first from count)) k None)
         (drop (suc k) (pending_of (part first from count))) (pending_of (part area to count))
         ∙ rw (cell, add-one)
 
@@ -189,18 +189,6 @@ empty_four area from count k i w e is-w none_set l =
       ];
     }
 
-pub empty_one : (area : List ℕ) (from count k i : ℕ) → EmptyTo area from count k i → get_or area (from + i) 0 ≡ 0 → i < count
-    → EmptyTo area from count k (i + 1)
-empty_one area from count k i e zero_cell l =
-    record {
-      least = omega (arith, e.least);
-      most = omega arith;
-      empty = λ j m n. elim (dec_lt j i) [
-        | yes before ↦ e.empty j m before
-        | no here ↦ let same : j ≡ i = omega arith in rw same zero_cell
-      ];
-    }
-
 -- what is asked of a cell that lies in a part
 pub cell_inside : (area first : List ℕ) (k count from to : ℕ) → Parts (length first) count from to → length area ≡ length first → k < count
     → k < length (take (to + count - to) (drop to area))
@@ -210,11 +198,6 @@ pub node_there : (bytes : List ℕ) (count k : ℕ) → HasNodes bytes count →
 node_there bytes count k has low = has.nodes k low
 
 -- ---- the whole step
-
--- A part has as many bytes as the book has nodes.
-pub cells_lent : (bytes : List ℕ) (count : ℕ) (area : List ℕ) (to : ℕ) → count ≡ nodes_in bytes → to + count ≤ length area
-    → length (take (to + count - to) (drop to area)) ≡ nodes_in bytes
-cells_lent bytes count area to all fits = lent_length area to count fits ∙ all
 
 -- The part is cleared.
 pub emptied : (bytes : List ℕ) (count : ℕ) (area : List ℕ) (to : ℕ) (zeros : List ℕ) → count ≡ nodes_in bytes
@@ -226,7 +209,7 @@ emptied bytes count area to zeros all cleared low =
       beside = rw (← all) (beside_back area to count zeros fits many);
       says = λ book held.
           rw (← all) (ap pending_of (part_back area to count zeros fits many ∙ are) ∙ pending_none count
-          ∙ ap (λ n. replicate n none) (all ∙ held.holds.node_count));
+          ∙ ap (λ n. replicate n None) (all ∙ held.holds.node_count));
     }
   where
     fits : to + count ≤ length area

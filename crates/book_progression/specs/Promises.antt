@@ -1,6 +1,6 @@
 -- What the functions of this crate promise. Each promise is for every formula that the bytes hold, and for every state with the given marks.
 use Rattle.std.specs.Prelude.{ℕ, ◌+◌, ◌*◌, ◌≤◌, ◌<◌, ◌≡◌, Bool, true, false, ◌⊎◌, List, length, get_or, take, drop}
-use Rattle.std.proofs.Math.Option.{Option, none, some}
+use Rattle.std.specs.Prelude.{Option, None, Some}
 use Rattle.base.specs.Choice.{pick}
 use Rattle.base.specs.Bytes.{byte_at}
 use Rattle.logic.specs.Time.{at_most, minus}
@@ -76,8 +76,8 @@ pub record Passes (answer : Bool) (bytes : List ℕ) (k mask : ℕ) : Type 0 whe
 
 -- a node by its cell: it progresses if it is pending
 unfoldable pub cell_step : Tower → ℕ → Tick → Formula → ℕ → Option Tick → Pending → Option Pending
-cell_step tower x d f k none p = some p
-cell_step tower x d f k (some r) p = progress tower x d f k r p
+cell_step tower x d f k None p = Some p
+cell_step tower x d f k (Some r) p = progress tower x d f k r p
 
 -- Node k progresses if its cell says that it is pending.
 pub record CellSteps (answer : Bool) (bytes : List ℕ) (k cell mask : ℕ) (d : Tick) (cells after : List ℕ) : Type 0 where

@@ -8,6 +8,7 @@ ghost use Rattle.std.specs.Prelude.{◌+◌, ◌<◌, ◌≤◌, ◌≡◌, leng
 ghost use Rattle.logic.specs.Tower.{bit};
 ghost use Rattle.reading.specs.BookArea.{nodes_in, lines_in};
 ghost use Rattle.book_progression.specs.NodeBytes.{code_of, IsNode, IsHeld};
+ghost use Rattle.book_progression.specs.PendingBytes.{cell_of};
 ghost use Rattle.book_progression.specs.Promises.{HoldsAt, Merged, NodeReady, PutsNode, Compares, NextReady, Nexts, Stays, Progresses, StaysNested, Passes, CellSteps, HasNodes, Parts, EmptyTo, NodesProgress, IsLine, LineSteps, LinesProgress, LineBegins, LinesBegin, Emptied, Progressed, PendingBegun};
 
 use logic::Tick;
@@ -61,15 +62,9 @@ pub fn holds(book: &[u8], k: usize, mask: usize) -> bool
     }
     let left = holds(book, node::first(book, k), mask);
     if code == node::AND {
-        if !left {
-            return false;
-        }
-        return holds(book, node::second(book, k), mask);
+        return left && holds(book, node::second(book, k), mask);
     }
-    if left {
-        return true;
-    }
-    holds(book, node::second(book, k), mask)
+    left || holds(book, node::second(book, k), mask)
 }
 
 // The same of a part. Most parts are leaves, and then `holds` is not called.
@@ -83,6 +78,24 @@ pub fn part_holds(book: &[u8], k: usize, mask: usize) -> bool
     holds(book, k, mask)
 }
 
+// What a cell says of its node: the ticks with which it is pending, if it is.
+pub fn pending(cell: u8) -> Option<Tick>
+    ensures { result ≡ cell_of cell }
+{
+    match cell {
+        0 => None,
+        _ => Some(Tick(cell as u64 - 1)),
+    }
+}
+
+// The cell of a node that is pending with so many ticks.
+pub fn cell(left: Tick) -> u8
+    requires { left.0 ≤ 254 }
+    ensures { result ≡ left.0 + 1 }
+{
+    (left.0 + 1) as u8
+}
+
 // The ticks that node k has where it comes up with r and its cell is this: where it is pending
 // already, A keeps the larger number, U the smaller.
 pub fn merged(book: &[u8], k: usize, r: Tick, cell: u8) -> Tick
@@ -90,24 +103,14 @@ pub fn merged(book: &[u8], k: usize, r: Tick, cell: u8) -> Tick
     requires r_bound { r.0 ≤ 254 }
     ensures { Merged result book.now k r cell }
 {
-    if cell == 0 {
+    let Some(q) = pending(cell) else {
         return r;
+    };
+    match node::code(book, k) {
+        node::ALWAYS => r.max(q),
+        node::UNTIL => r.min(q),
+        _ => r,
     }
-    let q = Tick(cell as u64 - 1);
-    let code = node::code(book, k);
-    if code == node::ALWAYS {
-        if r.0 <= q.0 {
-            return q;
-        }
-        return r;
-    }
-    if code == node::UNTIL {
-        if q.0 <= r.0 {
-            return q;
-        }
-        return r;
-    }
-    r
 }
 
 // Node k becomes pending with r ticks.
@@ -115,24 +118,19 @@ fn put(book: &[u8], k: usize, r: Tick, cells: &mut [u8])
     requires { NodeReady book.now k r cells.old }
     ensures { PutsNode book.now k r cells.old cells.new }
 {
-    let left = merged(book, k, r, cells[k]);
-    cells[k] = (left.0 + 1) as u8;
+    cells[k] = cell(merged(book, k, r, cells[k]));
 }
 
 // d is ~ t, for the comparison of this code.
 pub fn compares(code: u8, d: Tick, t: Tick) -> bool
     ensures { Compares result code d t }
 {
-    if code == node::NO_MORE {
-        return d.0 <= t.0;
+    match code {
+        node::NO_MORE => d <= t,
+        node::LESS => d < t,
+        node::NO_LESS => d >= t,
+        _ => d > t,
     }
-    if code == node::LESS {
-        return d.0 < t.0;
-    }
-    if code == node::NO_LESS {
-        return t.0 <= d.0;
-    }
-    t.0 < d.0
 }
 
 // Next needs d ~ t and makes its part pending.
@@ -154,7 +152,7 @@ fn stay(book: &[u8], k: usize, left: Tick, d: Tick, cells: &mut [u8])
     requires { NodeReady book.now k left cells.old }
     ensures { Stays book.now k left d cells.old cells.new }
 {
-    if left.0 < d.0 {
+    if left < d {
         return;
     }
     put(book, k, Tick(left.0 - d.0), cells);
@@ -202,7 +200,7 @@ pub fn progress(book: &[u8], k: usize, r: Tick, mask: usize, d: Tick, cells: &mu
         if part_holds(book, second, mask) {
             return true;
         }
-        if at.left.0 < d.0 {
+        if at.left < d {
             return false;
         }
         if !progress(book, first, node::fresh(book, first), mask, d, cells) {
@@ -238,10 +236,10 @@ fn progress_cell(book: &[u8], k: usize, cell: u8, mask: usize, d: Tick, cells: &
     requires k_in_bounds { k < length cells.old }
     ensures { CellSteps result book.now k cell mask d cells.old cells.new }
 {
-    if cell == 0 {
+    let Some(left) = pending(cell) else {
         return true;
-    }
-    progress(book, k, Tick(cell as u64 - 1), mask, d, cells)
+    };
+    progress(book, k, left, mask, d, cells)
 }
 
 // Passes over empty cells, four at a time, in the part of the area that starts at `from`: those from k
@@ -267,14 +265,12 @@ pub fn past_empty(area: &[u8], from: usize, count: usize, k: usize) -> usize
     requires k_le_count { k ≤ count }
     ensures { EmptyTo area.now from count k result }
 {
-    let mut i = past_fours(area, from, count, k);
-    while i < count {
+    for i in past_fours(area, from, count, k)..count {
         if area[from + i] != 0 {
             return i;
         }
-        i += 1;
     }
-    i
+    count
 }
 
 // Every pending node progresses in turn: those of the part of the area that starts at `from`, into
@@ -308,10 +304,7 @@ pub fn passes(book: &[u8], k: usize, mask: usize) -> bool
     requires { IsNode book.now k }
     ensures { Passes result book.now k mask }
 {
-    if node::code(book, k) != node::OR {
-        return false;
-    }
-    part_holds(book, node::first(book, k), mask)
+    node::code(book, k) == node::OR && part_holds(book, node::first(book, k), mask)
 }
 
 // The formula of line i progresses if it is an `always` line. Most lines pass at most states, and then
@@ -339,12 +332,10 @@ fn progress_lines(book: &[u8], lines: usize, mask: usize, d: Tick, cells: &mut [
     requires cells_len { length cells.old ≡ nodes_in book.now }
     ensures { LinesProgress result book.now mask d cells.old cells.new }
 {
-    let mut i = 0;
-    while i < lines {
+    for i in 0..lines {
         if !progress_line(book, i, mask, d, cells) {
             return false;
         }
-        i += 1;
     }
     true
 }
@@ -403,10 +394,8 @@ fn begin_lines(book: &[u8], cells: &mut [u8])
     ensures { LinesBegin book.now cells.old cells.new }
 {
     let lines = line::count(book);
-    let mut at = 0;
-    while at < lines {
+    for at in 0..lines {
         begin_line(book, at, cells);
-        at += 1;
     }
 }
 

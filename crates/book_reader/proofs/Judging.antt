@@ -8,7 +8,8 @@ use lib.ListN.{length, length-append}
 use lib.Seq.{length-take-le}
 use lib.Dec.{eqb, ltb}
 use borrow.Author.Tests.{lt-ltb, le-ltb, ltb-true, ltb-false, leb-false, eq-eqb, ne_eqb}
-use Rattle.base.specs.Answers.{refuse, give, ◌if◌else◌}
+use Rattle.base.specs.Answers.{Answer, ◌if◌else◌}
+use Rattle.std.specs.Prelude.{Err, Ok}
 use Rattle.base.specs.declared.Refusal.{Refusal}
 use Rattle.base.specs.declared.Refusal.TheVariants.{Number, Mark, Limit, Timed}
 use Rattle.base.proofs.Lists.{or_fails_left, or_fails_right}
@@ -18,8 +19,6 @@ use Rattle.reading.specs.BookReading as Reading
 use Rattle.reading.specs.BookReading.{most_ticks, most_nodes, most_brackets, over_number, over_mark, over_limit, judge_line}
 use Rattle.book_nodes.specs.State.{Nodes, State, state_of, put_all, absorb, one_if, fault_of, due, last_node}
 use Rattle.book_nodes.proofs.Absorb.{absorb_usual, due_true, due_false}
-use Rattle.book_reader.specs.declared.Turn.{Turn}
-use Rattle.book_reader.specs.declared.Turn.TheVariants as T
 use Rattle.book_reader.specs.Lines.{judged, put_line, PutsLine, HeldSoFar}
 use Rattle.book_reader.proofs.Kept.{AllSmall, count_exact, count_over, keeps_more, nodes_append, length_more}
 
@@ -128,10 +127,10 @@ kept_all a le = length-take-le node_count_at a (omega arith)
 -- ---- a line
 
 -- How a line is judged: by the state as by the definitions.
-pub data Verdict (r : Turn) (marks : ℕ) (rules : Book) (form : Form) (f : Formula) (b q : ℕ) (y : List ℕ) : Type 0 where
-  down : (why : Refusal) → judge_line marks rules (Reading.line form f b q) ≡ refuse why → r ≡ T.Refused why → Verdict r marks rules form f b q y
-  fine : judge_line marks rules (Reading.line form f b q) ≡ give (record { rules = rules ++ (record { form = form; formula = f } ∷ []); place = q })
-      → r ≡ T.Next q → over_number f ≡ false → over_mark marks f ≡ false → length (nodes rules) + size f ≤ 60 → (state_of y).fault ≡ 255
+pub data Verdict (r : Answer ℕ) (marks : ℕ) (rules : Book) (form : Form) (f : Formula) (b q : ℕ) (y : List ℕ) : Type 0 where
+  down : (why : Refusal) → judge_line marks rules (Reading.line form f b q) ≡ Err why → r ≡ Err why → Verdict r marks rules form f b q y
+  fine : judge_line marks rules (Reading.line form f b q) ≡ Ok (record { rules = rules ++ (record { form = form; formula = f } ∷ []); place = q })
+      → r ≡ Ok q → over_number f ≡ false → over_mark marks f ≡ false → length (nodes rules) + size f ≤ 60 → (state_of y).fault ≡ 255
       → Verdict r marks rules form f b q y
 
 module _ (marks : ℕ) (rules : Book) (line : ℕ) (a : List ℕ) (held : HeldSoFar marks rules line a) (form : Form) (f : Formula) (b : ℕ) (y : List ℕ)
@@ -172,7 +171,7 @@ module _ (marks : ℕ) (rules : Book) (line : ℕ) (a : List ℕ) (held : HeldSo
           le-ltb 60 (state_of y).nodes.count (omega (arith, held.counted, ltb-false 60 (length (nodes rules) + length (parts f)) e)) ∙ sym e
 
   -- The line is judged alike.
-  verdict : (q : ℕ) (r : Turn) → r ≡ judged line q (state_of y) → (x1 x2 x3 x4 x5 : Bool) → over_number f ≡ x1 → over_mark marks f ≡ x2
+  verdict : (q : ℕ) (r : Answer ℕ) → r ≡ judged line q (state_of y) → (x1 x2 x3 x4 x5 : Bool) → over_number f ≡ x1 → over_mark marks f ≡ x2
       → ltb 60 (length (nodes rules) + size f) ≡ x3 → ltb 16 b ≡ x4 → timed_right f ≡ x5 → Verdict r marks rules form f b q y
   unfolding judge_line ◌if◌else◌ over_limit most_nodes most_brackets judged
   verdict q r e true x2 x3 x4 x5 e1 e2 e3 e4 e5 =
@@ -193,7 +192,7 @@ module _ (marks : ℕ) (rules : Book) (line : ℕ) (a : List ℕ) (held : HeldSo
       let fault : (state_of y).fault ≡ 255 = fault_after ∙ rw (e1, e2, e4, e5) least_none in
       fine (rw (e1, e2, e3, e4, e5)) (e ∙ rw (fault, count_after, e3)) e1 e2 (omega (arith, ltb-false 60 (length (nodes rules) + size f) e3)) fault
 
-  pub line_judged : (q : ℕ) (r : Turn) → r ≡ judged line q (state_of y) → Verdict r marks rules form f b q y
+  pub line_judged : (q : ℕ) (r : Answer ℕ) → r ≡ judged line q (state_of y) → Verdict r marks rules form f b q y
   line_judged q r e =
       verdict q r e (over_number f) (over_mark marks f) (ltb 60 (length (nodes rules) + size f)) (ltb 16 b) (timed_right f) refl refl refl refl refl
 

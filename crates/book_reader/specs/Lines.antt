@@ -3,11 +3,11 @@ use Rattle.std.specs.Prelude.{ℕ, ◌+◌, ◌-◌, ◌*◌, ◌≤◌, ◌<◌
 use Rattle.std.proofs.lemmas.List.Edits.{sets}
 use Rattle.base.specs.Choice.{pick}
 use Rattle.base.specs.Recursion.{run}
-use Rattle.base.specs.Lists.{begins}
-use Rattle.base.specs.Answers.{book_said, Answer, refuse, give}
+use Rattle.base.specs.Answers.{book_said, Answer}
+use Rattle.std.specs.Prelude.{Option, None, Some, Err, Ok}
 use Rattle.base.specs.declared.Refusal.{Refusal}
 use Rattle.base.specs.declared.Refusal.TheVariants.{Grammar, Number, Mark, Limit, Timed}
-use Rattle.base.specs.declared.BookAnswer.{BookAnswer}
+use Rattle.base.specs.Answers.{BookAnswer}
 use Rattle.logic.specs.Book.{Formula, Form, Book, nodes}
 use Rattle.reading.specs.Tokens.{skip}
 use Rattle.reading.specs.Grammar.{formula_at}
@@ -17,34 +17,25 @@ use Rattle.reading.specs.BookReading.{usual_bound, ReadSoFar, judge_line, line_a
 use Rattle.outcome.specs.ReadBook.{book_answer, read_outcome}
 use Rattle.book_nodes.specs.State.{State, state_of, usual_in, absorb, last_node}
 use Rattle.book_reader.specs.declared.Line.{Line}
-use Rattle.book_reader.specs.declared.Line.TheVariants as L
-use Rattle.book_reader.specs.declared.Turn.{Turn}
-use Rattle.book_reader.specs.declared.Turn.TheVariants as T
-
--- A word as far as it was compared.
-pub record ComparingWord (s : List ℕ) (at : ℕ) (word : List ℕ) (i p : ℕ) : Type 0 where
-  pub few : i ≤ length word
-  pub here : p ≡ at + i
-  pub same : begins word (drop at s) ≡ begins (drop i word) (drop p s)
 
 -- The answer of reading a line that should be x: nothing is said of the area where it is not of the grammar.
-pub data LineRead (r : Line) (x : Reading.Line) (a z : List ℕ) : Type 0 where
-  not_line : x ≡ Reading.no_line → r ≡ L.Bad → LineRead r x a z
-  is_line : (form : Form) (f : Formula) (b q : ℕ) → x ≡ Reading.line form f b q → r ≡ L.Read (form_code form) q
-      → state_of z ≡ absorb 16 b f (state_of a) → LineRead r x a z
+pub data LineRead (x : Reading.Line) (a z : List ℕ) : Option Line → Type 0 where
+  not_line : x ≡ Reading.no_line → LineRead x a z None
+  is_line : (form : Form) (f : Formula) (b : ℕ) (l : Line) → x ≡ Reading.line form f b l.next → l.form ≡ form_code form
+      → state_of z ≡ absorb 16 b f (state_of a) → LineRead x a z (Some l)
 
 -- The same of the rest of a line behind its word, for either form by its code.
-pub record RestRead (r : Line) (s : List ℕ) (p code : ℕ) (a z : List ℕ) : Type 0 where
-  pub reads : (form : Form) → code ≡ form_code form → LineRead r (Reading.ended s form (formula_at (usual_in a) s (skip s p))) a z
+pub record RestRead (r : Option Line) (s : List ℕ) (p code : ℕ) (a z : List ℕ) : Type 0 where
+  pub reads : (form : Form) → code ≡ form_code form → LineRead (Reading.ended s form (formula_at (usual_in a) s (skip s p))) a z r
 
 -- 7, 8, 9 and 10 by what is noted in the state, the line's number as place; or the position after it
-unfoldable pub judged : ℕ → ℕ → State → Turn
+unfoldable pub judged : ℕ → ℕ → State → Answer ℕ
 judged line next st =
-    pick (eqb st.fault 7) (λ _. T.Refused (Number line)) (λ _.
-    pick (eqb st.fault 8) (λ _. T.Refused (Mark line)) (λ _.
-    pick (ltb 60 st.nodes.count) (λ _. T.Refused (Limit line)) (λ _.
-    pick (eqb st.fault 9) (λ _. T.Refused (Limit line)) (λ _.
-    pick (eqb st.fault 10) (λ _. T.Refused (Timed line)) (λ _. T.Next next)))))
+    pick (eqb st.fault 7) (λ _. Err (Number line)) (λ _.
+    pick (eqb st.fault 8) (λ _. Err (Mark line)) (λ _.
+    pick (ltb 60 st.nodes.count) (λ _. Err (Limit line)) (λ _.
+    pick (eqb st.fault 9) (λ _. Err (Limit line)) (λ _.
+    pick (eqb st.fault 10) (λ _. Err (Timed line)) (λ _. Ok next)))))
 
 -- the state after a line of this form was put down as number i
 unfoldable pub put_line : ℕ → ℕ → State → State
@@ -82,20 +73,20 @@ pub record HeldSoFar (marks : ℕ) (rules : Book) (lines : ℕ) (a : List ℕ) :
   pub book : Keeps (state_of a).nodes.kept rules
 
 -- How reading the next line ends: with a refusal, or with the rules held and the position of the next.
-pub data Turned (r : Turn) (x : Answer ReadSoFar) (marks lines : ℕ) (z : List ℕ) : Type 0 where
-  turned_down : (why : Refusal) → x ≡ refuse why → r ≡ T.Refused why → Turned r x marks lines z
-  gone_on : (rules : Book) (q : ℕ) → x ≡ give (record { rules = rules; place = q }) → r ≡ T.Next q → HeldSoFar marks rules (lines + 1) z
-      → Turned r x marks lines z
+pub data Turned (x : Answer ReadSoFar) (marks lines : ℕ) (z : List ℕ) : Answer ℕ → Type 0 where
+  turned_down : (why : Refusal) → x ≡ Err why → Turned x marks lines z (Err why)
+  gone_on : (rules : Book) (q : ℕ) → x ≡ Ok (record { rules = rules; place = q }) → HeldSoFar marks rules (lines + 1) z
+      → Turned x marks lines z (Ok q)
 
 -- What reading one line answers and leaves, whatever rules are held.
-pub record Turns (r : Turn) (s : List ℕ) (at lines : ℕ) (a z : List ℕ) : Type 0 where
+pub record Turns (r : Answer ℕ) (s : List ℕ) (at lines : ℕ) (a z : List ℕ) : Type 0 where
   pub from : (marks : ℕ) (rules : Book) → marks ≤ 16 → at < length s → HeldSoFar marks rules lines a
-      → Turned r (judge_line marks rules (line_at usual_bound s at)) marks lines z
+      → Turned (judge_line marks rules (line_at usual_bound s at)) marks lines z r
 
 -- the lines from here on
 unfoldable pub lines_from : ℕ → List ℕ → ReadSoFar → Answer Book
 lines_from marks s here =
-    run (λ (here : ReadSoFar). length s - here.place) (λ here. refuse (Grammar (length here.rules))) (lines_step usual_bound marks s) here
+    run (λ (here : ReadSoFar). length s - here.place) (λ here. Err (Grammar (length here.rules))) (lines_step usual_bound marks s) here
 
 -- How far the reading has come between two lines.
 pub record Coming (marks : ℕ) (s : List ℕ) (at lines : ℕ) (begun a : List ℕ) : Type 0 where
@@ -107,7 +98,7 @@ pub record Coming (marks : ℕ) (s : List ℕ) (at lines : ℕ) (begun a : List 
 -- What reading a whole book answers, and that the area holds a book that was read.
 pub record Answers (r : BookAnswer) (marks : ℕ) (s : List ℕ) (z : List ℕ) : Type 0 where
   pub answer : r ≡ book_answer (read_book marks s)
-  pub area : (book : Book) → read_book marks s ≡ give book → HoldsBook z book
+  pub area : (book : Book) → read_book marks s ≡ Ok book → HoldsBook z book
 
 -- The whole outcome of the book reader.
 pub record Outcome (r : BookAnswer) (marks : ℕ) (s a z : List ℕ) : Type 0 where

@@ -1,14 +1,13 @@
 // The book reader (01, 'Rule book' and 'Why a call is turned down'): lines, limits, and the book of a text or why there is none.
 #![tactic(auto)]
 
-ghost use Rattle.std.specs.Prelude.{◌≡◌, ◌+◌, ◌≤◌, ◌<◌, length, drop, []};
-ghost use Rattle.base.specs.Lists.{begins};
+ghost use Rattle.std.specs.Prelude.{◌≡◌, ◌+◌, ◌≤◌, ◌<◌, length, []};
 ghost use Rattle.reading.specs.BookReading as Reading;
 ghost use Rattle.outcome.specs.ReadBook.{book_answer, book_under};
 ghost use Rattle.book_nodes.specs.State as State;
 ghost use Rattle.book_reader.specs.Lines as Lines;
 
-use base::{BookAnswer, Refusal};
+use base::{BookAnswer, BookSize, Refusal};
 
 // 01, 'Why a call is turned down': the most marks, bytes and nodes.
 const MOST_MARKS: usize = 16;
@@ -26,95 +25,70 @@ const NO_FAULT: u8 = 255;
 // A number left out after A, E or U.
 const USUAL_BOUND: u8 = 20;
 
-// A line that was read: 1 for `always` and 0 for `start`, and the position after its byte 10.
-#[derive(Clone, Copy)]
-pub enum Line {
-    Bad,
-    Read { form: u8, next: usize },
-}
+// The codes of a line's form (reading/specs/BookArea).
+const START: u8 = 0;
 
-// How reading the next line ends.
-#[derive(Clone, Copy)]
-pub enum Turn {
-    Next(usize),
-    Refused(Refusal),
-}
+const ALWAYS: u8 = 1;
 
-// The text goes on with this word.
-fn begins_with(s: &[u8], at: usize, word: &[u8]) -> bool
-    ensures { result ≡ begins word.now (drop at s.now) }
-{
-    let mut i = 0;
-    let mut p = at;
-    while i < word.len() {
-        if s.len() <= p {
-            return false;
-        }
-        if s[p] != word[i] {
-            return false;
-        }
-        i += 1;
-        p += 1;
-    }
-    true
+// A line that was read: the code of its form, and the position after its byte 10.
+#[derive(Clone, Copy)]
+pub struct Line {
+    pub form: u8,
+    pub next: usize,
 }
 
 // The line at a position, of one of the forms that a book may have.
-fn read_line(s: &[u8], at: usize, area: &mut [u8]) -> Line
+fn read_line(s: &[u8], at: usize, area: &mut [u8]) -> Option<Line>
     requires { (512 ≤ length area.old) × ((length s.now ≤ 4096) × (at ≤ length s.now)) }
-    ensures { Lines.LineRead result (Reading.line_at (State.usual_in area.old) s.now at) area.old area.new }
+    ensures { Lines.LineRead (Reading.line_at (State.usual_in area.old) s.now at) area.old area.new result }
 {
-    if begins_with(s, at, b"always ") {
-        return line_rest(s, at + 6, 1, area);
+    let rest = &s[at..];
+    if rest.starts_with(b"always ") {
+        return line_rest(s, at + 6, ALWAYS, area);
     }
-    if begins_with(s, at, b"start ") {
-        return line_rest(s, at + 5, 0, area);
+    if rest.starts_with(b"start ") {
+        return line_rest(s, at + 5, START, area);
     }
-    Line::Bad
+    None
 }
 
 // The formula behind the word of a line's form, and the end of the line.
-fn line_rest(s: &[u8], at: usize, form: u8, area: &mut [u8]) -> Line
+fn line_rest(s: &[u8], at: usize, form: u8, area: &mut [u8]) -> Option<Line>
     requires { 512 ≤ length area.old }
     ensures { Lines.RestRead result s.now at form area.old area.new }
 {
-    let next = book_formula::formula(s, book_tokens::skip(s, at), area);
-    if next == 0 {
-        return Line::Bad;
+    let next = book_formula::formula(s, book_tokens::skip(s, at), area)?;
+    if text_numerals::byte_at(s, next) != b'\n' {
+        return None;
     }
-    let b = text_numerals::byte_at(s, next);
-    if b != b'\n' {
-        return Line::Bad;
-    }
-    Line::Read {
+    Some(Line {
         form,
         next: next + 1,
-    }
+    })
 }
 
-// 7, 8, 9 and 10 for the line read last, its number as place; or the position after it.
-fn judge(line: usize, next: usize, area: &[u8]) -> Turn
+// What is at fault in the line read last, its number as place; or the position after it.
+fn judge(line: usize, next: usize, area: &[u8]) -> Result<usize, Refusal>
     requires { 512 ≤ length area.now }
     ensures { result ≡ Lines.judged line next (State.state_of area.now) }
 {
     let fault = area[book_nodes::FAULT];
-    let count = area[book_nodes::NODE_COUNT];
-    if fault == 7 {
-        return Turn::Refused(Refusal::Number(line));
+    if fault == book_nodes::NUMBER_FAULT {
+        return Err(Refusal::Number(line));
     }
-    if fault == 8 {
-        return Turn::Refused(Refusal::Mark(line));
+    if fault == book_nodes::MARK_FAULT {
+        return Err(Refusal::Mark(line));
     }
-    if MOST_NODES < count {
-        return Turn::Refused(Refusal::Limit(line));
+    if MOST_NODES < area[book_nodes::NODE_COUNT] {
+        return Err(Refusal::Limit(line));
     }
-    if fault == 9 {
-        return Turn::Refused(Refusal::Limit(line));
+    if fault == book_nodes::LIMIT_FAULT {
+        return Err(Refusal::Limit(line));
     }
-    if fault == 10 {
-        return Turn::Refused(Refusal::Timed(line));
+    if fault == book_nodes::TIMED_FAULT {
+        return Err(Refusal::Timed(line));
     }
-    Turn::Next(next)
+    Ok(next)
 }
 
 // Puts down a line of this form and number, whose formula is the node read last.
@@ -127,24 +101,19 @@ fn put_line(area: &mut [u8], line: usize, form: u8)
     let at = book_nodes::LINES_AT + book_nodes::LINE_SIZE * line;
     area[at] = form;
     area[at + 1] = root;
-    area[at + 2] = (line % 256) as u8;
+    area[at + 2] = line as u8;
     area[at + 3] = timed;
 }
 
-// The next line, read and judged, and put down where nothing is at fault.
-fn one_line(s: &[u8], at: usize, line: usize, area: &mut [u8]) -> Turn
+// The next line, read and judged, and put down where nothing is at fault; the position after it.
+fn one_line(s: &[u8], at: usize, line: usize, area: &mut [u8]) -> Result<usize, Refusal>
     requires { (512 ≤ length area.old) × ((length s.now ≤ 4096) × ((at ≤ length s.now) × (line ≤ 60))) }
     ensures { Lines.Turns result s.now at line area.old area.new }
 {
-    let Line::Read { form, next } = read_line(s, at, area) else {
-        return Turn::Refused(Refusal::Grammar(line));
-    };
-    let judged = judge(line, next, area);
-    let Turn::Next(after) = judged else {
-        return judged;
-    };
-    put_line(area, line, form);
-    Turn::Next(after)
+    let read = read_line(s, at, area).ok_or(Refusal::Grammar(line))?;
+    let after = judge(line, read.next, area)?;
+    put_line(area, line, read.form);
+    Ok(after)
 }
 
 // The reader's own bytes before the first line.
@@ -154,7 +123,7 @@ fn start(marks: usize, area: &mut [u8])
 {
     area[book_nodes::NODE_COUNT] = 0;
     area[book_nodes::FAULT] = NO_FAULT;
-    area[book_nodes::MARKS] = (marks % 256) as u8;
+    area[book_nodes::MARKS] = marks as u8;
     area[book_nodes::USUAL] = USUAL_BOUND;
 }
 
@@ -164,7 +133,7 @@ pub fn read_lines(marks: usize, text: &[u8], area: &mut [u8]) -> BookAnswer
     ensures { Lines.Answers result marks text.now area.new }
 {
     if MOST_BYTES < text.len() {
-        return BookAnswer::Refused(Refusal::Limit(0));
+        return Err(Refusal::Limit(0));
     }
     start(marks, area);
     all_lines(marks, text, area)
@@ -178,28 +147,14 @@ fn all_lines(marks: usize, text: &[u8], area: &mut [u8]) -> BookAnswer
     let mut lines = 0;
     let mut at = 0;
     while at < text.len() {
-        let turned = one_line(text, at, lines, area);
-        match turned {
-            Turn::Next(next) => {
-                at = next;
-                lines += 1;
-            }
-            Turn::Refused(why) => {
-                return BookAnswer::Refused(why);
-            }
-        }
+        at = one_line(text, at, lines, area)?;
+        lines += 1;
     }
-    area[book_nodes::LINE_COUNT] = (lines % 256) as u8;
-    BookAnswer::Read {
+    area[book_nodes::LINE_COUNT] = lines as u8;
+    Ok(BookSize {
         lines,
-        nodes: wide(area[book_nodes::NODE_COUNT]),
-    }
-}
-
-fn wide(n: u8) -> usize
-    ensures { result ≡ n }
-{
-    n as usize
+        nodes: usize::from(area[book_nodes::NODE_COUNT]),
+    })
 }
 
 // Reads a rule book under P marks: the numbers of its lines and nodes, or why it is turned down, in the order 15, 2, the book.
@@ -208,7 +163,7 @@ pub fn read_book(marks: usize, text: &[u8], area: &mut [u8]) -> BookAnswer
     ensures { Lines.Outcome result marks text.now area.old area.new }
 {
     if area.len() < BOOK_AREA {
-        return BookAnswer::Refused(Refusal::Area);
+        return Err(Refusal::Area);
     }
     let answer = read_under(marks, text, area);
     area_bytes::clear(area);
@@ -221,7 +176,7 @@ fn read_under(marks: usize, text: &[u8], area: &mut [u8]) -> BookAnswer
     ensures { result ≡ book_answer (book_under marks text.now) }
 {
     if MOST_MARKS < marks {
-        return BookAnswer::Refused(Refusal::Range);
+        return Err(Refusal::Range);
     }
     read_lines(marks, text, area)
 }

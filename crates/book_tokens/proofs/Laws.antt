@@ -3,16 +3,19 @@ use Prim.Native.Nat.{ℕ, zero, suc, ◌+◌, ◌≤◌, ◌<◌}
 use native.Mathlib.Omega.{arith}
 use native.Mathlib.Numerals.{add-one}
 use native.Mathlib.Nat.{add-zero}
+use native.Mathlib.Decide.{dec_lt}
 use mathlib.Core.Path.{◌≡◌, refl, sym, ◌∙◌, ap}
-use mathlib.Core.Bool.{Bool, true, false}
-use mathlib.Core.Option.{Option, none, some}
+use mathlib.Core.Bool.{Bool, true, false, ◌&&◌}
+use Rattle.std.specs.Prelude.{Option, None, Some, max}
+use Rattle.std.specs.List.{starts_with}
+use Rattle.std.specs.Option.{unwrap_or}
 use mathlib.Core.List.{List, [], ◌∷◌, map}
 use lib.ListN.{length, get_or, drop, length-drop}
 use lib.Seq.{drop-cons}
 use lib.Dec.{eqb}
 use borrow.Author.Tests.{eq-eqb, ne_eqb}
 use Rattle.base.specs.Choice.{pick}
-use Rattle.base.specs.Lists.{leading}
+use Rattle.base.specs.Lists.{leading, begins}
 use Rattle.base.specs.Bytes.{byte_at}
 use Rattle.base.proofs.Lists.{leading_le}
 use Rattle.logic.specs.Book.{no_more, less, no_less, more}
@@ -20,18 +23,15 @@ use Rattle.logic.specs.Book as Logic
 use Rattle.reading.specs.Tokens.{stands, skip, Token, numeral, number_token, with_equals, comparison_token}
 use Rattle.reading.specs.Grammar.{optional, Connective, connective, connectives, bounded, compared_with, number_or_usual, bound_at}
 use Rattle.reading.specs.BookArea.{comparison_code}
-use Rattle.book_tokens.specs.Told.{place_behind, token_told, comparison_told, bound_told, bound_code, row_told, led_told, longer_told, bound_by}
-use Rattle.book_tokens.specs.declared.Place.TheVariants.{At, Nowhere}
+use Rattle.book_tokens.specs.Told.{place_behind, token_told, comparison_told, bound_told, bound_kind, row_told, led_told, longer_told, bound_by}
 use Rattle.text_numerals.specs.Numerals.{numeral_told}
 use Rattle.text_numerals.specs.declared.Number.{Number}
-use Rattle.text_numerals.specs.declared.Number.TheVariants as N
-use Rattle.text_numerals.proofs.Laws.{byte_past, byte_inside, numeral_missing, numeral_read}
+use Rattle.text_numerals.proofs.Laws.{numeral_missing, numeral_read}
 use Rattle.book_tokens.specs.declared.Compared.{Compared}
-use Rattle.book_tokens.specs.declared.Compared.TheVariants as C
 use Rattle.book_tokens.specs.declared.Bounded.{Bounded}
-use Rattle.book_tokens.specs.declared.Bounded.TheVariants as B
+use Rattle.book_tokens.specs.declared.BoundKind.{BoundKind}
+use Rattle.book_tokens.specs.declared.BoundKind.TheVariants as Kind
 use Rattle.book_tokens.specs.declared.Row.{Row}
-use Rattle.book_tokens.specs.declared.Led.TheVariants.{Nothing, By}
 
 -- ---- spaces
 
@@ -52,41 +52,53 @@ pub skip_ahead : (s : List ℕ) (p : ℕ) → p ≤ skip s p
 unfolding skip
 skip_ahead s p = omega arith
 
+-- All bytes from the first position up to this one are spaces.
 pub skip_done : (s : List ℕ) (at next : ℕ) → skip s next ≡ skip s at → next < length s → (get_or s next 0 ≡ 32 → ⊥) → next ≡ skip s at
 skip_done s at next h lt n = sym (skip_stays s next lt n) ∙ h
 
-pub skip_all : (s : List ℕ) (at next : ℕ) → skip s next ≡ skip s at → length s ≤ next → next ≡ skip s at
-skip_all s at next h le = sym (skip_end s next le) ∙ h
+pub skip_all : (s : List ℕ) (at next r : ℕ) → skip s next ≡ skip s at → length s ≤ next → (at ≤ length s → next ≤ length s) → r ≡ max at (length s)
+    → r ≡ skip s at
+skip_all s at next r h le up e = elim (dec_lt at (length s)) [
+  | yes l ↦ let end : r ≡ next = omega (arith, l) in end ∙ sym (skip_end s next le) ∙ h
+  | no l ↦ let here : r ≡ at = omega (arith, l) in here ∙ sym (skip_end s at (omega arith))
+]
 
 pub skip_on : (s : List ℕ) (at next : ℕ) → skip s next ≡ skip s at → next < length s → get_or s next 0 ≡ 32 → skip s (next + 1) ≡ skip s at
 skip_on s at next h lt e = skip_over s next lt e ∙ h
 
 -- ---- behind a byte
 
-pub behind_end : (s : List ℕ) (p b q : ℕ) → 1 ≤ b → q ≡ skip s p → length s ≤ q → Nowhere ≡ place_behind s p b
-unfolding place_behind stands
-behind_end s p b q h e le =
-    let z = byte_past s q le in
-    let n : eqb (byte_at s q) b ≡ false = ne_eqb (byte_at s q) b (λ f. omega arith) in
-    rw (← e, n)
+module _ (s : List ℕ) (p b q c : ℕ) (there : q ≡ skip s p) (read : c ≡ byte_at s q) where
+  pub behind_other : (c ≡ b → ⊥) → None ≡ place_behind s p b
+  unfolding place_behind stands
+  behind_other n = rw (← there, ne_eqb (byte_at s q) b (λ e. n (read ∙ e)))
 
-pub behind_other : (s : List ℕ) (p b q : ℕ) → q ≡ skip s p → (get_or s q 0 ≡ b → ⊥) → Nowhere ≡ place_behind s p b
-unfolding place_behind stands
-behind_other s p b q e n = rw (← e, ne_eqb (byte_at s q) b n)
+  pub behind_there : c ≡ b → Some (q + 1) ≡ place_behind s p b
+  unfolding place_behind stands
+  behind_there e = rw (← there, eq-eqb (byte_at s q) b (sym read ∙ e))
 
-pub behind_there : (s : List ℕ) (p b q : ℕ) → q ≡ skip s p → get_or s q 0 ≡ b → At (q + 1) ≡ place_behind s p b
-unfolding place_behind stands
-behind_there s p b q e f = rw (← e, eq-eqb (byte_at s q) b f)
+-- ---- words
+
+begins_same : (word s : List ℕ) → starts_with eqb s word ≡ begins word s
+unfolding begins
+begins_same [] s = refl
+begins_same (x ∷ word) [] = refl
+begins_same (x ∷ word) (y ∷ s) = ap (λ b. eqb x y && b) (begins_same word s)
+
+-- What the library says of a slice that starts with a word.
+pub begins_started : (word s : List ℕ) (r : Bool) → r ≡ starts_with eqb s word → r ≡ begins word s
+begins_started word s r e = e ∙ begins_same word s
 
 -- ---- comparisons
 
-pub equals_long : (s : List ℕ) (p b long short : ℕ) → b ≡ byte_at s (p + 1) → b ≡ 61 → C.Read long (p + 1 + 1) ≡ longer_told s p long short
-unfolding longer_told stands
-equals_long s p b long short e f = rw (eq-eqb (byte_at s (p + 1)) 61 (sym e ∙ f))
+module _ (s : List ℕ) (p b long short : ℕ) (read : b ≡ byte_at s (p + 1)) where
+  pub equals_long : b ≡ 61 → record { code = long; next = p + 1 + 1 } ≡ longer_told s p long short
+  unfolding longer_told stands
+  equals_long f = rw (eq-eqb (byte_at s (p + 1)) 61 (sym read ∙ f))
 
-pub equals_short : (s : List ℕ) (p b long short : ℕ) → b ≡ byte_at s (p + 1) → (b ≡ 61 → ⊥) → C.Read short (p + 1) ≡ longer_told s p long short
-unfolding longer_told stands
-equals_short s p b long short e n = rw (ne_eqb (byte_at s (p + 1)) 61 (λ f. n (e ∙ f)))
+  pub equals_short : (b ≡ 61 → ⊥) → record { code = short; next = p + 1 } ≡ longer_told s p long short
+  unfolding longer_told stands
+  equals_short n = rw (ne_eqb (byte_at s (p + 1)) 61 (λ f. n (read ∙ f)))
 
 longer_same : (s : List ℕ) (p : ℕ) (long short : Logic.Comparison)
     → longer_told s p (comparison_code long) (comparison_code short) ≡ token_told (with_equals s p long short)
@@ -94,32 +106,24 @@ unfolding longer_told with_equals token_told
 longer_same s p long short = go (stands s (p + 1) 61)
   where
     go : (b : Bool)
-        → pick b (λ _. C.Read (comparison_code long) (p + 1 + 1)) (λ _. C.Read (comparison_code short) (p + 1))
+        → pick b (λ _. record { code = comparison_code long; next = p + 1 + 1 }) (λ _. record { code = comparison_code short; next = p + 1 })
         ≡ token_told (pick b (λ _. record { said = long; next = p + 2 }) (λ _. record { said = short; next = p + 1 }))
     go true = let e : p + 1 + 1 ≡ p + 2 = omega arith in rw e
     go false = refl
 
-pub comparison_below : (s : List ℕ) (p b : ℕ) (r : Compared) → b ≡ byte_at s p → b ≡ 60 → r ≡ longer_told s p 7 8
-    → r ≡ comparison_told (comparison_token s p)
-unfolding comparison_token comparison_told stands comparison_code
-comparison_below s p b r e f t = rw (eq-eqb (byte_at s p) 60 (sym e ∙ f)) (t ∙ longer_same s p no_more less)
+module _ (s : List ℕ) (p b : ℕ) (read : b ≡ byte_at s p) where
+  pub comparison_below : (r : Compared) → b ≡ 60 → r ≡ longer_told s p 7 8 → Some r ≡ comparison_told (comparison_token s p)
+  unfolding comparison_token comparison_told stands comparison_code
+  comparison_below r f t = rw (eq-eqb (byte_at s p) 60 (sym read ∙ f)) (ap Some (t ∙ longer_same s p no_more less))
 
-pub comparison_above : (s : List ℕ) (p b : ℕ) (r : Compared) → b ≡ byte_at s p → (b ≡ 60 → ⊥) → b ≡ 62 → r ≡ longer_told s p 9 10
-    → r ≡ comparison_told (comparison_token s p)
-unfolding comparison_token comparison_told stands comparison_code
-comparison_above s p b r e n f t =
-    rw (ne_eqb (byte_at s p) 60 (λ g. n (e ∙ g)), eq-eqb (byte_at s p) 62 (sym e ∙ f)) (t ∙ longer_same s p no_less more)
+  pub comparison_above : (r : Compared) → b ≡ 62 → r ≡ longer_told s p 9 10 → Some r ≡ comparison_told (comparison_token s p)
+  unfolding comparison_token comparison_told stands comparison_code
+  comparison_above r f t =
+      let e : byte_at s p ≡ 62 = sym read ∙ f in rw (e) (ap Some (t ∙ longer_same s p no_less more))
 
-pub comparison_none : (s : List ℕ) (p b : ℕ) → b ≡ byte_at s p → (b ≡ 60 → ⊥) → (b ≡ 62 → ⊥)
-    → C.Missing ≡ comparison_told (comparison_token s p)
-unfolding comparison_token comparison_told stands
-comparison_none s p b e n m = rw (ne_eqb (byte_at s p) 60 (λ g. n (e ∙ g)), ne_eqb (byte_at s p) 62 (λ g. m (e ∙ g)))
-
-pub below_inside : (s : List ℕ) (p b : ℕ) → b ≡ byte_at s p → b ≡ 60 → p < length s
-below_inside s p b e f = byte_inside s p (omega arith)
-
-pub above_inside : (s : List ℕ) (p b : ℕ) → b ≡ byte_at s p → b ≡ 62 → p < length s
-above_inside s p b e f = byte_inside s p (omega arith)
+  pub comparison_none : (b ≡ 60 → ⊥) → (b ≡ 62 → ⊥) → None ≡ comparison_told (comparison_token s p)
+  unfolding comparison_token comparison_told stands
+  comparison_none n m = rw (ne_eqb (byte_at s p) 60 (λ g. n (read ∙ g)), ne_eqb (byte_at s p) 62 (λ g. m (read ∙ g)))
 
 -- ---- the table
 
@@ -129,7 +133,7 @@ pub record ScanningBytes (b i : ℕ) : Type 0 where
   pub same : connective (drop i connectives) b ≡ connective connectives b
 
 row_found : (cs : List Connective) (i b : ℕ) (d : Row) → i < length cs → (get_or (map row_told cs) i d).letter ≡ b
-    → By (get_or (map row_told cs) i d) ≡ led_told (connective (drop i cs) b)
+    → Some (get_or (map row_told cs) i d) ≡ led_told (connective (drop i cs) b)
 unfolding connective led_told row_told
 row_found [] i b d lt e = absurd (omega arith)
 row_found (c ∷ cs) zero b d lt e = rw (eq-eqb c.letter b e)
@@ -145,19 +149,19 @@ row_passed (c ∷ cs) (suc i) b d lt n = row_passed cs i b d (omega arith) n
 -- the table, as the code has it
 abbrev pub rows : List Row
 rows =
-    record { letter = 84; parts = 0; bound = 0 } ∷ record { letter = 70; parts = 0; bound = 0 } ∷ record { letter = 112; parts = 0; bound = 0 }
-    ∷ record { letter = 38; parts = 2; bound = 0 } ∷ record { letter = 124; parts = 2; bound = 0 } ∷ record { letter = 78; parts = 1; bound = 1 }
-    ∷ record { letter = 65; parts = 1; bound = 2 } ∷ record { letter = 69; parts = 1; bound = 2 } ∷ record { letter = 85; parts = 2; bound = 2 } ∷ []
+    record { letter = 84; parts = 0; bound = Kind.NoBound } ∷ record { letter = 70; parts = 0; bound = Kind.NoBound } ∷ record { letter = 112; parts = 0; bound = Kind.NoBound }
+    ∷ record { letter = 38; parts = 2; bound = Kind.NoBound } ∷ record { letter = 124; parts = 2; bound = Kind.NoBound } ∷ record { letter = 78; parts = 1; bound = Kind.Compared }
+    ∷ record { letter = 65; parts = 1; bound = Kind.Optional } ∷ record { letter = 69; parts = 1; bound = Kind.Optional } ∷ record { letter = 85; parts = 2; bound = Kind.Optional } ∷ []
 
 rows_told : rows ≡ map row_told connectives
-unfolding connectives row_told bound_code
+unfolding connectives row_told bound_kind
 rows_told = refl
 
 nine : length connectives ≡ 9
 unfolding connectives
 nine = refl
 
-no_rows : (b : ℕ) → Nothing ≡ led_told (connective (drop 9 connectives) b)
+no_rows : (b : ℕ) → None ≡ led_told (connective (drop 9 connectives) b)
 unfolding connectives connective led_told
 no_rows b = refl
 
@@ -171,77 +175,80 @@ scanning_on b i d h lt n =
       same = rw (add-one i) (row_passed connectives i b d (omega (arith, nine)) (λ f. n (ap (λ (l : List Row). (get_or l i d).letter) rows_told ∙ f)) ∙ h.same);
     }
 
-pub connective_found : (b i : ℕ) (d : Row) → ScanningBytes b i → i < 9 → (get_or rows i d).letter ≡ b → By (get_or rows i d) ≡ led_told (connective connectives b)
+pub connective_found : (b i : ℕ) (d : Row) → ScanningBytes b i → i < 9 → (get_or rows i d).letter ≡ b → Some (get_or rows i d) ≡ led_told (connective connectives b)
 connective_found b i d h lt e =
     let f : (get_or (map row_told connectives) i d).letter ≡ b = sym (ap (λ (l : List Row). (get_or l i d).letter) rows_told) ∙ e in
-    ap (λ (l : List Row). By (get_or l i d)) rows_told ∙ row_found connectives i b d (omega (arith, nine)) f ∙ ap led_told h.same
+    ap (λ (l : List Row). Some (get_or l i d)) rows_told ∙ row_found connectives i b d (omega (arith, nine)) f ∙ ap led_told h.same
 
-pub connective_none : (b i : ℕ) → ScanningBytes b i → 9 ≤ i → Nothing ≡ led_told (connective connectives b)
+pub connective_none : (b i : ℕ) → ScanningBytes b i → 9 ≤ i → None ≡ led_told (connective connectives b)
 connective_none b i h le =
     let e : i ≡ 9 = omega arith in no_rows b ∙ ap led_told (rw e at h.same)
 
 -- ---- bounds
 
-pub optional_missing : (usual : ℕ) (s : List ℕ) (at q : ℕ) (r : Number) → q ≡ skip s at → r ≡ numeral_told (numeral 3 s q) → r ≡ N.Missing
-    → B.Read 7 usual at ≡ bound_told (bound_at usual optional s at)
-unfolding bound_at number_token number_or_usual bound_told comparison_code
-optional_missing usual s at q r e f g = rw (← e, numeral_missing (numeral 3 s q) r f g)
+optional_told : (usual at : ℕ) (o : Option (Token ℕ)) (n : Number) → n ≡ unwrap_or (numeral_told o) (record { said = usual; next = at })
+    → Some (record { code = 7; amount = n.said; next = n.next }) ≡ bound_told (number_or_usual usual at o)
+unfolding numeral_told number_or_usual bounded bound_told comparison_code
+optional_told usual at None n e = rw e
+optional_told usual at (Some t) n e = rw e
 
-pub optional_read : (usual : ℕ) (s : List ℕ) (at q v n : ℕ) (r : Number) → q ≡ skip s at → r ≡ numeral_told (numeral 3 s q) → r ≡ N.Read v n
-    → B.Read 7 v n ≡ bound_told (bound_at usual optional s at)
-unfolding bound_at number_token number_or_usual bounded bound_told comparison_code
-optional_read usual s at q v n r e f g = rw (← e, numeral_read (numeral 3 s q) r v n f g)
+-- The number of a bound, or what is left out.
+pub optional_read : (usual : ℕ) (s : List ℕ) (at q : ℕ) (r : Option Number) (n : Number) → q ≡ skip s at → r ≡ numeral_told (numeral 3 s q)
+    → n ≡ unwrap_or r (record { said = usual; next = at })
+    → Some (record { code = 7; amount = n.said; next = n.next }) ≡ bound_told (bound_at usual optional s at)
+unfolding bound_at number_token
+optional_read usual s at q r n here read so =
+    rw (← here) (optional_told usual at (numeral 3 s q) n (so ∙ ap (λ r. unwrap_or r (record { said = usual; next = at })) read))
 
-comparison_missing : (o : Option (Token Logic.Comparison)) (r : Compared) → r ≡ comparison_told o → r ≡ C.Missing → o ≡ none
-unfolding comparison_told token_told
-comparison_missing none r e f = refl
-comparison_missing (some t) r e f = let z : ◌≡◌ {A = ℕ} 0 1 = cc in absurd (omega arith)
+abbrev bounded_of : Compared → Number → Bounded
+bounded_of c n = record { code = c.code; amount = n.said; next = n.next }
 
-pub compared_missing : (s : List ℕ) (at q : ℕ) (r : Compared) → q ≡ skip s at → r ≡ comparison_told (comparison_token s q) → r ≡ C.Missing
-    → B.Missing ≡ bound_told (compared_with s (comparison_token s (skip s at)))
-unfolding compared_with bound_told
-compared_missing s at q r e f g = rw (← e, comparison_missing (comparison_token s q) r f g)
+comparison_missing : (o : Option (Token Logic.Comparison)) → None ≡ comparison_told o → o ≡ None
+unfolding comparison_told
+comparison_missing None e = refl
+comparison_missing (Some t) e = cc
 
-compared_behind : (s : List ℕ) (at q code next : ℕ) (r : Compared) (o : Option (Token Logic.Comparison)) → q ≡ skip s at → comparison_token s q ≡ o
-    → r ≡ comparison_told o → r ≡ C.Read code next
-    → (c : Logic.Comparison) × (comparison_code c ≡ code) × (compared_with s (comparison_token s (skip s at)) ≡ bounded c (number_token s (skip s next)))
-unfolding compared_with comparison_told token_told
-compared_behind s at q code next r none e k f g = let z : ◌≡◌ {A = ℕ} 0 1 = cc in absurd (omega arith)
-compared_behind s at q code next r (some t) e k f g =
-    let a : t.next ≡ next = cc in
-    (t.said, (cc), rw (← e, k, a))
+comparison_read : (o : Option (Token Logic.Comparison)) (c : Compared) → Some c ≡ comparison_told o
+    → (t : Token Logic.Comparison) × (o ≡ Some t) × (c ≡ token_told t)
+unfolding comparison_told
+comparison_read None c e = cc
+comparison_read (Some t) c e = (t, refl, (cc))
 
-pub compared_short : (s : List ℕ) (at q code next u : ℕ) (r : Compared) (n : Number) → q ≡ skip s at
-    → r ≡ comparison_told (comparison_token s q) → r ≡ C.Read code next → u ≡ skip s next → n ≡ numeral_told (numeral 3 s u) → n ≡ N.Missing
-    → B.Missing ≡ bound_told (compared_with s (comparison_token s (skip s at)))
-unfolding bounded bound_told number_token
-compared_short s at q code next u r n e f g h k l =
-    let found = compared_behind s at q code next r (comparison_token s q) e refl f g in
-    sym (ap bound_told found.2 ∙ go found.0)
-  where
-    go : (c : Logic.Comparison) → bound_told (bounded c (numeral 3 s (skip s next))) ≡ B.Missing
-    go c = rw (← h, numeral_missing (numeral 3 s u) n k l)
+-- A bound by its kind.
+pub bound_none : (usual : ℕ) (kind : BoundKind) (s : List ℕ) (at : ℕ) → kind ≡ Kind.NoBound → None ≡ bound_by usual kind s at
+unfolding bound_by
+bound_none usual kind s at e = rw e
 
-pub compared_read : (s : List ℕ) (at q code next u v w : ℕ) (r : Compared) (n : Number) → q ≡ skip s at
-    → r ≡ comparison_told (comparison_token s q) → r ≡ C.Read code next → u ≡ skip s next → n ≡ numeral_told (numeral 3 s u) → n ≡ N.Read v w
-    → B.Read code v w ≡ bound_told (compared_with s (comparison_token s (skip s at)))
-unfolding bounded bound_told number_token
-compared_read s at q code next u v w r n e f g h k l =
-    let found = compared_behind s at q code next r (comparison_token s q) e refl f g in
-    sym (ap bound_told found.2 ∙ go found.0 found.1)
-  where
-    go : (c : Logic.Comparison) → comparison_code c ≡ code → bound_told (bounded c (numeral 3 s (skip s next))) ≡ B.Read code v w
-    go c d = rw (← h, numeral_read (numeral 3 s u) n v w k l, d)
-
-pub bound_first : (usual kind : ℕ) (s : List ℕ) (at : ℕ) (r : Bounded) → kind ≡ 1 → r ≡ bound_told (compared_with s (comparison_token s (skip s at))) → r ≡ bound_by usual kind s at
+pub bound_compared : (usual : ℕ) (kind : BoundKind) (s : List ℕ) (at : ℕ) (r : Option Bounded) → kind ≡ Kind.Compared
+    → r ≡ bound_told (compared_with s (comparison_token s (skip s at))) → r ≡ bound_by usual kind s at
 unfolding bound_by bound_at
-bound_first usual kind s at r e f = rw e f
+bound_compared usual kind s at r e f = rw e f
 
-pub bound_second : (usual kind : ℕ) (s : List ℕ) (at : ℕ) (r : Bounded) → (kind ≡ 1 → ⊥) → kind ≡ 2 → r ≡ bound_told (bound_at usual optional s at)
-    → r ≡ bound_by usual kind s at
+pub bound_optional : (usual : ℕ) (kind : BoundKind) (s : List ℕ) (at : ℕ) (r : Bounded) → kind ≡ Kind.Optional
+    → Some r ≡ bound_told (bound_at usual optional s at) → Some r ≡ bound_by usual kind s at
 unfolding bound_by
-bound_second usual kind s at r n e f = rw e f
+bound_optional usual kind s at r e f = rw e f
 
-pub bound_neither : (usual kind : ℕ) (s : List ℕ) (at : ℕ) → (kind ≡ 1 → ⊥) → (kind ≡ 2 → ⊥) → B.Missing ≡ bound_by usual kind s at
-unfolding bound_by
-bound_neither usual kind s at n m = rw (ne_eqb kind 1 n, ne_eqb kind 2 m)
+module _ (s : List ℕ) (at q : ℕ) (here : q ≡ skip s at) where
+  pub compared_missing : (r : Option Bounded) → r ≡ None → None ≡ comparison_told (comparison_token s q)
+      → r ≡ bound_told (compared_with s (comparison_token s (skip s at)))
+  unfolding compared_with bound_told
+  compared_missing r e missing = rw (← here, comparison_missing (comparison_token s q) missing) e
+
+  module _ (c : Compared) (read : Some c ≡ comparison_told (comparison_token s q)) (u : ℕ) (behind : u ≡ skip s c.next) where
+    pub compared_short : (r : Option Bounded) → r ≡ None → None ≡ numeral_told (numeral 3 s u)
+        → r ≡ bound_told (compared_with s (comparison_token s (skip s at)))
+    unfolding compared_with bounded bound_told number_token token_told
+    compared_short r e missing =
+        let (t, one, same) = comparison_read (comparison_token s q) c read in
+        let further : u ≡ skip s t.next = behind ∙ ap (λ c. skip s c.next) same in
+        rw (← here, one, ← further, numeral_missing (numeral 3 s u) missing) e
+
+    pub compared_read : (n : Number) → Some n ≡ numeral_told (numeral 3 s u)
+        → Some (bounded_of c n) ≡ bound_told (compared_with s (comparison_token s (skip s at)))
+    unfolding compared_with bounded bound_told number_token token_told
+    compared_read n number =
+        let (t, one, same) = comparison_read (comparison_token s q) c read in
+        let further : u ≡ skip s t.next = behind ∙ ap (λ c. skip s c.next) same in
+        rw (← here, one, ← further, numeral_read (numeral 3 s u) n number)
+        (ap (λ (c : Compared). Some (bounded_of c n)) same)

@@ -7,7 +7,7 @@ use native.Mathlib.Omega.{arith}
 use lib.ListN.{length}
 use borrow.Author.Tests.{le-leb}
 use Rattle.base.specs.Bytes.{long_enough}
-use Rattle.base.specs.declared.Verdict.{Verdict}
+use Rattle.base.specs.Answers.{Verdict}
 use Rattle.outcome.specs.Areas.{check_areas, book_area, pairs_area, index_area, graph_area, sets_area, room_area}
 use Rattle.outcome.specs.Check.{checked_file, verdict, check_outcome}
 use Rattle.checker.specs.Checking.{Checks}

@@ -7,13 +7,14 @@ use lib.ListN.{length}
 use Rattle.base.specs.Bytes.{long_enough, cleared}
 use Rattle.base.specs.Answers.{verdict_said}
 use Rattle.base.specs.declared.Refusal.TheVariants.{Area}
-use Rattle.base.specs.declared.Verdict.{Verdict}
-use Rattle.base.specs.declared.Verdict.TheVariants as Check
+use Rattle.base.specs.Answers.{Verdict}
+use Rattle.std.specs.Prelude.{Err}
+use Rattle.base.specs.declared.Rejection.TheVariants as Rejected
 use Rattle.outcome.specs.Areas.{check_areas}
 use Rattle.outcome.specs.Check.{verdict, check_outcome}
 use Rattle.search_areas.specs.Lent.{LentCleared}
 use Rattle.checker_runs.specs.Examining.{verdict_of, Examines}
-use Rattle.checker_runs.specs.declared.Examined.{Examined}
+use Rattle.checker_runs.specs.Examining.{Examined}
 use Rattle.checker.specs.Checking.{Checks}
 
 -- ---- answer
@@ -28,7 +29,7 @@ module _ (tower text table nodes pairs index graph sets room : List ℕ) (b : Bo
     (is_b : b ≡ long_enough check_areas (nodes ∷ pairs ∷ index ∷ graph ∷ sets ∷ room ∷ [])) where
   -- 15 changes nothing.
   pub too_short : b ≡ false
-      → Checks (Check.Refused Area) tower text table nodes pairs index graph sets room nodes pairs index graph sets room
+      → Checks (Err (Rejected.Refused Area)) tower text table nodes pairs index graph sets room nodes pairs index graph sets room
   unfolding check_outcome verdict
   too_short e =
       let short = sym is_b ∙ e in

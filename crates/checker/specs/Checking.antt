@@ -1,7 +1,7 @@
 -- What the checker promises.
 use Rattle.std.specs.Prelude.{ℕ, ◌≡◌, List, [], ◌∷◌}
 use Rattle.base.specs.Answers.{verdict_said}
-use Rattle.base.specs.declared.Verdict.{Verdict}
+use Rattle.base.specs.Answers.{Verdict}
 use Rattle.outcome.specs.Check.{check_outcome}
 
 -- The whole outcome: the answer, and what the six areas hold at the end.

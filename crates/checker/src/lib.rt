@@ -7,18 +7,16 @@ ghost use Rattle.std.specs.Prelude.{◌≡◌};
 ghost use Rattle.checker_runs.specs.Examining.{verdict_of};
 ghost use Rattle.checker.specs.Checking.{Checks};
 
-use base::{Reason, Refusal, Verdict};
+use base::{Reason, Refusal, Rejection, Verdict};
 use checker_runs::Examined;
 
 // The answer by what is found of the three files.
 fn answer(found: Examined) -> Verdict
     ensures { result ≡ verdict_of found }
 {
-    match found {
-        Examined::Good => Verdict::Good,
-        Examined::NotGood(reason) => Verdict::NotGood(reason),
-        Examined::Refused(why) => Verdict::Refused(why),
-        Examined::Broken { .. } => Verdict::NotGood(Reason::Broken),
+    match found? {
+        None => Ok(()),
+        Some(_) => Err(Rejection::NotGood(Reason::Broken)),
     }
 }
 
@@ -38,7 +36,7 @@ pub fn check(
     ensures { Checks result tower.now text.now table.now nodes.old pairs.old index.old graph.old sets.old room.old nodes.new pairs.new index.new graph.new sets.new room.new }
 {
     if !search_areas::long_enough(nodes, pairs, index, graph, sets, room) {
-        return Verdict::Refused(Refusal::Area);
+        return Err(Rejection::Refused(Refusal::Area));
     }
     let found = checker_runs::examine(tower, text, table, nodes, pairs, index, graph, sets, room);
     search_areas::clear(nodes, pairs, index, graph, sets, room);

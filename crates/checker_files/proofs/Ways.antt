@@ -4,7 +4,8 @@ use native.Mathlib.Omega.{arith}
 use mathlib.Core.Path.{◌≡◌, sym, ◌∙◌}
 use mathlib.Core.Bool.{Bool, true, false}
 use mathlib.Core.List.{List}
-use Rattle.base.specs.Answers.{give, ◌then◌}
+use Rattle.base.specs.Answers.{◌then◌}
+use Rattle.std.specs.Prelude.{Ok}
 use Rattle.base.specs.declared.Reason.{Reason}
 use Rattle.base.specs.declared.Refusal.{Refusal}
 use Rattle.base.specs.declared.Refusal.TheVariants.{Layout}
@@ -14,18 +15,15 @@ use Rattle.reading.specs.TableReading.{table_of}
 use Rattle.reading.proofs.FitInput.{laid_out_read}
 use Rattle.outcome.specs.Check.{good_table}
 use Rattle.file_tower.specs.TowerRead.{tower_read}
-use Rattle.file_tower.specs.declared.TowerRead.{TowerRead}
-use Rattle.file_tower.specs.declared.TowerRead.TheVariants as Fits
+use Rattle.std.specs.Prelude.{Result, Err}
+use Rattle.base.specs.Answers.{Answer, Verdict}
+use Rattle.base.specs.declared.Rejection.TheVariants as Rejected
 use Rattle.file_tower.proofs.Laws.{fit_of, fit_gives, refused_of}
 use Rattle.file_table.specs.Layout.{laid_out_for}
 use Rattle.file_table.proofs.Laws.{laid_for_parts, not_laid_for_read}
 use Rattle.checker_rows.specs.RowVerdict.{RowsJudgeable, rows_verdict, answer_after}
-use Rattle.checker_rows.specs.declared.RowVerdict.{RowVerdict}
-use Rattle.checker_rows.specs.declared.RowVerdict.TheVariants.{Right, Wrong}
 use Rattle.checker_rows.proofs.Laws.{rows_after}
 use Rattle.checker_files.specs.Testing.{tested_table, tested_files, tested, TableTested, FilesTested}
-use Rattle.checker_files.specs.declared.Tested.{Tested}
-use Rattle.checker_files.specs.declared.Tested.TheVariants.{Sound, NotGood, Refused}
 
 -- ---- for_tower
 
@@ -38,7 +36,7 @@ for_counts tower table s a b is-s is_a e = rw (← is-s, ← is_a) e
 
 module _ (tower table : List ℕ) (b : Bool) (is_b : b ≡ laid_out_for table (tower_of tower).states (tower_of tower).actions) where
   -- 13.
-  pub not_for_tower : b ≡ false → TableTested (Refused Layout) tower table
+  pub not_for_tower : b ≡ false → TableTested (Err (Rejected.Refused Layout)) tower table
   unfolding tested_table tested ◌then◌
   not_for_tower e =
       record {
@@ -53,40 +51,40 @@ module _ (tower table : List ℕ) (b : Bool) (is_b : b ≡ laid_out_for table (t
       record { fit = fit; layout = layout; states = states; actions = actions }
 
 -- What the rows say is what the tests say.
-rows_say : (tower table : List ℕ) (v : RowVerdict) → RowsJudgeable tower table → v ≡ rows_verdict (tower_of tower) (table_of table)
-    → tested_table (tower_of tower) table ≡ answer_after v (give good_table)
+rows_say : (tower table : List ℕ) (v : Result (Unit {0}) Reason) → RowsJudgeable tower table → v ≡ rows_verdict (tower_of tower) (table_of table)
+    → tested_table (tower_of tower) table ≡ answer_after v (Ok good_table)
 unfolding tested_table ◌then◌
 rows_say tower table v ok is-v =
-    rw (laid_out_read (tower_of tower) table ok.layout ok.states ok.actions, is-v) (rows_after (tower_of tower) (table_of table) (give good_table))
+    rw (laid_out_read (tower_of tower) table ok.layout ok.states ok.actions, is-v) (rows_after (tower_of tower) (table_of table) (Ok good_table))
 
 module _ (tower table : List ℕ) (b : Bool) (fit : FitTower tower)
-    (is_b : b ≡ laid_out_for table (tower_of tower).states (tower_of tower).actions) (yes_b : b ≡ true) (v : RowVerdict)
+    (is_b : b ≡ laid_out_for table (tower_of tower).states (tower_of tower).actions) (yes_b : b ≡ true) (v : Result (Unit {0}) Reason)
     (is-v : v ≡ rows_verdict (tower_of tower) (table_of table)) where
   abbrev ok : RowsJudgeable tower table
   ok = judgeable tower table b is_b fit yes_b
 
-  pub rows_right : v ≡ Right → TableTested Sound tower table
+  pub rows_right : v ≡ Ok tt → TableTested (Ok tt) tower table
   unfolding tested answer_after
   rows_right e = record { answer = sym (rw (rows_say tower table v ok is-v, e)); judged = λ _. ok }
 
-  pub rows_wrong : (reason : Reason) → v ≡ Wrong reason → TableTested (NotGood reason) tower table
+  pub rows_wrong : (reason : Reason) → v ≡ Err reason → TableTested (Err (Rejected.NotGood reason)) tower table
   unfolding tested answer_after
   rows_wrong reason e = record { answer = sym (rw (rows_say tower table v ok is-v, e)); judged = λ _. ok }
 
 -- ---- test_files
 
-module _ (tower table : List ℕ) (t : TowerRead) (is_t : t ≡ tower_read (read_tower tower)) where
+module _ (tower table : List ℕ) (t : Answer (Unit {0})) (is_t : t ≡ tower_read (read_tower tower)) where
   -- Refused with the tower's refusal.
-  pub tower_refused : (why : Refusal) → t ≡ Fits.Refused why → FilesTested (Refused why) tower table
+  pub tower_refused : (why : Refusal) → t ≡ Err why → FilesTested (Err (Rejected.Refused why)) tower table
   unfolding tested_files ◌then◌ tested
   tower_refused why e =
       record { answer = sym (rw (refused_of tower t why is_t e)); judged = λ f. let z : ◌≡◌ {A = ℕ} 0 1 = cc in absurd (omega arith) }
 
   -- The tower is fit.
-  pub tower_fit : t ≡ Fits.Fit → FitTower tower
+  pub tower_fit : t ≡ Ok tt → FitTower tower
   tower_fit e = fit_of tower t is_t e
 
   -- The table decides.
-  pub tower_good : (r : Tested) → t ≡ Fits.Fit → TableTested r tower table → FilesTested r tower table
+  pub tower_good : (r : Verdict) → t ≡ Ok tt → TableTested r tower table → FilesTested r tower table
   unfolding tested_files ◌then◌
   tower_good r e f = record { answer = f.answer ∙ sym (rw (fit_gives tower t is_t e)); judged = f.judged }

@@ -7,18 +7,7 @@ ghost use Rattle.logic.specs.Tower.{FitTower, tower_of};
 ghost use Rattle.file_table.specs.Layout.{laid_out_for};
 ghost use Rattle.checker_files.specs.Testing.{TableTested, FilesTested};
 
-use base::{Reason, Refusal};
-use checker_rows::RowVerdict;
-use file_tower::TowerRead;
-
-// What the tests come to.
-#[derive(Clone, Copy)]
-pub enum Tested {
-    Sound,
-    // 14: the table is not good, for a reason from a to d.
-    NotGood(Reason),
-    Refused(Refusal),
-}
+use base::{Refusal, Rejection};
 
 // The table is laid out as a table file, and its S and A are the tower's.
 fn for_tower(tower: &[u8], table: &[u8]) -> bool
@@ -31,26 +20,21 @@ fn for_tower(tower: &[u8], table: &[u8]) -> bool
 }
 
 // The table, where the tower is read: 13, 14 a to d.
-pub fn test_table(tower: &[u8], table: &[u8]) -> Tested
+pub fn test_table(tower: &[u8], table: &[u8]) -> Result<(), Rejection>
     requires { FitTower tower.now }
     ensures { TableTested result tower.now table.now }
 {
     if !for_tower(tower, table) {
-        return Tested::Refused(Refusal::Layout);
+        return Err(Rejection::Refused(Refusal::Layout));
     }
-    match checker_rows::judge_rows(tower, table) {
-        RowVerdict::Right => Tested::Sound,
-        RowVerdict::Wrong(reason) => Tested::NotGood(reason),
-    }
+    checker_rows::judge_rows(tower, table)?;
+    Ok(())
 }
 
 // The two files: the tower, 13, 14 a to d.
-pub fn test_files(tower: &[u8], table: &[u8]) -> Tested
+pub fn test_files(tower: &[u8], table: &[u8]) -> Result<(), Rejection>
     ensures { FilesTested result tower.now table.now }
 {
-    let read = file_tower::read_tower(tower);
-    if let TowerRead::Refused(why) = read {
-        return Tested::Refused(why);
-    }
+    file_tower::read_tower(tower)?;
     test_table(tower, table)
 }

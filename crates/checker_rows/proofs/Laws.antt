@@ -12,11 +12,11 @@ use Rattle.logic.specs.Tower.{Tower}
 use Rattle.logic.specs.Tables.{Table}
 use Rattle.outcome.specs.Check.{Finding, ◌found_if◌else◌, wrong_start, stopped, judge_row, judge_rows, rows_judged}
 use Rattle.checker_rows.specs.RowVerdict.{some_withheld, some_wrong_step, row_verdict, rows_from, rows_verdict, answer_after}
-use Rattle.checker_rows.specs.declared.RowVerdict.{RowVerdict}
-use Rattle.checker_rows.specs.declared.RowVerdict.TheVariants.{Wrong}
+use Rattle.std.specs.Prelude.{Result, Err}
+use Rattle.base.specs.declared.Reason.{Reason}
 
 -- One row.
-pub judge_row_after : (tower : Tower) (table : Table) (r : ℕ) (v : RowVerdict) (after : Answer Finding)
+pub judge_row_after : (tower : Tower) (table : Table) (r : ℕ) (v : Result (Unit {0}) Reason) (after : Answer Finding)
     → judge_row tower table r (answer_after v after) ≡ answer_after (row_verdict tower table r v) after
 unfolding judge_row row_verdict some_withheld some_wrong_step ◌found_if◌else◌ answer_after
 judge_row_after tower table r v after =
@@ -25,7 +25,7 @@ judge_row_after tower table r v after =
     go : (b c d : Bool)
         → (Withheld r found_if b else WrongStep r found_if c else Stopped r found_if d else answer_after v after)
         ≡ answer_after
-        (pick b (λ _. Wrong (Withheld r)) (λ _. pick c (λ _. Wrong (WrongStep r)) (λ _. pick d (λ _. Wrong (Stopped r)) (λ _. v)))) after
+        (pick b (λ _. Err (Withheld r)) (λ _. pick c (λ _. Err (WrongStep r)) (λ _. pick d (λ _. Err (Stopped r)) (λ _. v)))) after
     go true c d = refl
     go false true d = refl
     go false false true = refl
@@ -46,6 +46,6 @@ rows_after tower table after = go (wrong_start tower table)
   where
     go : (b : Bool)
         → (Start found_if b else judge_rows tower table (below (length table)) after)
-        ≡ answer_after (pick b (λ _. Wrong Start) (λ _. rows_from tower table (below (length table)))) after
+        ≡ answer_after (pick b (λ _. Err Start) (λ _. rows_from tower table (below (length table)))) after
     go true = refl
     go false = judge_rows_after tower table (below (length table)) after

@@ -3,7 +3,7 @@ use Prim.Native.Nat.{ℕ, ◌+◌, ◌-◌, ◌^◌, ◌≤◌, ◌<◌}
 use native.Mathlib.Omega.{arith}
 use mathlib.Core.Path.{◌≡◌, refl, sym, ◌∙◌, ap}
 use mathlib.Core.Bool.{Bool, true, false, not, and-false}
-use mathlib.Core.Option.{Option, none, some}
+use Rattle.std.specs.Prelude.{Option, None, Some}
 use mathlib.Core.List.{List, [], ◌∷◌, map}
 use lib.ListN.{length}
 use lib.Dec.{eqb}
@@ -19,17 +19,10 @@ use Rattle.logic.specs.TableFile.{step_size}
 use Rattle.reading.specs.TableReading.{rows_of, steps_of, row_state, row_count, row_first, step_place, step_action, step_target, header_right, step_of, row_of_table, table_of}
 use Rattle.reading.proofs.LaidOut.{row_of_table_at, length_table_of}
 use Rattle.outcome.specs.Check.{wrong_start, withheld, wrong_step, stopped}
-use Rattle.file_tower.specs.TowerRead.{target_read}
-use Rattle.file_tower.specs.declared.Reached.{Reached}
-use Rattle.file_tower.specs.declared.Reached.TheVariants.{State, NotEnabled}
+use Rattle.std.specs.Prelude.{Result, Ok, Err}
 use Rattle.file_tower.proofs.Laws.{state_reached, none_reached}
-use Rattle.file_table.specs.Moves as Moves
-use Rattle.file_table.specs.declared.Target.{Target}
-use Rattle.file_table.specs.declared.Target.TheVariants.{Row, Nothing}
 use Rattle.file_table.proofs.Laws.{header_of, laid_out_known, target_row, target_nothing}
 use Rattle.checker_rows.specs.RowVerdict.{RowsJudgeable, some_withheld, some_wrong_step, row_verdict, rows_from, rows_verdict}
-use Rattle.checker_rows.specs.declared.RowVerdict.{RowVerdict}
-use Rattle.checker_rows.specs.declared.RowVerdict.TheVariants.{Right, Wrong}
 use Rattle.area_bytes.proofs.Scans.{Left, left_cons, left_more, left_none, every_fails, every_more}
 
 -- ---- what the callees want
@@ -109,42 +102,42 @@ module _ (tower table : List ℕ) (r a k : ℕ) (b : Bool) (of_kind : k ≡ (tow
       let h : controllable ((tower_of tower).kind a) ≡ true = cc in
       rw (h, and-false)
 
-  module _ (x : ℕ) (v : Reached) (not_ours : b ≡ false) (l : r < rows_of table) (at_x : x ≡ row_state table r)
-      (is-v : v ≡ target_read ((tower_of tower).target x a)) where
+  module _ (x : ℕ) (v : Option ℕ) (not_ours : b ≡ false) (l : r < rows_of table) (at_x : x ≡ row_state table r)
+      (is-v : v ≡ ((tower_of tower).target x a)) where
     abbrev there : Option ℕ
     there = (tower_of tower).target (row_at (table_of table) r).state a
 
-    is_there_read : v ≡ target_read there
-    is_there_read = is-v ∙ ap (λ z. target_read ((tower_of tower).target z a)) (at_x ∙ sym (row_state_at table r l))
+    is_there_read : v ≡ there
+    is_there_read = is-v ∙ ap (λ z. ((tower_of tower).target z a)) (at_x ∙ sym (row_state_at table r l))
 
     -- It is not enabled.
-    pub withheld_not_enabled : v ≡ NotEnabled → false ≡ withheld (tower_of tower) (table_of table) r a
+    pub withheld_not_enabled : v ≡ None → false ≡ withheld (tower_of tower) (table_of table) r a
     unfolding withheld is_there
     withheld_not_enabled f =
-        let h : (tower_of tower).target (row_at (table_of table) r).state a ≡ none = none_reached there v is_there_read f in
+        let h : (tower_of tower).target (row_at (table_of table) r).state a ≡ None = none_reached there v is_there_read f in
         rw h
 
     -- It is enabled: the step decides.
-    withheld_enabled : (y : ℕ) → v ≡ State y → withheld (tower_of tower) (table_of table) r a ≡ not (is_there (move (table_of table) r a))
+    withheld_enabled : (y : ℕ) → v ≡ Some y → withheld (tower_of tower) (table_of table) r a ≡ not (is_there (move (table_of table) r a))
     unfolding withheld is_there
     withheld_enabled y f =
-        let h : (tower_of tower).target (row_at (table_of table) r).state a ≡ some y = state_reached there v y is_there_read f in
+        let h : (tower_of tower).target (row_at (table_of table) r).state a ≡ Some y = state_reached there v y is_there_read f in
         let k : controllable ((tower_of tower).kind a) ≡ false = cc in
         rw (h, k)
 
-    module _ (t : Target) (is_t : t ≡ Moves.target_read (move (table_of table) r a)) where
+    module _ (t : Option ℕ) (is_t : t ≡ (move (table_of table) r a)) where
       -- It has no step.
-      pub withheld_no_step : (y : ℕ) → v ≡ State y → t ≡ Nothing → true ≡ withheld (tower_of tower) (table_of table) r a
+      pub withheld_no_step : (y : ℕ) → v ≡ Some y → t ≡ None → true ≡ withheld (tower_of tower) (table_of table) r a
       unfolding is_there
       withheld_no_step y f g =
-          let h : move (table_of table) r a ≡ none = target_nothing (move (table_of table) r a) t is_t g in
+          let h : move (table_of table) r a ≡ None = target_nothing (move (table_of table) r a) t is_t g in
           sym (withheld_enabled y f ∙ rw h)
 
       -- It has one.
-      pub withheld_allowed : (y s : ℕ) → v ≡ State y → t ≡ Row s → false ≡ withheld (tower_of tower) (table_of table) r a
+      pub withheld_allowed : (y s : ℕ) → v ≡ Some y → t ≡ Some s → false ≡ withheld (tower_of tower) (table_of table) r a
       unfolding is_there
       withheld_allowed y s f g =
-          let h : move (table_of table) r a ≡ some s = target_row (move (table_of table) r a) t s is_t g in
+          let h : move (table_of table) r a ≡ Some s = target_row (move (table_of table) r a) t s is_t g in
           sym (withheld_enabled y f ∙ rw h)
 
 -- The loop looks for such an action.
@@ -155,30 +148,30 @@ scan_withheld tower table r n e = rw e
 
 -- ---- c
 
-module _ (tower table : List ℕ) (r i x a : ℕ) (v : Reached) (l : r < rows_of table) (at_x : x ≡ row_state table r)
-    (at_a : a ≡ step_action table i) (is-v : v ≡ target_read ((tower_of tower).target x a)) where
+module _ (tower table : List ℕ) (r i x a : ℕ) (v : Option ℕ) (l : r < rows_of table) (at_x : x ≡ row_state table r)
+    (at_a : a ≡ step_action table i) (is-v : v ≡ ((tower_of tower).target x a)) where
   abbrev reached : Option ℕ
   reached = (tower_of tower).target (row_at (table_of table) r).state (step_action table i)
 
-  is_reached : v ≡ target_read reached
+  is_reached : v ≡ reached
   is_reached =
       is-v
-      ∙ ap (λ z. target_read ((tower_of tower).target x z)) at_a
-      ∙ ap (λ z. target_read ((tower_of tower).target z (step_action table i))) (at_x ∙ sym (row_state_at table r l))
+      ∙ ap (λ z. ((tower_of tower).target x z)) at_a
+      ∙ ap (λ z. ((tower_of tower).target z (step_action table i))) (at_x ∙ sym (row_state_at table r l))
 
   -- The action is not enabled.
-  pub step_not_enabled : v ≡ NotEnabled → true ≡ wrong_step (tower_of tower) (table_of table) r (step_of table i)
+  pub step_not_enabled : v ≡ None → true ≡ wrong_step (tower_of tower) (table_of table) r (step_of table i)
   unfolding wrong_step step_of there_with
   step_not_enabled f =
-      let h : (tower_of tower).target (row_at (table_of table) r).state (step_action table i) ≡ none = none_reached reached v is_reached f in
+      let h : (tower_of tower).target (row_at (table_of table) r).state (step_action table i) ≡ None = none_reached reached v is_reached f in
       rw h
 
   -- It is: the state of the target row decides.
-  pub step_enabled : (y t z : ℕ) → v ≡ State y → t ≡ step_target table i → t < rows_of table → z ≡ row_state table t
+  pub step_enabled : (y t z : ℕ) → v ≡ Some y → t ≡ step_target table i → t < rows_of table → z ≡ row_state table t
       → not (eqb z y) ≡ wrong_step (tower_of tower) (table_of table) r (step_of table i)
   unfolding wrong_step step_of there_with
   step_enabled y t z f at_t k at-z =
-      let h : (tower_of tower).target (row_at (table_of table) r).state (step_action table i) ≡ some y = state_reached reached v y is_reached f in
+      let h : (tower_of tower).target (row_at (table_of table) r).state (step_action table i) ≡ Some y = state_reached reached v y is_reached f in
       rw (h, ← at_t, row_state_at table t k, at-z)
 
 -- a test of steps, by their numbers
@@ -230,55 +223,55 @@ module _ (tower table : List ℕ) (first count end i a k : ℕ) (b : Bool) (left
 -- ---- one row
 
 module _ (tower : Tower) (table : Table) (r : ℕ) (b : Bool) (is_b : b ≡ some_withheld tower table r) where
-  pub row_withheld : b ≡ true → Wrong (Withheld r) ≡ row_verdict tower table r Right
+  pub row_withheld : b ≡ true → Err (Withheld r) ≡ row_verdict tower table r (Ok tt)
   unfolding row_verdict
   row_withheld f = rw (← is_b, f)
 
   module _ (c : Bool) (no_b : b ≡ false) (is_c : c ≡ some_wrong_step tower table r) where
-    pub row_wrong_step : c ≡ true → Wrong (WrongStep r) ≡ row_verdict tower table r Right
+    pub row_wrong_step : c ≡ true → Err (WrongStep r) ≡ row_verdict tower table r (Ok tt)
     unfolding row_verdict
     row_wrong_step f = rw (← is_b, no_b, ← is_c, f)
 
     module _ (d : Bool) (no_c : c ≡ false) (is_d : d ≡ stopped tower table r) where
-      pub row_stopped : d ≡ true → Wrong (Stopped r) ≡ row_verdict tower table r Right
+      pub row_stopped : d ≡ true → Err (Stopped r) ≡ row_verdict tower table r (Ok tt)
       unfolding row_verdict
       row_stopped f = rw (← is_b, no_b, ← is_c, no_c, ← is_d, f)
 
-      pub row_right : d ≡ false → Right ≡ row_verdict tower table r Right
+      pub row_right : d ≡ false → Ok tt ≡ row_verdict tower table r (Ok tt)
       unfolding row_verdict
       row_right f = rw (← is_b, no_b, ← is_c, no_c, ← is_d, f)
 
 -- ---- all rows
 
-module _ (tower : Tower) (table : Table) (r : ℕ) (v : RowVerdict) (is-v : v ≡ row_verdict tower table r Right) (after : RowVerdict) where
+module _ (tower : Tower) (table : Table) (r : ℕ) (v : Result (Unit {0}) Reason) (is-v : v ≡ row_verdict tower table r (Ok tt)) (after : Result (Unit {0}) Reason) where
   -- A right row leaves it to those after it.
-  row_leaves : v ≡ Right → row_verdict tower table r after ≡ after
+  row_leaves : v ≡ Ok tt → row_verdict tower table r after ≡ after
   unfolding row_verdict
   row_leaves f = go (some_withheld tower table r) (some_wrong_step tower table r) (stopped tower table r) (sym is-v ∙ f)
     where
       go : (b c d : Bool)
-          → pick b (λ _. Wrong (Withheld r)) (λ _. pick c (λ _. Wrong (WrongStep r)) (λ _. pick d (λ _. Wrong (Stopped r)) (λ _. Right))) ≡ Right
-          → pick b (λ _. Wrong (Withheld r)) (λ _. pick c (λ _. Wrong (WrongStep r)) (λ _. pick d (λ _. Wrong (Stopped r)) (λ _. after))) ≡ after
+          → pick b (λ _. Err (Withheld r)) (λ _. pick c (λ _. Err (WrongStep r)) (λ _. pick d (λ _. Err (Stopped r)) (λ _. Ok (tt {0})))) ≡ Ok (tt {0})
+          → pick b (λ _. Err (Withheld r)) (λ _. pick c (λ _. Err (WrongStep r)) (λ _. pick d (λ _. Err (Stopped r)) (λ _. after))) ≡ after
       go true c d e = cc
       go false true d e = cc
       go false false true e = cc
       go false false false e = refl
 
   -- A wrong one decides.
-  row_decides : (q : Reason) → v ≡ Wrong q → row_verdict tower table r after ≡ Wrong q
+  row_decides : (q : Reason) → v ≡ Err q → row_verdict tower table r after ≡ Err q
   unfolding row_verdict
   row_decides q f = go (some_withheld tower table r) (some_wrong_step tower table r) (stopped tower table r) (sym is-v ∙ f)
     where
       go : (b c d : Bool)
-          → pick b (λ _. Wrong (Withheld r)) (λ _. pick c (λ _. Wrong (WrongStep r)) (λ _. pick d (λ _. Wrong (Stopped r)) (λ _. Right))) ≡ Wrong q
-          → pick b (λ _. Wrong (Withheld r)) (λ _. pick c (λ _. Wrong (WrongStep r)) (λ _. pick d (λ _. Wrong (Stopped r)) (λ _. after))) ≡ Wrong q
+          → pick b (λ _. Err (Withheld r)) (λ _. pick c (λ _. Err (WrongStep r)) (λ _. pick d (λ _. Err (Stopped r)) (λ _. Ok (tt {0})))) ≡ Err q
+          → pick b (λ _. Err (Withheld r)) (λ _. pick c (λ _. Err (WrongStep r)) (λ _. pick d (λ _. Err (Stopped r)) (λ _. after))) ≡ Err q
       go true c d e = e
       go false true d e = e
       go false false true e = e
       go false false false e = cc
 
 module _ (tower : Tower) (table : List ℕ) (w : Bool) (is-w : w ≡ wrong_start tower (table_of table)) where
-  pub rows_wrong_start : w ≡ true → Wrong Start ≡ rows_verdict tower (table_of table)
+  pub rows_wrong_start : w ≡ true → Err Start ≡ rows_verdict tower (table_of table)
   unfolding rows_verdict
   rows_wrong_start f = rw (← is-w, f)
 
@@ -287,19 +280,19 @@ module _ (tower : Tower) (table : List ℕ) (w : Bool) (is-w : w ≡ wrong_start
     unfolding rows_verdict below
     rows_all = rw (← is-w, no_w, length_table_of table, ← is-n)
 
-    pub rows_wrong : (v : RowVerdict) (q : Reason) → r < end → v ≡ row_verdict tower (table_of table) r Right → v ≡ Wrong q
-        → Wrong q ≡ rows_verdict tower (table_of table)
+    pub rows_wrong : (v : Result (Unit {0}) Reason) (q : Reason) → r < end → v ≡ row_verdict tower (table_of table) r (Ok tt) → v ≡ Err q
+        → Err q ≡ rows_verdict tower (table_of table)
     unfolding rows_from
     rows_wrong v q l e f =
         sym (rows_all ∙ sym (left_cons (rows_from tower (table_of table)) 0 n end r left l)
         ∙ row_decides tower (table_of table) r v e (rows_from tower (table_of table) (count_from (r + 1) (end - (r + 1)))) q f)
 
-    pub rows_right : end ≤ r → Right ≡ rows_verdict tower (table_of table)
+    pub rows_right : end ≤ r → Ok tt ≡ rows_verdict tower (table_of table)
     unfolding rows_from
     rows_right l = left_none (rows_from tower (table_of table)) 0 n end r left l ∙ sym rows_all
 
-pub rows_more : (tower : Tower) (table : Table) (n end r : ℕ) (v : RowVerdict) → Left (rows_from tower table) 0 n end r → r < end
-    → v ≡ row_verdict tower table r Right → v ≡ Right → Left (rows_from tower table) 0 n end (r + 1)
+pub rows_more : (tower : Tower) (table : Table) (n end r : ℕ) (v : Result (Unit {0}) Reason) → Left (rows_from tower table) 0 n end r → r < end
+    → v ≡ row_verdict tower table r (Ok tt) → v ≡ Ok tt → Left (rows_from tower table) 0 n end (r + 1)
 unfolding rows_from
 rows_more tower table n end r v left l e f =
     left_more (rows_from tower table) 0 n end r left l

@@ -3,14 +3,15 @@
 use Rattle.std.specs.Prelude.{ℕ, ◌≡◌, Bool, true, List, [], ◌∷◌, length}
 use Rattle.base.specs.Choice.{pick}
 use Rattle.base.specs.Lists.{some_of, below}
-use Rattle.base.specs.Answers.{Answer, give}
+use Rattle.base.specs.Answers.{Answer}
+use Rattle.std.specs.Prelude.{Ok}
 use Rattle.base.specs.declared.Reason.TheVariants.{Start, Withheld, WrongStep, Stopped}
 use Rattle.logic.specs.Tower.{Tower, FitTower, tower_of}
 use Rattle.logic.specs.Tables.{Table, row_at}
 use Rattle.reading.specs.TableReading.{laid_out, table_states, table_actions}
 use Rattle.outcome.specs.Check.{Finding, not_good, wrong_start, withheld, wrong_step, stopped}
-use Rattle.checker_rows.specs.declared.RowVerdict.{RowVerdict}
-use Rattle.checker_rows.specs.declared.RowVerdict.TheVariants.{Right, Wrong}
+use Rattle.std.specs.Prelude.{Result, Err}
+use Rattle.base.specs.declared.Reason.{Reason}
 
 -- The files that the judge is given: a fit tower, and a table that is laid out for it.
 pub record RowsJudgeable (tower table : List ℕ) : Type 0 where
@@ -28,23 +29,23 @@ unfoldable pub some_wrong_step : Tower → Table → ℕ → Bool
 some_wrong_step tower table r = some_of (wrong_step tower table r) (row_at table r).steps
 
 -- the first reason of row r, in the order b, c, d; or what comes after
-unfoldable pub row_verdict : Tower → Table → ℕ → RowVerdict → RowVerdict
+unfoldable pub row_verdict : Tower → Table → ℕ → Result (Unit {0}) Reason → Result (Unit {0}) Reason
 row_verdict tower table r after =
-    pick (some_withheld tower table r) (λ _. Wrong (Withheld r)) (λ _.
-    pick (some_wrong_step tower table r) (λ _. Wrong (WrongStep r)) (λ _.
-    pick (stopped tower table r) (λ _. Wrong (Stopped r)) (λ _. after)))
+    pick (some_withheld tower table r) (λ _. Err (Withheld r)) (λ _.
+    pick (some_wrong_step tower table r) (λ _. Err (WrongStep r)) (λ _.
+    pick (stopped tower table r) (λ _. Err (Stopped r)) (λ _. after)))
 
 -- the rows in turn
-unfoldable pub rows_from : Tower → Table → List ℕ → RowVerdict
-rows_from tower table [] = Right
+unfoldable pub rows_from : Tower → Table → List ℕ → Result (Unit {0}) Reason
+rows_from tower table [] = Ok tt
 rows_from tower table (r ∷ rs) = row_verdict tower table r (rows_from tower table rs)
 
 -- a; then b to d by row
-unfoldable pub rows_verdict : Tower → Table → RowVerdict
+unfoldable pub rows_verdict : Tower → Table → Result (Unit {0}) Reason
 rows_verdict tower table =
-    pick (wrong_start tower table) (λ _. Wrong Start) (λ _. rows_from tower table (below (length table)))
+    pick (wrong_start tower table) (λ _. Err Start) (λ _. rows_from tower table (below (length table)))
 
 -- the checker's answer, from what the rows make of the table and what comes after them
-unfoldable pub answer_after : RowVerdict → Answer Finding → Answer Finding
-answer_after Right after = after
-answer_after (Wrong reason) after = give (not_good reason)
+unfoldable pub answer_after : Result (Unit {0}) Reason → Answer Finding → Answer Finding
+answer_after (Ok tt) after = after
+answer_after (Err reason) after = Ok (not_good reason)

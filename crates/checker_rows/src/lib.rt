@@ -7,18 +7,8 @@ ghost use Rattle.logic.specs.Tower.{tower_of};
 ghost use Rattle.reading.specs.TableReading.{rows_of, row_first, row_count, step_of, table_of};
 ghost use Rattle.outcome.specs.Check.{wrong_start, withheld, wrong_step, stopped};
 ghost use Rattle.checker_rows.specs.RowVerdict.{RowsJudgeable, some_withheld, some_wrong_step, row_verdict, rows_verdict};
-ghost use Rattle.checker_rows.specs.declared.RowVerdict.TheVariants.{Right};
 
 use base::Reason;
-use file_table::Target;
-use file_tower::Reached;
-
-// Whether the rows are right, or the first reason why not.
-#[derive(Clone, Copy)]
-pub enum RowVerdict {
-    Right,
-    Wrong(Reason),
-}
 
 // ---- a
 
@@ -42,15 +32,10 @@ fn withheld(tower: &[u8], table: &[u8], r: usize, a: usize) -> bool
     if file_kinds::controllable(file_tower::kind(tower, a)) {
         return false;
     }
-    let reached = file_tower::target(tower, file_table::row_state(table, r), a);
-    if let Reached::NotEnabled = reached {
+    if file_tower::target(tower, file_table::row_state(table, r), a).is_none() {
         return false;
     }
-    let allowed = file_table::step_to(table, r, a);
-    if let Target::Nothing = allowed {
-        return true;
-    }
-    false
+    file_table::step_to(table, r, a).is_none()
 }
 
 // Some action is withheld in row r.
@@ -60,12 +45,10 @@ fn some_withheld(tower: &[u8], table: &[u8], r: usize) -> bool
     ensures { result ≡ some_withheld (tower_of tower.now) (table_of table.now) r }
 {
     let actions = file_tower::actions(tower);
-    let mut a = 0;
-    while a < actions {
+    for a in 0..actions {
         if withheld(tower, table, r, a) {
             return true;
         }
-        a += 1;
     }
     false
 }
@@ -81,8 +64,7 @@ fn wrong_step(tower: &[u8], table: &[u8], r: usize, i: usize) -> bool
     ensures { result ≡ wrong_step (tower_of tower.now) (table_of table.now) r (step_of table.now i) }
 {
     let x = file_table::row_state(table, r);
-    let reached = file_tower::target(tower, x, file_table::step_action(table, i));
-    let Reached::State(y) = reached else {
+    let Some(y) = file_tower::target(tower, x, file_table::step_action(table, i)) else {
         return true;
     };
     file_table::row_state(table, file_table::step_target(table, i)) != y
@@ -94,13 +76,12 @@ fn some_wrong_step(tower: &[u8], table: &[u8], r: usize) -> bool
     requires r_bound { r < rows_of table.now }
     ensures { result ≡ some_wrong_step (tower_of tower.now) (table_of table.now) r }
 {
-    let mut i = file_table::row_first(table, r);
-    let end = i + file_table::row_count(table, r);
-    while i < end {
+    let first = file_table::row_first(table, r);
+    let end = first + file_table::row_count(table, r);
+    for i in first..end {
         if wrong_step(tower, table, r, i) {
             return true;
         }
-        i += 1;
     }
     false
 }
@@ -113,53 +94,47 @@ fn stopped(tower: &[u8], table: &[u8], r: usize) -> bool
     requires r_bound { r < rows_of table.now }
     ensures { result ≡ stopped (tower_of tower.now) (table_of table.now) r }
 {
-    let mut i = file_table::row_first(table, r);
-    let end = i + file_table::row_count(table, r);
-    while i < end {
+    let first = file_table::row_first(table, r);
+    let end = first + file_table::row_count(table, r);
+    for i in first..end {
         if file_kinds::goes_on(file_tower::kind(tower, file_table::step_action(table, i))) {
             return false;
         }
-        i += 1;
     }
     true
 }
 
 // ---- the rows
 
-// The first reason of row r, in the order b, c, d.
-fn judge_row(tower: &[u8], table: &[u8], r: usize) -> RowVerdict
+// Row r is right, or the first reason why not, in the order b, c, d.
+fn judge_row(tower: &[u8], table: &[u8], r: usize) -> Result<(), Reason>
     requires rows_judgeable { RowsJudgeable tower.now table.now }
     requires r_bound { r < rows_of table.now }
-    ensures { result ≡ row_verdict (tower_of tower.now) (table_of table.now) r Right }
+    ensures { result ≡ row_verdict (tower_of tower.now) (table_of table.now) r (Ok tt) }
 {
     if some_withheld(tower, table, r) {
-        return RowVerdict::Wrong(Reason::Withheld(r));
+        return Err(Reason::Withheld(r));
     }
     if some_wrong_step(tower, table, r) {
-        return RowVerdict::Wrong(Reason::WrongStep(r));
+        return Err(Reason::WrongStep(r));
     }
     if stopped(tower, table, r) {
-        return RowVerdict::Wrong(Reason::Stopped(r));
+        return Err(Reason::Stopped(r));
     }
-    RowVerdict::Right
+    Ok(())
 }
 
-// The first of the reasons a to d: a, then b to d by row.
-pub fn judge_rows(tower: &[u8], table: &[u8]) -> RowVerdict
+// The rows are right, or the first of the reasons a to d: a, then b to d by row.
+pub fn judge_rows(tower: &[u8], table: &[u8]) -> Result<(), Reason>
     requires { RowsJudgeable tower.now table.now }
     ensures { result ≡ rows_verdict (tower_of tower.now) (table_of table.now) }
 {
     if wrong_start(tower, table) {
-        return RowVerdict::Wrong(Reason::Start);
+        return Err(Reason::Start);
     }
     let rows = file_table::rows(table);
-    let mut r = 0;
-    while r < rows {
-        let verdict = judge_row(tower, table, r);
-        if let RowVerdict::Wrong(reason) = verdict {
-            return RowVerdict::Wrong(reason);
-        }
-        r += 1;
+    for r in 0..rows {
+        judge_row(tower, table, r)?;
     }
-    RowVerdict::Right
+    Ok(())
 }

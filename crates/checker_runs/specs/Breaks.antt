@@ -1,5 +1,5 @@
 -- The broken steps of a graph of pairs, and the first of them.
-use Rattle.std.specs.Prelude.{ℕ, ◌≤◌, ◌<◌, ◌≡◌, Bool, true, false, List}
+use Rattle.std.specs.Prelude.{ℕ, ◌≤◌, ◌<◌, ◌≡◌, Bool, true, false, List, Option, Some, None}
 use Rattle.first_runs.specs.Numbered.{NoLater}
 use Rattle.pair_graph.specs.Graph as Moves
 use Rattle.pair_graph.specs.Steps.{move_at}
@@ -25,8 +25,13 @@ pub record FirstBreak (graph : List ℕ) (n actions i a : ℕ) : Type 0 where
 pub record NoBreak (graph : List ℕ) (n actions : ℕ) : Type 0 where
   pub whole : (k b : ℕ) → k < n → b < actions → broken_at graph k b ≡ false
 
--- The lowest action that makes a broken step from pair i; `actions` if none does.
-pub record FirstAction (a : ℕ) (graph : List ℕ) (actions i : ℕ) : Type 0 where
-  pub most : a ≤ actions
+-- No action before this one makes a broken step from pair i.
+pub record NoneBefore (a : ℕ) (graph : List ℕ) (i : ℕ) : Type 0 where
   pub before : (b : ℕ) → b < a → broken_at graph i b ≡ false
-  pub broken : a < actions → broken_at graph i a ≡ true
+
+-- The lowest action that makes a broken step from pair i, if one does.
+pub record FirstAction (r : Option ℕ) (graph : List ℕ) (actions i : ℕ) : Type 0 where
+  pub no_action : r ≡ None → NoneBefore actions graph i
+  pub few : (a : ℕ) → r ≡ Some a → a < actions
+  pub broken : (a : ℕ) → r ≡ Some a → broken_at graph i a ≡ true
+  pub lowest : (a : ℕ) → r ≡ Some a → NoneBefore a graph i

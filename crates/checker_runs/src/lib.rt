@@ -9,31 +9,24 @@ ghost use Rattle.logic.specs.Tower.{FitTower, tower_of};
 ghost use Rattle.outcome.specs.Areas.{pairs_area, index_area, graph_area, sets_area, room_area};
 ghost use Rattle.pair_graph.specs.Steps.{graph_size, pair_room, action_room, HoldsGraph};
 ghost use Rattle.pair_trial.specs.Walked.{TowerWithBook};
-ghost use Rattle.pair_search.specs.declared.Found.TheVariants.{Met};
 ghost use Rattle.search_areas.specs.Lent.{Room};
 ghost use Rattle.checker_runs.specs.Breaks.{broken_at, FirstAction};
 ghost use Rattle.checker_runs.specs.Examining.{Searched, FoundExamined, TableExamined, Examines};
 
-use base::{BookAnswer, Reason, Refusal};
-use checker_files::Tested;
-use file_tower::TowerRead;
-use pair_search::Found;
+use base::{Refusal, Rejection};
 
-// What is found of the three files.
-#[derive(Clone, Copy)]
-pub enum Examined {
-    Good,
-    // 14: the table is not good, for a reason from a to d.
-    NotGood(Reason),
-    Refused(Refusal),
-    // 14 e: how many pairs there are, and the first broken step: the lowest pair from which one is, and the
-    // lowest action by which it is.
-    Broken {
-        pairs: usize,
-        pair: usize,
-        action: usize,
-    },
+// 14 e: how many pairs there are, and the first broken step: the lowest pair from which one is, and the lowest
+// action by which it is.
+#[derive(Clone, Copy, PartialEq, Eq)]
+pub struct BrokenStep {
+    pub pairs: usize,
+    pub pair: usize,
+    pub action: usize,
 }
+
+// What is found of the three files: no broken step, the first one, or why that is not asked: a refusal, or a reason
+// from a to d.
+pub type Examined = Result<Option<BrokenStep>, Rejection>;
 
 // Action a makes a broken step from pair i.
 fn broken_at(graph: &[u8], i: usize, a: usize) -> bool
@@ -45,58 +38,47 @@ fn broken_at(graph: &[u8], i: usize, a: usize) -> bool
     pair_graph::move_number(graph, i, a) == pair_graph::BROKEN
 }
 
-// The lowest action that makes a broken step from pair i; `actions` if none does.
-fn first_broken_action(graph: &[u8], actions: usize, i: usize) -> usize
+// The lowest action that makes a broken step from pair i, if one does.
+fn first_broken_action(graph: &[u8], actions: usize, i: usize) -> Option<usize>
     requires graph_size_in_bounds { graph_size ≤ length graph.now }
     requires actions_le_action_room { actions ≤ action_room }
     requires i_lt_pair_room { i < pair_room }
     ensures { FirstAction result graph.now actions i }
 {
-    let mut a = 0;
-    while a < actions {
-        let at = a;
-        a += 1;
-        if broken_at(graph, i, at) {
-            return at;
+    for a in 0..actions {
+        if broken_at(graph, i, a) {
+            return Some(a);
         }
     }
-    actions
+    None
 }
 
 // The steps of n rows with what is pending, whose graph is there: 14 e with the first broken one, or good.
 fn examine_steps(tower: &[u8], graph: &[u8], n: usize) -> Examined
     requires fit_tower { FitTower tower.now }
     requires holds_graph { HoldsGraph n (tower_of tower.now).actions graph.now }
-    ensures { FoundExamined graph.now (tower_of tower.now).actions (Met n) result }
+    ensures { FoundExamined graph.now (tower_of tower.now).actions (Ok n) result }
 {
     let actions = file_tower::actions(tower);
-    let mut i = 0;
-    while i < n {
-        let at = i;
-        i += 1;
-        let a = first_broken_action(graph, actions, at);
-        if a < actions {
-            return Examined::Broken {
+    for i in 0..n {
+        if let Some(action) = first_broken_action(graph, actions, i) {
+            return Ok(Some(BrokenStep {
                 pairs: n,
-                pair: at,
-                action: a,
-            };
+                pair: i,
+                action,
+            }));
         }
     }
-    Examined::Good
+    Ok(None)
 }
 
 // How the search for pairs ended, whose graph is there: 11, 20, 14 e, or good.
-fn examine_found(tower: &[u8], graph: &[u8], found: Found) -> Examined
+fn examine_found(tower: &[u8], graph: &[u8], found: Result<usize, Refusal>) -> Examined
     requires fit_tower { FitTower tower.now }
     requires searched { Searched found (tower_of tower.now).actions graph.now }
     ensures { FoundExamined graph.now (tower_of tower.now).actions found result }
 {
-    match found {
-        Found::TooMany => Examined::Refused(Refusal::Pairs),
-        Found::TooWide => Examined::Refused(Refusal::Alternatives),
-        Found::Met(n) => examine_steps(tower, graph, n),
-    }
+    examine_steps(tower, graph, found?)
 }
 
 // The table, where tower and book are read: 13, 14 a to d, and then the runs that it allows.
@@ -118,16 +100,9 @@ fn examine_table(
     requires room_area_in_bounds { room_area ≤ length room.old }
     ensures { TableExamined result tower.now table.now nodes.now graph.new }
 {
-    match checker_files::test_table(tower, table) {
-        Tested::Sound => {
-            let found = pair_search::explore(
-                tower, table, true, nodes, pairs, index, graph, sets, room,
-            );
-            examine_found(tower, graph, found)
-        }
-        Tested::NotGood(reason) => Examined::NotGood(reason),
-        Tested::Refused(why) => Examined::Refused(why),
-    }
+    checker_files::test_table(tower, table)?;
+    let found = pair_search::explore(tower, table, true, nodes, pairs, index, graph, sets, room);
+    examine_found(tower, graph, found)
 }
 
 // The three files: tower, book, table. The six areas are lent, and left as they are where the work ends.
@@ -145,15 +120,7 @@ pub fn examine(
     requires { Room nodes.old pairs.old index.old graph.old sets.old room.old }
     ensures { Examines result tower.now text.now table.now nodes.new graph.new }
 {
-    let read = file_tower::read_tower(tower);
-    if let TowerRead::Refused(why) = read {
-        return Examined::Refused(why);
-    }
-    let book = book_reader::read_lines(file_tower::marks(tower), text, nodes);
-    match book {
-        BookAnswer::Refused(why) => Examined::Refused(why),
-        BookAnswer::Read { .. } => examine_table(
-            tower, table, nodes, pairs, index, graph, sets, room,
-        ),
-    }
+    file_tower::read_tower(tower)?;
+    book_reader::read_lines(file_tower::marks(tower), text, nodes)?;
+    examine_table(tower, table, nodes, pairs, index, graph, sets, room)
 }

@@ -4,7 +4,7 @@ use Prim.Native.Nat.{ℕ, zero, suc, ◌+◌, ◌-◌, ◌≤◌, ◌<◌}
 use mathlib.Core.Path.{◌≡◌, refl, sym, ◌∙◌, ap}
 use mathlib.Core.Logic.{◌⊎◌, inl, inr}
 use mathlib.Core.Bool.{Bool, true, false, ◌&&◌, not}
-use mathlib.Core.Option.{Option, none, some}
+use Rattle.std.specs.Prelude.{Option, None, Some}
 use mathlib.Core.List.{List, map}
 use native.Mathlib.Omega.{arith}
 use native.Mathlib.Decide.{dec_lt, ℕ_discrete}
@@ -12,7 +12,8 @@ use lib.ListN.{length}
 use lib.Dec.{eqb}
 use borrow.Author.Tests.{eqb-true, eq-eqb, ne_eqb}
 use Rattle.base.specs.Lists.{count_from}
-use Rattle.base.specs.Answers.{give, refuse, ◌if◌else◌}
+use Rattle.base.specs.Answers.{◌if◌else◌}
+use Rattle.std.specs.Prelude.{Err, Ok}
 use Rattle.base.specs.declared.Refusal.TheVariants.{Layout}
 use Rattle.base.proofs.Lists.{and_left, and_right, and_fails}
 use Rattle.base.proofs.Answers.{if_on, if_refuses}
@@ -22,9 +23,6 @@ use Rattle.reading.specs.TableReading.{rows_of, steps_of, table_states, table_ac
 use Rattle.reading.proofs.TableHeader.{HeaderFits, header_out}
 use Rattle.reading.proofs.LaidOut.{steps_right_out, rows_right_out, laid_out_rows, row_of_table_at}
 use Rattle.file_table.specs.Layout.{laid_out_for}
-use Rattle.file_table.specs.Moves.{target_read}
-use Rattle.file_table.specs.declared.Target.{Target}
-use Rattle.file_table.specs.declared.Target.TheVariants.{Row, Nothing}
 
 -- ---- answers
 
@@ -132,7 +130,7 @@ move_read bytes r a l = rw (row_of_table_at bytes r l)
 
 -- A step with the action leads to its target row.
 pub step_to_here : (bytes : List ℕ) (i n a : ℕ) → step_action bytes i ≡ a
-    → step_to (steps_from bytes i (suc n)) a ≡ some (step_target bytes i)
+    → step_to (steps_from bytes i (suc n)) a ≡ Some (step_target bytes i)
 unfolding count_from step_to step_of
 step_to_here bytes i n a e = rw (eq-eqb (step_action bytes i) a e)
 
@@ -151,7 +149,7 @@ pub record Allowing (bytes : List ℕ) (i n a t : ℕ) : Type 0 where
   pub target : step_target bytes at ≡ t
 
 -- What steps lead to is the target of one of them that has the action.
-pub step_to_from : (bytes : List ℕ) (n i a t : ℕ) → step_to (steps_from bytes i n) a ≡ some t → Allowing bytes i n a t
+pub step_to_from : (bytes : List ℕ) (n i a t : ℕ) → step_to (steps_from bytes i n) a ≡ Some t → Allowing bytes i n a t
 unfolding count_from step_to
 step_to_from bytes zero i a t e = absurd (let z : ◌≡◌ {A = ℕ} 0 1 = cc in omega arith)
 step_to_from bytes (suc n) i a t e =
@@ -166,7 +164,7 @@ step_to_from bytes (suc n) i a t e =
 
 -- Right steps lead by each of their actions to its target: no action comes twice.
 pub step_to_each : (bytes : List ℕ) (n low i : ℕ) → steps_right bytes low i n ≡ true → (j : ℕ) → i ≤ j → j < i + n
-    → (low ≤ step_action bytes j) × (step_to (steps_from bytes i n) (step_action bytes j) ≡ some (step_target bytes j))
+    → (low ≤ step_action bytes j) × (step_to (steps_from bytes i n) (step_action bytes j) ≡ Some (step_target bytes j))
 step_to_each bytes zero low i h j l g = absurd (omega arith)
 step_to_each bytes (suc n) low i h j l g =
     let s = steps_right_out bytes low i n h in
@@ -207,16 +205,14 @@ steps_ascend bytes (suc n) low i h j k l g m =
 -- ---- the reader's answer
 
 -- Where the reader answers a row, the action leads to it.
-pub target_row : (o : Option ℕ) (answer : Target) (row : ℕ) → answer ≡ target_read o → answer ≡ Row row → o ≡ some row
-unfolding target_read
-target_row none answer row e f = cc
-target_row (some s) answer row e f = cc
+pub target_row : (o : Option ℕ) (answer : Option ℕ) (row : ℕ) → answer ≡ o → answer ≡ Some row → o ≡ Some row
+target_row None answer row e f = cc
+target_row (Some s) answer row e f = cc
 
 -- Where it answers nothing, the action leads nowhere.
-pub target_nothing : (o : Option ℕ) (answer : Target) → answer ≡ target_read o → answer ≡ Nothing → o ≡ none
-unfolding target_read
-target_nothing none answer e f = refl
-target_nothing (some s) answer e f = cc
+pub target_nothing : (o : Option ℕ) (answer : Option ℕ) → answer ≡ o → answer ≡ None → o ≡ None
+target_nothing None answer e f = refl
+target_nothing (Some s) answer e f = cc
 
 -- ---- a table for a tower
 
@@ -233,18 +229,18 @@ laid_for_parts bytes s a e =
 
 -- Others are refused with 13.
 pub not_laid_for_read : (tower : Tower) (bytes : List ℕ) → laid_out_for bytes tower.states tower.actions ≡ false
-    → read_table tower bytes ≡ refuse Layout
+    → read_table tower bytes ≡ Err Layout
 unfolding laid_out_for read_table
 not_laid_for_read tower bytes e =
     go (and_fails (laid_out bytes) (eqb (table_states bytes) tower.states && eqb (table_actions bytes) tower.actions) e)
   where
     go : (laid_out bytes ≡ false) ⊎ ((eqb (table_states bytes) tower.states && eqb (table_actions bytes) tower.actions) ≡ false)
-        → read_table tower bytes ≡ refuse Layout
+        → read_table tower bytes ≡ Err Layout
     go (inl f) = if_refuses Layout _ (ap not f)
     go (inr f) = both (not (laid_out bytes)) (ap not f)
       where
         both : (b : Bool) → not (eqb (table_states bytes) tower.states && eqb (table_actions bytes) tower.actions) ≡ true
-            → (Layout if b else (Layout if not (eqb (table_states bytes) tower.states && eqb (table_actions bytes) tower.actions) else give (table_of bytes)))
-            ≡ refuse Layout
+            → (Layout if b else (Layout if not (eqb (table_states bytes) tower.states && eqb (table_actions bytes) tower.actions) else Ok (table_of bytes)))
+            ≡ Err Layout
         both true g = if_refuses Layout _ refl
         both false g = if_on Layout _ refl ∙ if_refuses Layout _ g

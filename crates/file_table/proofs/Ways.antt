@@ -3,7 +3,7 @@ use Prim.Native.Nat.{ℕ, suc, ◌+◌, ◌-◌, ◌*◌, ◌^◌, ◌≤◌, �
 use mathlib.Core.Path.{◌≡◌, refl, sym, ◌∙◌, ap}
 use mathlib.Core.Bool.{Bool, true, false, ◌&&◌, and-false, and-true}
 use mathlib.Core.List.{List}
-use mathlib.Core.Option.{Option, none, some}
+use Rattle.std.specs.Prelude.{Option, None, Some}
 use native.Mathlib.Omega.{arith}
 use native.Mathlib.Decide.{dec_lt, ℕ_discrete}
 use native.Mathlib.Nat.{mul-le-mul}
@@ -21,8 +21,6 @@ use Rattle.logic.specs.TableFile.{most_rows, rows_at, row_size, step_size, steps
 use Rattle.reading.specs.TableReading.{rows_of, steps_of, table_states, table_actions, table_layout, row_place, row_state, row_count, row_first, step_place, step_action, step_target, header_right, steps_right, rows_right, laid_out, table_of}
 use Rattle.reading.proofs.TableHeader.{table_layout_fits, header_out}
 use Rattle.file_table.specs.Layout.{laid_out_for, counts_right, offsets_right, places_right, step_right, row_right}
-use Rattle.file_table.specs.Moves.{target_read}
-use Rattle.file_table.specs.declared.Target.TheVariants.{Row, Nothing}
 use Rattle.file_table.proofs.Laws.{rows_within, laid_out_known, steps_from, move_read, step_to_from, step_to_each, steps_low, steps_ascend}
 
 -- ---- counts_right
@@ -348,20 +346,19 @@ module _ (bytes : List ℕ) (row a first i : ℕ) (g : GreaterFrom bytes row a f
 
   -- A step with the action leads to its target row.
   pub step_found : (x t : ℕ) → first < i → x ≡ step_action bytes (i - 1) → x ≡ a → t ≡ step_target bytes (i - 1)
-      → Row t ≡ target_read (move (table_of bytes) row a)
-  unfolding target_read
+      → Some t ≡ (move (table_of bytes) row a)
   step_found x t l is_x e is_t =
       let each = (step_to_each bytes (row_count bytes row) 0 first g.right (i - 1) (omega arith) (omega (arith, g.to))).1 in
       rw (moves_by, ← e, is_x, each, is_t)
 
   -- Where no step has the action it is not allowed.
   none_has : ((j : ℕ) → first ≤ j → j < first + row_count bytes row → step_action bytes j ≡ a → ⊥)
-      → Nothing ≡ target_read (move (table_of bytes) row a)
+      → None ≡ (move (table_of bytes) row a)
   none_has none_is = rw moves_by (go (step_to (steps_from bytes first (row_count bytes row)) a) refl)
     where
-      go : (o : Option ℕ) → step_to (steps_from bytes first (row_count bytes row)) a ≡ o → Nothing ≡ target_read o
-      go none e = unfold target_read in refl
-      go (some t) e =
+      go : (o : Option ℕ) → step_to (steps_from bytes first (row_count bytes row)) a ≡ o → None ≡ o
+      go None e = refl
+      go (Some t) e =
           let s = step_to_from bytes (row_count bytes row) first a t e in
           absurd (none_is s.at s.from s.below s.action)
 
@@ -371,7 +368,7 @@ module _ (bytes : List ℕ) (row a first i : ℕ) (g : GreaterFrom bytes row a f
       elim (ℕ_discrete j (i - 1)) [ yes same ↦ rw same here | no other ↦ rest j (omega arith) ]
 
   -- A step with a lower action: those before it have lower ones still.
-  pub step_lower : (x : ℕ) → first < i → x ≡ step_action bytes (i - 1) → x < a → Nothing ≡ target_read (move (table_of bytes) row a)
+  pub step_lower : (x : ℕ) → first < i → x ≡ step_action bytes (i - 1) → x < a → None ≡ (move (table_of bytes) row a)
   step_lower x l is_x lower =
       none_has (λ j from to e.
       elim (dec_lt j (i - 1)) [
@@ -395,7 +392,7 @@ module _ (bytes : List ℕ) (row a first i : ℕ) (g : GreaterFrom bytes row a f
       }
 
   -- Past the first step the action is not allowed.
-  pub steps_past : i ≤ first → Nothing ≡ target_read (move (table_of bytes) row a)
+  pub steps_past : i ≤ first → None ≡ (move (table_of bytes) row a)
   steps_past l = none_has (λ j from to e. omega (arith, g.greater j (omega arith) to))
 
 -- ---- laid out for a tower

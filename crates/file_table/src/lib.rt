@@ -7,7 +7,6 @@ ghost use Rattle.logic.specs.Tables.{move};
 ghost use Rattle.logic.specs.TableFile.{rows_at};
 ghost use Rattle.reading.specs.TableReading.{rows_of, steps_of, table_states, table_actions, table_layout, row_place, row_state, row_count, row_first, step_place, step_action, step_target, header_right, steps_right, rows_right, laid_out, table_of};
 ghost use Rattle.file_table.specs.Layout.{counts_right, offsets_right, places_right, step_right, row_right, laid_out_for};
-ghost use Rattle.file_table.specs.Moves.{target_read};
 
 use logic::FileLayout;
 
@@ -220,14 +219,11 @@ fn steps_right(bytes: &[u8], first: usize, count: usize) -> bool
 {
     let end = first + count;
     let mut low = 0;
-    let mut i = first;
-    while i < end {
-        let at = i;
-        i += 1;
-        if !step_right(bytes, low, at) {
+    for i in first..end {
+        if !step_right(bytes, low, i) {
             return false;
         }
-        low = step_action(bytes, at) + 1;
+        low = step_action(bytes, i) + 1;
     }
     true
 }
@@ -258,15 +254,12 @@ fn rows_right(bytes: &[u8]) -> bool
     let rows = rows(bytes);
     let steps = steps(bytes);
     let mut first = 0;
-    let mut r = 0;
-    while r < rows {
-        let at = r;
-        r += 1;
-        let count = row_count(bytes, at);
+    for r in 0..rows {
+        let count = row_count(bytes, r);
         if steps - first < count {
             return false;
         }
-        if !row_right(bytes, first, at, count) {
+        if !row_right(bytes, first, r, count) {
             return false;
         }
         first += count;
@@ -299,13 +292,6 @@ pub fn laid_out_for(bytes: &[u8], s: usize, a: usize) -> bool
 
 // ---- moves
 
-// Where an action leads: to a row, or it is not allowed and leads nowhere.
-#[derive(Clone, Copy)]
-pub enum Target {
-    Row(usize),
-    Nothing,
-}
-
 // How many of a row's steps may have the action or one below it: actions ascend, so the step with
 // j steps before it has action j or above.
 fn reachable_steps(count: usize, action: usize) -> usize
@@ -317,24 +303,23 @@ fn reachable_steps(count: usize, action: usize) -> usize
     action + 1
 }
 
-// Where an action leads from a row of the table. From the last of the steps that may have it down to
+// The row that an action leads to from a row of the table, if it is allowed there. From the last of the steps that may have it down to
 // the first: the steps from step i on have greater actions.
-pub fn step_to(bytes: &[u8], row: usize, action: usize) -> Target
+pub fn step_to(bytes: &[u8], row: usize, action: usize) -> Option<usize>
     requires bytes_value { laid_out bytes.now ≡ true }
     requires row_bound { row < rows_of bytes.now }
-    ensures { result ≡ target_read (move (table_of bytes.now) row action) }
+    ensures { result ≡ move (table_of bytes.now) row action }
 {
     let first = row_first(bytes, row);
-    let mut i = first + reachable_steps(row_count(bytes, row), action);
-    while first < i {
-        i -= 1;
+    let end = first + reachable_steps(row_count(bytes, row), action);
+    for i in (first..end).rev() {
         let found = step_action(bytes, i);
         if found == action {
-            return Target::Row(step_target(bytes, i));
+            return Some(step_target(bytes, i));
         }
         if found < action {
-            return Target::Nothing;
+            return None;
         }
     }
-    Target::Nothing
+    None
 }

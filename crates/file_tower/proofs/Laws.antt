@@ -3,12 +3,13 @@ use Prim.Native.Nat.{ℕ, ◌≤◌, ◌<◌}
 use native.Mathlib.Omega.{arith}
 use mathlib.Core.Path.{◌≡◌, refl, sym, ◌∙◌, ap}
 use mathlib.Core.Bool.{Bool, true, false, ◌||◌, not}
-use mathlib.Core.Option.{Option, none, some}
+use Rattle.std.specs.Prelude.{Option, None, Some}
 use mathlib.Core.List.{List}
 use lib.ListN.{length}
 use lib.Dec.{leb, ltb, eqb}
 use borrow.Author.Tests.{ltb-true, ltb-false, leb-true, eqb-true, not-false}
-use Rattle.base.specs.Answers.{Answer, refuse, give, ◌if◌else◌}
+use Rattle.base.specs.Answers.{Answer, ◌if◌else◌}
+use Rattle.std.specs.Prelude.{Err, Ok}
 use Rattle.base.specs.declared.Refusal.{Refusal}
 use Rattle.base.specs.declared.Refusal.TheVariants.{TowerSize, Range, Action, Target, Mask}
 use Rattle.base.proofs.Lists.{or_fails_left, or_fails_right}
@@ -19,12 +20,8 @@ use Rattle.logic.specs.Tower.{no_header, bad_counts, bad_size, bad_actions, bad_
 use Rattle.logic.proofs.Layouts.{file_layout_fits}
 use Rattle.logic.proofs.TowerFile.{target_enabled, range_out, fit_tower}
 use Rattle.reading.specs.TowerReading.{read_tower}
-use Rattle.file_tower.specs.TowerRead.{tower_read, target_read}
+use Rattle.file_tower.specs.TowerRead.{tower_read}
 use Rattle.file_tower.specs.Stages.{Ranges, Headed, Counted, Sized}
-use Rattle.file_tower.specs.declared.TowerRead.{TowerRead}
-use Rattle.file_tower.specs.declared.TowerRead.TheVariants.{Fit, Refused}
-use Rattle.file_tower.specs.declared.Reached.{Reached}
-use Rattle.file_tower.specs.declared.Reached.TheVariants.{State, NotEnabled}
 
 -- ---- the counts
 
@@ -135,7 +132,7 @@ pub record TowerBounds (tower : Tower) : Type 0 where
   pub actions_most : tower.actions ≤ 16
   pub marks_most : tower.marks ≤ 16
   pub start_below : tower.start < tower.states
-  pub targets : (x a y : ℕ) → x < tower.states → tower.target x a ≡ some y → y < tower.states
+  pub targets : (x a y : ℕ) → x < tower.states → tower.target x a ≡ Some y → y < tower.states
   pub listed : Listed tower
 
 -- The tower of a fit file keeps its bounds.
@@ -159,26 +156,24 @@ pub marks_few : (tower : List ℕ) (marks : ℕ) → FitTower tower → marks �
 marks_few tower marks fit e = omega (arith, (fit_bounds fit).marks_most)
 
 -- The answer is a state: the action leads to it.
-pub state_reached : (o : Option ℕ) (r : Reached) (y : ℕ) → r ≡ target_read o → r ≡ State y → o ≡ some y
-unfolding target_read
-state_reached none r y e f = let z : ◌≡◌ {A = ℕ} 0 1 = cc in absurd (omega arith)
-state_reached (some x) r y e f = let same : x ≡ y = cc in ap some same
+pub state_reached : (o : Option ℕ) (r : Option ℕ) (y : ℕ) → r ≡ o → r ≡ Some y → o ≡ Some y
+state_reached None r y e f = let z : ◌≡◌ {A = ℕ} 0 1 = cc in absurd (omega arith)
+state_reached (Some x) r y e f = let same : x ≡ y = cc in ap Some same
 
 -- The answer is that the action is not enabled: it leads nowhere.
-pub none_reached : (o : Option ℕ) (r : Reached) → r ≡ target_read o → r ≡ NotEnabled → o ≡ none
-unfolding target_read
-none_reached none r e f = refl
-none_reached (some x) r e f = let z : ◌≡◌ {A = ℕ} 0 1 = cc in absurd (omega arith)
+pub none_reached : (o : Option ℕ) (r : Option ℕ) → r ≡ o → r ≡ None → o ≡ None
+none_reached None r e f = refl
+none_reached (Some x) r e f = let z : ◌≡◌ {A = ℕ} 0 1 = cc in absurd (omega arith)
 
 -- ---- the reader's answer
 
 -- A fit file is read as its tower.
-pub fit_reads : {bytes : List ℕ} → FitTower bytes → read_tower bytes ≡ give (tower_of bytes)
+pub fit_reads : {bytes : List ℕ} → FitTower bytes → read_tower bytes ≡ Ok (tower_of bytes)
 unfolding read_tower ◌if◌else◌
 fit_reads fit = rw (fit.header, fit.counts, fit.size, fit.actions, fit.targets, fit.masks)
 
 -- A file that is read as a tower is fit.
-pub reads_fit : (bytes : List ℕ) {tower : Tower} → read_tower bytes ≡ give tower → FitTower bytes
+pub reads_fit : (bytes : List ℕ) {tower : Tower} → read_tower bytes ≡ Ok tower → FitTower bytes
 unfolding read_tower
 reads_fit bytes e =
     let (no_1, e₁) = if_gives TowerSize (no_header bytes) _ e in
@@ -190,25 +185,25 @@ reads_fit bytes e =
     record { header = no_1; counts = no_2; size = no_3; actions = no_4; targets = no_5; masks = no_6 }
 
 -- The answer is `Fit`: the file is fit.
-pub fit_of : (bytes : List ℕ) (r : TowerRead) → r ≡ tower_read (read_tower bytes) → r ≡ Fit → FitTower bytes
+pub fit_of : (bytes : List ℕ) (r : Answer (Unit {0})) → r ≡ tower_read (read_tower bytes) → r ≡ Ok tt → FitTower bytes
 unfolding tower_read
 fit_of bytes r e f = go (read_tower bytes) refl (sym e ∙ f)
   where
-    go : (o : Answer Tower) → read_tower bytes ≡ o → tower_read o ≡ Fit → FitTower bytes
-    go (give tower) p q = reads_fit bytes p
-    go (refuse why) p q = let z : ◌≡◌ {A = ℕ} 0 1 = cc in absurd (omega arith)
+    go : (o : Answer Tower) → read_tower bytes ≡ o → tower_read o ≡ Ok tt → FitTower bytes
+    go (Ok tower) p q = reads_fit bytes p
+    go (Err why) p q = let z : ◌≡◌ {A = ℕ} 0 1 = cc in absurd (omega arith)
 
 -- The answer is `Fit`: the file is read as its tower.
-pub fit_gives : (bytes : List ℕ) (r : TowerRead) → r ≡ tower_read (read_tower bytes) → r ≡ Fit
-    → read_tower bytes ≡ give (tower_of bytes)
+pub fit_gives : (bytes : List ℕ) (r : Answer (Unit {0})) → r ≡ tower_read (read_tower bytes) → r ≡ Ok tt
+    → read_tower bytes ≡ Ok (tower_of bytes)
 fit_gives bytes r e f = fit_reads (fit_of bytes r e f)
 
 -- The answer is a refusal: so is the definition's, the same.
-pub refused_of : (bytes : List ℕ) (r : TowerRead) (why : Refusal) → r ≡ tower_read (read_tower bytes) → r ≡ Refused why
-    → read_tower bytes ≡ refuse why
+pub refused_of : (bytes : List ℕ) (r : Answer (Unit {0})) (why : Refusal) → r ≡ tower_read (read_tower bytes) → r ≡ Err why
+    → read_tower bytes ≡ Err why
 unfolding tower_read
 refused_of bytes r why e f = go (read_tower bytes) refl (sym e ∙ f)
   where
-    go : (o : Answer Tower) → read_tower bytes ≡ o → tower_read o ≡ Refused why → read_tower bytes ≡ refuse why
-    go (give tower) p q = let z : ◌≡◌ {A = ℕ} 0 1 = cc in absurd (omega arith)
-    go (refuse other) p q = let same : other ≡ why = cc in p ∙ ap refuse same
+    go : (o : Answer Tower) → read_tower bytes ≡ o → tower_read o ≡ Err why → read_tower bytes ≡ Err why
+    go (Ok tower) p q = let z : ◌≡◌ {A = ℕ} 0 1 = cc in absurd (omega arith)
+    go (Err other) p q = let same : other ≡ why = cc in p ∙ ap Err same

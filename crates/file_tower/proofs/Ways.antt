@@ -18,11 +18,10 @@ use Rattle.logic.specs.Tower.{tower_of, in_range, most_actions, most_marks, not_
 use Rattle.logic.specs.Tower.{marks_of, start_of, actions_offset, states_offset, states_at, state_at, length_of, kind_of, mask_of, target_of, bit}
 use Rattle.logic.specs.Tower.{no_header, bad_counts, bad_size, bad_actions, bad_targets, bad_masks}
 use Rattle.reading.specs.TowerReading.{read_tower}
-use Rattle.file_tower.specs.TowerRead.{tower_read, target_read}
+use Rattle.file_tower.specs.TowerRead.{tower_read}
 use Rattle.file_tower.specs.Stages.{Headed, Counted, Sized, bad_offsets, bad_action, bad_target, bad_targets_of, bad_mask}
 use Rattle.file_tower.proofs.Laws.{header_whole, counted, sized}
-use Rattle.file_tower.specs.declared.TowerRead.TheVariants.{Fit, Refused}
-use Rattle.file_tower.specs.declared.Reached.TheVariants.{State, NotEnabled}
+use Rattle.std.specs.Prelude.{Some, None, Ok, Err}
 
 -- ---- the header and its counts
 
@@ -165,13 +164,13 @@ step_read bytes x a d e = ap ticks e
 
 module _ (bytes : List ℕ) (x a y : ℕ) (k : FileLayout) (at_y : y ≡ target_of bytes x a) (is_k : k ≡ layout_of bytes) where
   -- What is written says 'not enabled'.
-  pub target_none : y ≡ k.disabled → NotEnabled ≡ target_read ((tower_of bytes).target x a)
-  unfolding target_read tower_of not_enabled
+  pub target_none : y ≡ k.disabled → None ≡ ((tower_of bytes).target x a)
+  unfolding tower_of not_enabled
   target_none f = sym (rw (← at_y, ← is_k, eq-eqb y k.disabled f, and-false))
 
   -- What is written is a state.
-  pub target_some : x < states_of bytes → a < actions_of bytes → (y ≡ k.disabled → ⊥) → State y ≡ target_read ((tower_of bytes).target x a)
-  unfolding target_read tower_of not_enabled
+  pub target_some : x < states_of bytes → a < actions_of bytes → (y ≡ k.disabled → ⊥) → Some y ≡ ((tower_of bytes).target x a)
+  unfolding tower_of not_enabled
   target_some state action f =
       sym (rw (← at_y, ← is_k, lt-ltb x (states_of bytes) state, lt-ltb a (actions_of bytes) action, ne_eqb y k.disabled f))
 
@@ -184,7 +183,7 @@ mark_bit bytes x k m e = rw e
 
 module _ (bytes : List ℕ) (r₁ : Bool) (is₁ : r₁ ≡ no_header bytes) where
   -- 1: no whole header.
-  pub refuse_1 : r₁ ≡ true → Refused TowerSize ≡ tower_read (read_tower bytes)
+  pub refuse_1 : r₁ ≡ true → Err TowerSize ≡ tower_read (read_tower bytes)
   unfolding tower_read read_tower ◌if◌else◌
   refuse_1 f = rw (← is₁, f)
 
@@ -194,7 +193,7 @@ module _ (bytes : List ℕ) (r₁ : Bool) (is₁ : r₁ ≡ no_header bytes) whe
 
   module _ (r₂ : Bool) (no₁ : r₁ ≡ false) (is₂ : r₂ ≡ bad_counts bytes) where
     -- 2: a count or the start.
-    pub refuse_2 : r₂ ≡ true → Refused Range ≡ tower_read (read_tower bytes)
+    pub refuse_2 : r₂ ≡ true → Err Range ≡ tower_read (read_tower bytes)
     unfolding tower_read read_tower ◌if◌else◌
     refuse_2 f = rw (← is₁, no₁, ← is₂, f)
 
@@ -204,7 +203,7 @@ module _ (bytes : List ℕ) (r₁ : Bool) (is₁ : r₁ ≡ no_header bytes) whe
 
     module _ (r₃ : Bool) (no₂ : r₂ ≡ false) (is₃ : r₃ ≡ bad_size bytes) where
       -- 1: an offset or the length.
-      pub refuse_3 : r₃ ≡ true → Refused TowerSize ≡ tower_read (read_tower bytes)
+      pub refuse_3 : r₃ ≡ true → Err TowerSize ≡ tower_read (read_tower bytes)
       unfolding tower_read read_tower ◌if◌else◌
       refuse_3 f = rw (← is₁, no₁, ← is₂, no₂, ← is₃, f)
 
@@ -214,24 +213,24 @@ module _ (bytes : List ℕ) (r₁ : Bool) (is₁ : r₁ ≡ no_header bytes) whe
 
       module _ (r₄ : Bool) (no₃ : r₃ ≡ false) (is₄ : r₄ ≡ bad_actions bytes) where
         -- 3: an action.
-        pub refuse_4 : r₄ ≡ true → Refused Action ≡ tower_read (read_tower bytes)
+        pub refuse_4 : r₄ ≡ true → Err Action ≡ tower_read (read_tower bytes)
         unfolding tower_read read_tower ◌if◌else◌
         refuse_4 f = rw (← is₁, no₁, ← is₂, no₂, ← is₃, no₃, ← is₄, f)
 
         module _ (r₅ : Bool) (no₄ : r₄ ≡ false) (is₅ : r₅ ≡ bad_targets bytes) where
           -- 4: a target.
-          pub refuse_5 : r₅ ≡ true → Refused Target ≡ tower_read (read_tower bytes)
+          pub refuse_5 : r₅ ≡ true → Err Target ≡ tower_read (read_tower bytes)
           unfolding tower_read read_tower ◌if◌else◌
           refuse_5 f = rw (← is₁, no₁, ← is₂, no₂, ← is₃, no₃, ← is₄, no₄, ← is₅, f)
 
           module _ (r₆ : Bool) (no₅ : r₅ ≡ false) (is₆ : r₆ ≡ bad_masks bytes) where
             -- 5: a mask.
-            pub refuse_6 : r₆ ≡ true → Refused Mask ≡ tower_read (read_tower bytes)
+            pub refuse_6 : r₆ ≡ true → Err Mask ≡ tower_read (read_tower bytes)
             unfolding tower_read read_tower ◌if◌else◌
             refuse_6 f = rw (← is₁, no₁, ← is₂, no₂, ← is₃, no₃, ← is₄, no₄, ← is₅, no₅, ← is₆, f)
 
             -- No refusal.
-            pub refuse_none : r₆ ≡ false → Fit ≡ tower_read (read_tower bytes)
+            pub refuse_none : r₆ ≡ false → Ok tt ≡ tower_read (read_tower bytes)
             unfolding tower_read read_tower ◌if◌else◌
             refuse_none f = rw (← is₁, no₁, ← is₂, no₂, ← is₃, no₃, ← is₄, no₄, ← is₅, no₅, ← is₆, f)
 

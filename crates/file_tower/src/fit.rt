@@ -78,12 +78,10 @@ pub fn bad_actions(bytes: &[u8]) -> bool
     ensures { result ≡ bad_actions bytes.now }
 {
     let actions = fields::actions_of(bytes);
-    let mut a = 0;
-    while a < actions {
+    for a in 0..actions {
         if bad_action(bytes, a) {
             return true;
         }
-        a += 1;
     }
     false
 }
@@ -110,12 +108,10 @@ fn bad_targets_of(bytes: &[u8], x: usize) -> bool
     ensures { result ≡ bad_targets_of bytes.now x }
 {
     let actions = fields::actions_of(bytes);
-    let mut a = 0;
-    while a < actions {
+    for a in 0..actions {
         if bad_target(bytes, x, a) {
             return true;
         }
-        a += 1;
     }
     false
 }
@@ -126,12 +122,10 @@ pub fn bad_targets(bytes: &[u8]) -> bool
     ensures { result ≡ bad_targets bytes.now }
 {
     let states = fields::states_of(bytes);
-    let mut x = 0;
-    while x < states {
+    for x in 0..states {
         if bad_targets_of(bytes, x) {
             return true;
         }
-        x += 1;
     }
     false
 }
@@ -152,12 +146,10 @@ pub fn bad_masks(bytes: &[u8]) -> bool
     ensures { result ≡ bad_masks bytes.now }
 {
     let states = fields::states_of(bytes);
-    let mut x = 0;
-    while x < states {
+    for x in 0..states {
         if bad_mask(bytes, x) {
             return true;
         }
-        x += 1;
     }
     false
 }

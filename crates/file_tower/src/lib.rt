@@ -8,49 +8,35 @@ mod fit;
 ghost use Rattle.std.specs.Prelude.{◌<◌, ◌≡◌};
 ghost use Rattle.logic.specs.Tower.{FitTower, tower_of, mask_of};
 ghost use Rattle.reading.specs.TowerReading.{read_tower};
-ghost use Rattle.file_tower.specs.TowerRead.{tower_read, target_read};
+ghost use Rattle.file_tower.specs.TowerRead.{tower_read};
 
 use base::Refusal;
 use logic::Tick;
 
-// Whether a file is fit to be a tower.
-#[derive(Clone, Copy)]
-pub enum TowerRead {
-    Fit,
-    Refused(Refusal),
-}
-
-// What an action leads to.
-#[derive(Clone, Copy)]
-pub enum Reached {
-    State(usize),
-    NotEnabled,
-}
-
 // Whether the file is fit. Refused with the first that holds, each looked for in the whole file: 1
 // if the header is not whole, 2, 1, 3, 4, 5.
-pub fn read_tower(bytes: &[u8]) -> TowerRead
+pub fn read_tower(bytes: &[u8]) -> Result<(), Refusal>
     ensures { result ≡ tower_read (read_tower bytes.now) }
 {
     if fit::no_header(bytes) {
-        return TowerRead::Refused(Refusal::TowerSize);
+        return Err(Refusal::TowerSize);
     }
     if fit::bad_counts(bytes) {
-        return TowerRead::Refused(Refusal::Range);
+        return Err(Refusal::Range);
     }
     if fit::bad_size(bytes) {
-        return TowerRead::Refused(Refusal::TowerSize);
+        return Err(Refusal::TowerSize);
     }
     if fit::bad_actions(bytes) {
-        return TowerRead::Refused(Refusal::Action);
+        return Err(Refusal::Action);
     }
     if fit::bad_targets(bytes) {
-        return TowerRead::Refused(Refusal::Target);
+        return Err(Refusal::Target);
     }
     if fit::bad_masks(bytes) {
-        return TowerRead::Refused(Refusal::Mask);
+        return Err(Refusal::Mask);
     }
-    TowerRead::Fit
+    Ok(())
 }
 
 // How many states a fit tower has.
@@ -105,18 +91,18 @@ pub fn step_length(bytes: &[u8], x: usize, a: usize) -> Tick
 }
 
 // The state that action a leads to from state x, or that it is not enabled there.
-pub fn target(bytes: &[u8], x: usize, a: usize) -> Reached
+pub fn target(bytes: &[u8], x: usize, a: usize) -> Option<usize>
     requires fit_tower { FitTower bytes.now }
     requires x_bound { x < (tower_of bytes.now).states }
     requires a_bound { a < (tower_of bytes.now).actions }
-    ensures { result ≡ target_read ((tower_of bytes.now).target x a) }
+    ensures { result ≡ (tower_of bytes.now).target x a }
 {
     let y = fields::target_of(bytes, x, a);
     let layout = file_layout::layout_of(bytes);
     if y == layout.disabled {
-        return Reached::NotEnabled;
+        return None;
     }
-    Reached::State(y)
+    Some(y)
 }
 
 // The marks of state x, a bit each.

@@ -4,7 +4,7 @@ use Prim.Native.Nat.{ℕ, zero, suc, ◌≤◌, ◌<◌}
 use mathlib.Core.Path.{◌≡◌, refl, sym, ap, subst, ◌∙◌}
 use mathlib.Core.Logic.{◌⊎◌, inl, inr, ⊎_elim}
 use mathlib.Core.Bool.{Bool, true}
-use mathlib.Core.Option.{Option, some}
+use Rattle.std.specs.Prelude.{Option, Some}
 use mathlib.Core.List.{List, [], ◌∷◌, ◌++◌, append-nil}
 use native.Mathlib.Omega.{arith}
 use native.Mathlib.Nat.{eq-or-lt_of_le, eq-zero-or-pos}
@@ -23,7 +23,7 @@ pub record EndsBroken (go : ℕ → ℕ → Option ℕ) (breaks : ℕ → ℕ �
   pub action : ℕ
   pub place : ℕ
   pub is : v ≡ run ++ (action ∷ [])
-  pub led : leads go 0 run ≡ some place
+  pub led : leads go 0 run ≡ Some place
   pub broken : breaks place action ≡ true
 
 -- ---- Runs from their ends
@@ -105,19 +105,19 @@ module _ {go : ℕ → ℕ → Option ℕ} {n : ℕ} {from action : ℕ → ℕ}
   way_there j l = way_below (suc j) j (omega arith) l
 
   -- The way to a place leads there.
-  pub way_leads : (j : ℕ) → j < n → (w : List ℕ) → WayTo from action j w → leads go 0 w ≡ some j
+  pub way_leads : (j : ℕ) → j < n → (w : List ℕ) → WayTo from action j w → leads go 0 w ≡ Some j
   way_leads _ l _ way_start = leads_nil go 0
   way_leads _ l _ (way_on j w k p) =
       snoc_in go 0 (from j) j w (action j) (way_leads (from j) (from_there j k l) w p) (numbered.met j k l).leads
 
   -- Whatever a run leads to is a place.
-  pub led_inside : (v : List ℕ) (j : ℕ) → leads go 0 v ≡ some j → j < n
-  led_inside = by_last (λ v. (j : ℕ) → leads go 0 v ≡ some j → j < n) first on
+  pub led_inside : (v : List ℕ) (j : ℕ) → leads go 0 v ≡ Some j → j < n
+  led_inside = by_last (λ v. (j : ℕ) → leads go 0 v ≡ Some j → j < n) first on
     where
-      first : (j : ℕ) → leads go 0 [] ≡ some j → j < n
+      first : (j : ℕ) → leads go 0 [] ≡ Some j → j < n
       first j e = let z = some_one e (leads_nil go 0) in omega (arith, numbered.some_place)
 
-      on : (u : List ℕ) (a : ℕ) → ((j : ℕ) → leads go 0 u ≡ some j → j < n) → (j : ℕ) → leads go 0 (u ++ (a ∷ [])) ≡ some j → j < n
+      on : (u : List ℕ) (a : ℕ) → ((j : ℕ) → leads go 0 u ≡ Some j → j < n) → (j : ℕ) → leads go 0 (u ++ (a ∷ [])) ≡ Some j → j < n
       on u a h j e = let (k, f, s) = snoc_out go 0 j u a e in numbered.inside k a j (h k f) s
 
   -- Ways that are the same lead to one place.
@@ -160,29 +160,29 @@ module _ {go : ℕ → ℕ → Option ℕ} {n : ℕ} {from action : ℕ → ℕ}
           step_order i a k b w x u no_later (λ z. way_order i k z l w x p q) (λ d. way_one from action k w x (rw d at p) q) (ih x q)
 
   -- No run with a step to place j at its end comes sooner than the way there, if none to the place before the step does.
-  no_later_on : (u : List ℕ) (a k : ℕ) → k < n → ((x : List ℕ) → WayTo from action k x → (x ≡ u) ⊎ Sooner x u) → (j : ℕ) → go k a ≡ some j
+  no_later_on : (u : List ℕ) (a k : ℕ) → k < n → ((x : List ℕ) → WayTo from action k x → (x ≡ u) ⊎ Sooner x u) → (j : ℕ) → go k a ≡ Some j
       → (w : List ℕ) → WayTo from action j w → (w ≡ u ++ (a ∷ [])) ⊎ Sooner w (u ++ (a ∷ []))
   no_later_on u a k l ih _ s _ way_start = inr (empty_sooner u a)
   no_later_on u a k l ih _ s _ (way_on j w m q) =
       step_no_later (from j) (action j) k a l ((numbered.met j m (numbered.inside k a j l s)).first k a j s (omega arith)) w u q ih
 
   -- The way to a place comes no later than any run that leads there.
-  pub way_no_later : (j : ℕ) (w v : List ℕ) → WayTo from action j w → leads go 0 v ≡ some j → (w ≡ v) ⊎ Sooner w v
+  pub way_no_later : (j : ℕ) (w v : List ℕ) → WayTo from action j w → leads go 0 v ≡ Some j → (w ≡ v) ⊎ Sooner w v
   way_no_later j w v p e =
-      by_last (λ u. (i : ℕ) (z : List ℕ) → WayTo from action i z → leads go 0 u ≡ some i → (z ≡ u) ⊎ Sooner z u) first on v j w p e
+      by_last (λ u. (i : ℕ) (z : List ℕ) → WayTo from action i z → leads go 0 u ≡ Some i → (z ≡ u) ⊎ Sooner z u) first on v j w p e
     where
-      first : (j : ℕ) (w : List ℕ) → WayTo from action j w → leads go 0 [] ≡ some j → (w ≡ []) ⊎ Sooner w []
+      first : (j : ℕ) (w : List ℕ) → WayTo from action j w → leads go 0 [] ≡ Some j → (w ≡ []) ⊎ Sooner w []
       first j w p e = inl (way_zero from action j w p (some_one e (leads_nil go 0)))
 
-      on : (u : List ℕ) (a : ℕ) → ((j : ℕ) (w : List ℕ) → WayTo from action j w → leads go 0 u ≡ some j → (w ≡ u) ⊎ Sooner w u)
-          → (j : ℕ) (w : List ℕ) → WayTo from action j w → leads go 0 (u ++ (a ∷ [])) ≡ some j
+      on : (u : List ℕ) (a : ℕ) → ((j : ℕ) (w : List ℕ) → WayTo from action j w → leads go 0 u ≡ Some j → (w ≡ u) ⊎ Sooner w u)
+          → (j : ℕ) (w : List ℕ) → WayTo from action j w → leads go 0 (u ++ (a ∷ [])) ≡ Some j
           → (w ≡ u ++ (a ∷ [])) ⊎ Sooner w (u ++ (a ∷ []))
       on u a h j w p e =
           let (k, f, s) = snoc_out go 0 j u a e in
           no_later_on u a k (led_inside u k f) (λ x q. h k x q f) j s w p
 
   -- No run leads to a place sooner than the way there.
-  pub way_soonest : (j : ℕ) (w v : List ℕ) → WayTo from action j w → leads go 0 v ≡ some j → Sooner v w → ⊥
+  pub way_soonest : (j : ℕ) (w v : List ℕ) → WayTo from action j w → leads go 0 v ≡ Some j → Sooner v w → ⊥
   way_soonest j w v p e s = not_before w v (way_no_later j w v p e) s
 
   -- ---- Broken steps

@@ -1,7 +1,7 @@
 -- What the follower promises.
 use Rattle.std.specs.Prelude.{ℕ, ◌≡◌, List}
 use Rattle.base.specs.Answers.{follow_said}
-use Rattle.base.specs.declared.FollowAnswer.{FollowAnswer}
+use Rattle.base.specs.Answers.{FollowAnswer}
 use Rattle.outcome.specs.Follow.{follow_outcome}
 
 -- The answer is the outcome's, and so are its number and values in the paper.

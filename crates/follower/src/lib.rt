@@ -4,7 +4,6 @@
 ghost use Rattle.follower.specs.Following.{Follows};
 
 use base::{FollowAnswer, Refusal};
-use file_table::Target;
 
 // The row that an action leads to from a row of the table. Refused with 13 if the bytes are not laid
 // out as a table file, 17 if the row or the action lies outside the table, 18 if the action is not
@@ -13,16 +12,13 @@ pub fn follow(table: &[u8], row: usize, action: usize) -> FollowAnswer
     ensures { Follows result table.now row action }
 {
     if !file_table::laid_out(table) {
-        return FollowAnswer::Refused(Refusal::Layout);
+        return Err(Refusal::Layout);
     }
     if file_table::rows(table) <= row {
-        return FollowAnswer::Refused(Refusal::Outside);
+        return Err(Refusal::Outside);
     }
     if file_table::actions(table) <= action {
-        return FollowAnswer::Refused(Refusal::Outside);
+        return Err(Refusal::Outside);
     }
-    match file_table::step_to(table, row, action) {
-        Target::Row(next) => FollowAnswer::Row(next),
-        Target::Nothing => FollowAnswer::Refused(Refusal::NotAllowed),
-    }
+    file_table::step_to(table, row, action).ok_or(Refusal::NotAllowed)
 }

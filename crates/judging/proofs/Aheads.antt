@@ -15,7 +15,7 @@ use Rattle.logic.specs.Runs.{Trace, duration}
 use Rattle.logic.specs.declared.Tick.{Tick}
 use Rattle.judging.specs.Judging.{passes_for, passes_until}
 use Rattle.judging.specs.Ahead.{here, never, seen_before, comes_within, fails_ahead, ends_ahead}
-use Rattle.judging.specs.declared.Ahead.{Ahead}
+use Rattle.std.specs.Prelude.{Option, Some, None}
 
 -- what is here comes within any time
 here_within : (t : Tick) → comes_within here t ≡ true
@@ -35,15 +35,14 @@ plus_at_most d e t =
     fits first second = le-leb (d.0 + e.0) t.0 (omega arith)
 
 -- what comes behind an action comes within a time if the action fits into it, and the rest into what is left of it
-pub seen_within : (d t : Tick) (ahead : Ahead) → comes_within (seen_before d ahead) t ≡ (at_most d t && comes_within ahead (minus t d))
+pub seen_within : (d t : Tick) (ahead : Option Tick) → comes_within (seen_before d ahead) t ≡ (at_most d t && comes_within ahead (minus t d))
 unfolding comes_within seen_before
-seen_within d t ahead = go ahead.comes (at_most d t) (plus_at_most d ahead.ticks t)
+seen_within d t (Some ahead) = plus_at_most d ahead t
+seen_within d t None = go (at_most d t)
   where
-    go : (b fits : Bool) → at_most (plus d ahead.ticks) t ≡ (fits && at_most ahead.ticks (minus t d))
-        → (b && at_most (plus d ahead.ticks) t) ≡ (fits && (b && at_most ahead.ticks (minus t d)))
-    go true fits e = e
-    go false true e = refl
-    go false false e = refl
+    go : (fits : Bool) → false ≡ (fits && false)
+    go true = refl
+    go false = refl
 
 -- The part of an A passes for a time exactly if it does not fail within it.
 pub passes_for_ahead : (tower : Tower) (g : Trace → Bool) (run : Trace) (t : Tick)

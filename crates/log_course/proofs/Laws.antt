@@ -5,7 +5,7 @@ use mathlib.Core.Path.{◌≡◌}
 use mathlib.Core.List.{List}
 use lib.ListN.{replicate, length-replicate}
 use Rattle.outcome.specs.Log.{first_course}
-use Rattle.outcome.specs.declared.Course.{Course}
+use Rattle.outcome.specs.Log.{Course}
 use Rattle.area_bytes.proofs.Clearing.{cleared_byte}
 use Rattle.file_table.proofs.Laws.{laid_out_known}
 use Rattle.checker_rows.specs.RowVerdict.{RowsJudgeable}

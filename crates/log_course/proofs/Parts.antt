@@ -14,7 +14,7 @@ use Rattle.reading.specs.LogReading.{log_from}
 use Rattle.reading.specs.declared.Stroke.{Stroke}
 use Rattle.reading.proofs.LogPieces.{in_pieces_strokes, in_pieces_next, ends_early}
 use Rattle.outcome.specs.Log.{next_course, course_along}
-use Rattle.outcome.specs.declared.Course.{Course}
+use Rattle.outcome.specs.Log.{Course}
 use Rattle.log_course.specs.Following.{LinesFollowed}
 use Rattle.log_course.specs.declared.Followed.{Followed}
 

@@ -4,7 +4,8 @@ use native.Mathlib.Omega.{arith}
 use native.Mathlib.Numerals.{add-one}
 use mathlib.Core.Path.{◌≡◌, refl, sym, ◌∙◌, ap, subst}
 use mathlib.Core.Bool.{Bool, true, false}
-use mathlib.Core.Option.{Option, none, some, bind}
+use Rattle.std.specs.Prelude.{Option, None, Some}
+use Rattle.base.specs.Options.{bind}
 use mathlib.Core.List.{List, []}
 use mir.Syntax.{w8, w16, w64}
 use mir.Val.{Fits}
@@ -30,19 +31,15 @@ use Rattle.reading.proofs.LogReading.{stroke_parts, stroke_ahead, log_end, log_b
 use Rattle.reading.proofs.LaidOut.{row_of_table_at, length_table_of}
 use Rattle.reading.proofs.TableReading.{laid_out_fits}
 use Rattle.outcome.specs.Log.{on_time, next_place, fits_or_fails, next_course, course_along}
-use Rattle.outcome.specs.declared.Due.{Due}
-use Rattle.outcome.specs.declared.Due.TheVariants.{Free, At}
+use Rattle.outcome.specs.Log.{Course, misfits}
+use Rattle.std.specs.Prelude.{Err, Ok}
 use Rattle.outcome.specs.declared.LogPlace.{LogPlace}
-use Rattle.outcome.specs.declared.Course.{Course}
-use Rattle.file_table.specs.Moves.{target_read}
-use Rattle.file_table.specs.declared.Target.{Target}
-use Rattle.file_table.specs.declared.Target.TheVariants.{Row, Nothing}
+use Rattle.outcome.specs.declared.Misfit.{Misfit}
 use Rattle.file_table.proofs.Laws.{header_of, laid_out_known, target_row, target_nothing}
 use Rattle.checker_rows.specs.RowVerdict.{RowsJudgeable}
 use Rattle.text_numerals.proofs.Laws.{ahead_before, ahead_behind}
 use Rattle.log_lines.specs.Lines.{line_told, LineEnds}
 use Rattle.log_lines.specs.declared.LogLine.{LogLine}
-use Rattle.log_lines.specs.declared.LogLine.TheVariants as Line
 use Rattle.log_lines.proofs.Laws.{no_line}
 use Rattle.log_course.specs.Following.{Noted, OnRow, PlaceFollowed, LineFollowed, NoEnd, LastEnd, LinesFollowed}
 
@@ -64,7 +61,7 @@ module _ (table : List ℕ) (row action : ℕ) (laid : laid_out table ≡ true) 
   cell_there known noted few = omega (arith, row_few, noted.room)
 
   -- A target row is one of the table's, so that its note fits.
-  module _ (t : Target) (next : ℕ) (is_t : t ≡ target_read (move (table_of table) row action)) (to : t ≡ Row next) where
+  module _ (t : Option ℕ) (next : ℕ) (is_t : t ≡ move (table_of table) row action) (to : t ≡ Some next) where
     next_few : next < 1000
     unfolding most_rows
     next_few =
@@ -80,7 +77,7 @@ module _ (table : List ℕ) (row action : ℕ) (laid : laid_out table ≡ true) 
     note_small = omega (arith, next_few)
 
 -- The answer, as it was told.
-pub told_as : (t u said : Target) → t ≡ said → t ≡ u → u ≡ said
+pub told_as : (t u said : Option ℕ) → t ≡ said → t ≡ u → u ≡ said
 told_as t u said e f = sym f ∙ e
 
 -- What is noted is a number of two bytes.
@@ -89,14 +86,13 @@ noted_fits known at small = omega (arith, small at)
 
 module _ (table known : List ℕ) (row action : ℕ) (so_far : Noted table known) (inside : row < rows_of table) (few : action < 16) where
   -- What is noted is the move.
-  pub noted_is : (noted : ℕ) → noted ≡ get_or known (16 * row + action) 0 → 0 < noted → Row (noted - 1) ≡ target_read (move (table_of table) row action)
-  unfolding target_read
+  pub noted_is : (noted : ℕ) → noted ≡ get_or known (16 * row + action) 0 → 0 < noted → Some (noted - 1) ≡ move (table_of table) row action
   noted_is noted e some_one =
       let f : get_or known (16 * row + action) 0 ≡ suc (noted - 1) = omega arith in
       rw (so_far.moves row action (noted - 1) inside few f)
 
   -- A move that was looked up may be noted.
-  pub noting : (t : Target) (next at : ℕ) → at ≡ 16 * row + action → t ≡ target_read (move (table_of table) row action) → t ≡ Row next
+  pub noting : (t : Option ℕ) (next at : ℕ) → at ≡ 16 * row + action → t ≡ move (table_of table) row action → t ≡ Some next
       → 16 * row + action < length known → Noted table (set known at (next + 1))
   noting t next at is_at is_t to there_is =
       record {
@@ -107,7 +103,7 @@ module _ (table known : List ℕ) (row action : ℕ) (so_far : Noted table known
         ];
       }
     where
-      here : (r a n : ℕ) → a < 16 → get_or (set known at (next + 1)) (16 * r + a) 0 ≡ suc n → at ≡ 16 * r + a → move (table_of table) r a ≡ some n
+      here : (r a n : ℕ) → a < 16 → get_or (set known at (next + 1)) (16 * r + a) 0 ≡ suc n → at ≡ 16 * r + a → move (table_of table) r a ≡ Some n
       here r a n m e same =
           let row_same : row ≡ r = omega arith in
           let action_same : action ≡ a = omega arith in
@@ -117,11 +113,11 @@ module _ (table known : List ℕ) (row action : ℕ) (so_far : Noted table known
 
 -- ---- the tick
 
-pub free_fits : (due : Due) (tick : Tick) → due ≡ Free → true ≡ on_time due tick
+pub free_fits : (due : Option Tick) (tick : Tick) → due ≡ None → true ≡ on_time due tick
 unfolding on_time
 free_fits due tick e = rw e
 
-pub due_fits : (due : Due) (tick wanted : Tick) → due ≡ At wanted → eqb wanted.0 tick.0 ≡ on_time due tick
+pub due_fits : (due : Option Tick) (tick wanted : Tick) → due ≡ Some wanted → eqb wanted.0 tick.0 ≡ on_time due tick
 unfolding on_time same_ticks
 due_fits due tick wanted e = rw e
 
@@ -141,8 +137,8 @@ module _ (tower table : List ℕ) (ok : RowsJudgeable tower table) where
   pub state_inside : (r x : ℕ) → r < rows_of table → x ≡ row_state table r → x < (tower_of tower).states
   state_inside r x l e = omega (arith, ok.states, ((laid_out_known table ok.layout).row r l).state)
 
-  module _ (r a q : ℕ) (t : Target) (inside : r < rows_of table) (is_t : t ≡ target_read (move (table_of table) r a)) (to : t ≡ Row q) where
-    abbrev moves : move (table_of table) r a ≡ some q
+  module _ (r a q : ℕ) (t : Option ℕ) (inside : r < rows_of table) (is_t : t ≡ (move (table_of table) r a)) (to : t ≡ Some q) where
+    abbrev moves : move (table_of table) r a ≡ Some q
     moves = target_row (move (table_of table) r a) t q is_t to
 
     -- An allowed action is one of the tower's,
@@ -166,18 +162,18 @@ sum_fits tower x a s d e small bytes = omega (arith, bytes ((layout_of tower).he
 -- ---- a line from a place on
 
 -- A line that does not fit is on no row.
-fails_on_row : (table : List ℕ) (line : Position) (here : LogPlace) (s : Stroke) → OnRow table (Course.Fails line here s)
+fails_on_row : (table : List ℕ) (line : Position) (here : LogPlace) (s : Stroke) → OnRow table (misfits line here s)
 fails_on_row table line here s = record { inside = λ place e. let z : ◌≡◌ {A = ℕ} 0 1 = cc in absurd (omega arith) }
 
-module _ (tower table : List ℕ) (line : Position) (here : LogPlace) (s : Stroke) (t : Target)
-    (is_t : t ≡ target_read (move (table_of table) here.row s.action)) where
-  pub not_allowed : t ≡ Nothing → PlaceFollowed (Course.Fails line here s) tower table line here s
+module _ (tower table : List ℕ) (line : Position) (here : LogPlace) (s : Stroke) (t : Option ℕ)
+    (is_t : t ≡ move (table_of table) here.row s.action) where
+  pub not_allowed : t ≡ None → PlaceFollowed (misfits line here s) tower table line here s
   unfolding next_place only_if bind fits_or_fails
   not_allowed e =
       record { answer = rw (target_nothing (move (table_of table) here.row s.action) t is_t e); on_row = fails_on_row table line here s }
 
-  module _ (q : ℕ) (to : t ≡ Row q) (b : Bool) (is_b : b ≡ on_time here.due s.tick) where
-    pub not_on_time : b ≡ false → PlaceFollowed (Course.Fails line here s) tower table line here s
+  module _ (q : ℕ) (to : t ≡ Some q) (b : Bool) (is_b : b ≡ on_time here.due s.tick) where
+    pub not_on_time : b ≡ false → PlaceFollowed (misfits line here s) tower table line here s
     unfolding next_place only_if bind fits_or_fails
     not_on_time e =
         record {
@@ -187,7 +183,7 @@ module _ (tower table : List ℕ) (line : Position) (here : LogPlace) (s : Strok
 
     pub line_fits : b ≡ true → RowsJudgeable tower table → here.row < rows_of table → (x : ℕ) (d : Tick) → x ≡ row_state table here.row
         → d ≡ (tower_of tower).step_length x s.action
-        → PlaceFollowed (Course.Fits (record { row = q; due = At (ticks (s.tick.0 + d.0)) })) tower table line here s
+        → PlaceFollowed (Ok (record { row = q; due = Some (ticks (s.tick.0 + d.0)) })) tower table line here s
     unfolding next_place only_if bind fits_or_fails plus row_of_table
     line_fits e ok inside x d at_x is_d =
         record {
@@ -199,18 +195,17 @@ module _ (tower table : List ℕ) (line : Position) (here : LogPlace) (s : Strok
 
 module _ (tower table : List ℕ) (line : Position) (course : Course) (s : Stroke) where
   -- The row of a place that was reached is a row.
-  pub place_inside : (here : LogPlace) → course ≡ Course.Fits here → OnRow table course → here.row < rows_of table
+  pub place_inside : (here : LogPlace) → course ≡ Ok here → OnRow table course → here.row < rows_of table
   place_inside here e on = on.inside here e
 
-  pub one_more : (here : LogPlace) (r : Course) → course ≡ Course.Fits here → PlaceFollowed r tower table line here s
+  pub one_more : (here : LogPlace) (r : Course) → course ≡ Ok here → PlaceFollowed r tower table line here s
       → LineFollowed r tower table line course s
   unfolding next_course
   one_more here r e f = record { answer = rw e f.answer; on_row = f.on_row }
 
-  pub stays_wrong : (first : Position) (here : LogPlace) (said : Stroke) → course ≡ Course.Fails first here said
-      → LineFollowed (Course.Fails first here said) tower table line course s
+  pub stays_wrong : (first : Misfit) (r : Course) → course ≡ Err first → r ≡ Err first → LineFollowed r tower table line course s
   unfolding next_course
-  stays_wrong first here said e = record { answer = rw e; on_row = fails_on_row table first here said }
+  stays_wrong first r e f = record { answer = rw (e, f); on_row = rw f (fails_on_row table first.line first.place first.stroke) }
 
 -- ---- the end of the last line that is ended
 
@@ -219,15 +214,19 @@ module _ (log : List ℕ) where
   pub no_end_past : NoEnd (length log) log
   no_end_past = record { none_ahead = λ h. omega (arith, h.ahead, h.inside) }
 
-  module _ (end : ℕ) (none : NoEnd end log) where
+  module _ (end : ℕ) (no_later : NoEnd end log) where
     pub no_end_before : (byte_at log (end - 1) ≡ 10 → ⊥) → NoEnd (end - 1) log
-    no_end_before other = record { none_ahead = λ h. none.none_ahead (ahead_before _ log end (end - 1 + 1) (omega arith) (ahead_behind _ log (end - 1) h other)) }
+    no_end_before other = record { none_ahead = λ h. no_later.none_ahead (ahead_before _ log end (end - 1 + 1) (omega arith) (ahead_behind _ log (end - 1) h other)) }
 
-    pub end_found : end ≤ length log → byte_at log (end - 1) ≡ 10 → LastEnd end log
-    end_found inside e = record { inside = inside; behind = λ _. e; no_more = none }
+    pub end_found : end ≤ length log → 0 < end → byte_at log (end - 1) ≡ 10 → LastEnd (end - 1 + 1) log
+    end_found inside some_left e =
+        let same : end ≡ end - 1 + 1 = omega arith in
+        subst (λ q. LastEnd q log) same (record { inside = inside; behind = λ _. e; no_more = no_later })
 
-    pub end_none : end ≤ 0 → LastEnd end log
-    end_none least = record { inside = omega arith; behind = λ some_left. absurd (omega arith); no_more = none }
+    pub end_none : end ≤ 0 → LastEnd 0 log
+    end_none least =
+        let same : end ≡ 0 = omega arith in
+        record { inside = omega arith; behind = λ some_left. absurd (omega arith); no_more = subst (λ q. NoEnd q log) same no_later }
 
   -- Before it byte 10 is ahead.
   pub end_ahead : (end at : ℕ) → LastEnd end log → at < end → LineEnds log at
@@ -248,15 +247,15 @@ pub record LinesLeft (tower table log noted_first : List ℕ) (first : ℕ) (cou
       ≡ course_along (tower_of tower) (table_of table) (position first) course (log_from log 0).strokes
 
 -- a line that is read, and one that is not
-told_line : (o : Option (Token Stroke)) (r : LogLine) (s : Stroke) (q : ℕ) → r ≡ line_told o → r ≡ Line.Read s q → o ≡ some (record { said = s; next = q })
+told_line : (o : Option (Token Stroke)) (l : LogLine) → Some l ≡ line_told o → o ≡ Some (record { said = l.stroke; next = l.next })
 unfolding line_told
-told_line none r s q e f = let z : ◌≡◌ {A = ℕ} 0 1 = cc in absurd (omega arith)
-told_line (some t) r s q e f = let a : t.said ≡ s = cc in let b : t.next ≡ q = cc in rw (← a, ← b)
+told_line None l e = cc
+told_line (Some t) l e = let same : l ≡ record { stroke = t.said; next = t.next } = cc in rw same
 
-told_none : (o : Option (Token Stroke)) (r : LogLine) → r ≡ line_told o → r ≡ Line.Malformed → o ≡ none
+told_none : (o : Option (Token Stroke)) → None ≡ line_told o → o ≡ None
 unfolding line_told
-told_none none r e f = refl
-told_none (some t) r e f = let z : ◌≡◌ {A = ℕ} 0 1 = cc in absurd (omega arith)
+told_none None e = refl
+told_none (Some t) e = cc
 
 module _ (tower table log noted_first : List ℕ) (first : ℕ) (course : Course) where
   pub lines_start : OnRow table course → Noted table noted_first → LinesLeft tower table log noted_first first course noted_first 0 first course
@@ -273,26 +272,26 @@ module _ (tower table log noted_first : List ℕ) (first : ℕ) (course : Course
     pub room_there : length known ≡ length noted_first
     room_there = left.same_room
 
-    module _ (r : LogLine) (is_r : r ≡ line_told (stroke_at log at)) (s : Stroke) (q : ℕ) (read : r ≡ Line.Read s q) where
-      abbrev line_there : stroke_at log at ≡ some (record { said = s; next = q })
-      line_there = told_line (stroke_at log at) r s q is_r read
+    module _ (l : LogLine) (read : Some l ≡ line_told (stroke_at log at)) where
+      abbrev line_there : stroke_at log at ≡ Some (record { said = l.stroke; next = l.next })
+      line_there = told_line (stroke_at log at) l read
 
-      pub tick_small : s.tick.0 ≤ most_tick
+      pub tick_small : l.stroke.tick.0 ≤ most_tick
       tick_small =
           let (n, tick, small, (a, action, same)) = stroke_parts log at line_there in subst (λ (t : Token Stroke). t.said.tick.0 ≤ most_tick) same small
 
       pub line_fits_word : first + length log < 18446744073709551616 → Fits w64 (line + 1)
       line_fits_word few = let (far, in_log) = stroke_ahead log at _ line_there in omega (arith, left.few)
 
-      pub at_falls : (n : ℕ) → n ≡ length log - at → length log - q < n
+      pub at_falls : (n : ℕ) → n ≡ length log - at → length log - l.next < n
       at_falls n e = let (far, in_log) = stroke_ahead log at _ line_there in omega arith
 
-      pub lines_more : (after_it : Course) (known_now : List ℕ) → LineFollowed after_it tower table (position line) so_far s → Noted table known_now
-          → length known_now ≡ length known → LinesLeft tower table log noted_first first course known_now q (line + 1) after_it
+      pub lines_more : (after_it : Course) (known_now : List ℕ) → LineFollowed after_it tower table (position line) so_far l.stroke → Noted table known_now
+          → length known_now ≡ length known → LinesLeft tower table log noted_first first course known_now l.next (line + 1) after_it
       unfolding course_along with_line after
       lines_more after_it known_now followed noted room =
           let (far, in_log) = stroke_ahead log at _ line_there in
-          let more : log_from log at ≡ with_line s (log_from log q) = log_line log at _ (omega arith) line_there in
+          let more : log_from log at ≡ with_line l.stroke (log_from log l.next) = log_line log at _ (omega arith) line_there in
           record {
             same_room = room ∙ left.same_room;
             noted = noted;
@@ -304,7 +303,7 @@ module _ (tower table log noted_first : List ℕ) (first : ℕ) (course : Course
           }
 
 -- Where no line is read nothing more is, in the log or past it.
-none_read : (log : List ℕ) (at : ℕ) → stroke_at log at ≡ none → log_from log at ≡ record { strokes = []; next = at }
+none_read : (log : List ℕ) (at : ℕ) → stroke_at log at ≡ None → log_from log at ≡ record { strokes = []; next = at }
 none_read log at e =
     whether (leb (length log) at) (λ f. log_end log at (leb-true (length log) at f)) (λ f. log_bad log at (leb-false (length log) at f) e)
 
@@ -312,7 +311,7 @@ none_read log at e =
 module _ (tower table log noted_first : List ℕ) (first : Position) (course : Course) (known : List ℕ) (at line : ℕ) (so_far : Course)
     (left : LinesLeft tower table log noted_first first.0 course known at line so_far) where
   -- where no line is read, this is what was to come
-  stopped : stroke_at log at ≡ none → LinesFollowed (record { next = at; line = position line; course = so_far }) tower table log first course
+  stopped : stroke_at log at ≡ None → LinesFollowed (record { next = at; line = position line; course = so_far }) tower table log first course
   unfolding course_along
   stopped bad =
       let e = none_read log at bad in
@@ -328,6 +327,6 @@ module _ (tower table log noted_first : List ℕ) (first : Position) (course : C
       → LinesFollowed (record { next = at; line = position line; course = so_far }) tower table log first course
   lines_end end last over = stopped (no_line log at (λ h. last.no_more.none_ahead (ahead_before _ log end at over h)))
 
-  pub lines_stop : (r : LogLine) → r ≡ line_told (stroke_at log at) → r ≡ Line.Malformed
+  pub lines_stop : None ≡ line_told (stroke_at log at)
       → LinesFollowed (record { next = at; line = position line; course = so_far }) tower table log first course
-  lines_stop r is_r e = stopped (told_none (stroke_at log at) r is_r e)
+  lines_stop e = stopped (told_none (stroke_at log at) e)

@@ -1,6 +1,6 @@
 -- What the functions that follow a log promise: one line, where the last line ends, and the lines of some bytes.
 use Rattle.std.specs.Prelude.{ℕ, suc, ◌+◌, ◌-◌, ◌*◌, ◌≤◌, ◌<◌, ◌≡◌, List, length, get_or}
-use Rattle.std.proofs.Math.Option.{some}
+use Rattle.std.specs.Prelude.{Some}
 use Rattle.base.specs.Bytes.{byte_at}
 use Rattle.logic.specs.Time.{position}
 use Rattle.logic.specs.Tower.{tower_of}
@@ -11,8 +11,8 @@ use Rattle.reading.specs.LogReading.{log_from}
 use Rattle.reading.specs.declared.Stroke.{Stroke}
 use Rattle.outcome.specs.Log.{next_place, fits_or_fails, next_course, course_along}
 use Rattle.outcome.specs.declared.LogPlace.{LogPlace}
-use Rattle.outcome.specs.declared.Course.{Course}
-use Rattle.outcome.specs.declared.Course.TheVariants.{Fits}
+use Rattle.outcome.specs.Log.{Course}
+use Rattle.std.specs.Prelude.{Ok}
 use Rattle.log_lines.specs.Lines.{LineEnds}
 use Rattle.log_course.specs.declared.Followed.{Followed}
 
@@ -20,11 +20,11 @@ use Rattle.log_course.specs.declared.Followed.{Followed}
 -- and 1 more.
 pub record Noted (table known : List ℕ) : Type 0 where
   pub room : length known ≡ 16000
-  pub moves : (r a n : ℕ) → r < rows_of table → a < 16 → get_or known (16 * r + a) 0 ≡ suc n → move (table_of table) r a ≡ some n
+  pub moves : (r a n : ℕ) → r < rows_of table → a < 16 → get_or known (16 * r + a) 0 ≡ suc n → move (table_of table) r a ≡ Some n
 
 -- Where every line fits, the row is one of the table's.
 pub record OnRow (table : List ℕ) (course : Course) : Type 0 where
-  pub inside : (here : LogPlace) → course ≡ Fits here → here.row < rows_of table
+  pub inside : (here : LogPlace) → course ≡ Ok here → here.row < rows_of table
 
 -- A line from a place on.
 pub record PlaceFollowed (r : Course) (tower table : List ℕ) (line : Position) (here : LogPlace) (s : Stroke) : Type 0 where

@@ -7,13 +7,11 @@ ghost use Rattle.outcome.specs.Log.{on_time, first_course};
 ghost use Rattle.checker_rows.specs.RowVerdict.{RowsJudgeable};
 ghost use Rattle.reading.specs.TableReading.{rows_of, laid_out, table_of};
 ghost use Rattle.logic.specs.Tables.{move};
-ghost use Rattle.file_table.specs.Moves.{target_read};
 ghost use Rattle.log_course.specs.Following.{Noted, OnRow, PlaceFollowed, LineFollowed, LastEnd, LinesFollowed};
 
-use file_table::Target;
 use log_lines::LogLine;
 use logic::{Position, Tick};
-use outcome::{Course, Due, LogPlace};
+use outcome::{Course, LogPlace, Misfit};
 use reading::Stroke;
 
 // How far a log has been followed: the position of its next line, that line's number, and what the
@@ -32,11 +30,11 @@ pub const MOVES: usize = 16000;
 
 // Where an action leads from a row. A log comes by the same moves again and again, so a move that was
 // looked up is noted in `known`: the target row and 1 more; 0 is none yet.
-fn step_known(table: &[u8], known: &mut [u16], row: usize, action: usize) -> Target
+fn step_known(table: &[u8], known: &mut [u16], row: usize, action: usize) -> Option<usize>
     requires table_value { laid_out table.now ≡ true }
     requires row_bound { row < rows_of table.now }
     requires noted { Noted table.now known.old }
-    ensures value { result ≡ target_read (move (table_of table.now) row action) }
+    ensures value { result ≡ move (table_of table.now) row action }
     ensures noted_2 { Noted table.now known.new }
 {
     if ACTIONS <= action {
@@ -45,32 +43,27 @@ fn step_known(table: &[u8], known: &mut [u16], row: usize, action: usize) -> Tar
     let at = ACTIONS * row + action;
     let noted = known[at] as usize;
     if 0 < noted {
-        return Target::Row(noted - 1);
+        return Some(noted - 1);
     }
-    let Target::Row(next) = file_table::step_to(table, row, action) else {
-        return Target::Nothing;
-    };
+    let next = file_table::step_to(table, row, action)?;
     known[at] = (next + 1) as u16;
-    Target::Row(next)
+    Some(next)
 }
 
 // At first: row 0, and any tick.
 pub fn first() -> Course
     ensures { result ≡ first_course }
 {
-    Course::Fits(LogPlace {
-        row: 0,
-        due: Due::Free,
-    })
+    Ok(LogPlace { row: 0, due: None })
 }
 
 // The tick is the one that is due.
-fn on_time(due: Due, tick: Tick) -> bool
+fn on_time(due: Option<Tick>, tick: Tick) -> bool
     ensures { result ≡ on_time due tick }
 {
     match due {
-        Due::Free => true,
-        Due::At(wanted) => wanted.0 == tick.0,
+        None => true,
+        Some(wanted) => wanted == tick,
     }
 }
 
@@ -78,13 +71,13 @@ fn on_time(due: Due, tick: Tick) -> bool
 fn follow_place(
     tower: &[u8],
     table: &[u8],
-    target: Target,
+    target: Option<usize>,
     line: Position,
     place: LogPlace,
     stroke: Stroke,
 ) -> Course
     requires rows_judgeable { RowsJudgeable tower.now table.now }
-    requires target_value { target ≡ target_read (move (table_of table.now) place.row stroke.action) }
+    requires target_value { target ≡ move (table_of table.now) place.row stroke.action }
     requires row_bound { place.row < rows_of table.now }
     requires tick_le_most_tick { stroke.tick.0 ≤ most_tick }
     ensures { PlaceFollowed result tower.now table.now line place stroke }
@@ -93,24 +86,24 @@ fn follow_place(
     let action = stroke.action;
     let tick = stroke.tick;
     let due = place.due;
-    let Target::Row(next) = target else {
-        return Course::Fails {
+    let Some(next) = target else {
+        return Err(Misfit {
             line,
             place,
             stroke,
-        };
+        });
     };
     if !on_time(due, tick) {
-        return Course::Fails {
+        return Err(Misfit {
             line,
             place,
             stroke,
-        };
+        });
     }
     let length = file_tower::step_length(tower, file_table::row_state(table, row), action);
-    Course::Fits(LogPlace {
+    Ok(LogPlace {
         row: next,
-        due: Due::At(Tick(tick.0 + length.0)),
+        due: Some(Tick(tick.0 + length.0)),
     })
 }
 
@@ -130,21 +123,9 @@ fn follow_line(
     ensures line_followed { LineFollowed result tower.now table.now line course stroke }
     ensures noted_2 { Noted table.now known.new }
 {
-    match course {
-        Course::Fits(place) => {
-            let target = step_known(table, known, place.row, stroke.action);
-            follow_place(tower, table, target, line, place, stroke)
-        }
-        Course::Fails {
-            line: first,
-            place,
-            stroke: said,
-        } => Course::Fails {
-            line: first,
-            place,
-            stroke: said,
-        },
-    }
+    let place = course?;
+    let target = step_known(table, known, place.row, stroke.action);
+    follow_place(tower, table, target, line, place, stroke)
 }
 
 // The end of the last line that is ended: the position behind the last byte 10, or 0. Before it byte 10 is
@@ -152,14 +133,12 @@ fn follow_line(
 fn last_end(log: &[u8]) -> usize
     ensures { LastEnd result log.now }
 {
-    let mut end = log.len();
-    while 0 < end {
-        if log[end - 1] == b'\n' {
-            return end;
+    for at in (0..log.len()).rev() {
+        if log[at] == b'\n' {
+            return at + 1;
         }
-        end -= 1;
     }
-    end
+    0
 }
 
 // The lines of a log, of which these bytes may be a part, from the line with this number on: to the end
@@ -184,7 +163,7 @@ pub fn follow_lines(
     let mut line = first.0;
     let mut so_far = course;
     while at < end {
-        let LogLine::Read { stroke, next } = log_lines::next_line(log, at) else {
+        let Some(LogLine { stroke, next }) = log_lines::next_line(log, at) else {
             return Followed {
                 next: at,
                 line: Position(line),

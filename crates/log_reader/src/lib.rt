@@ -10,11 +10,9 @@ ghost use Rattle.outcome.specs.Log.{log_after, log_answer};
 ghost use Rattle.checker_rows.specs.RowVerdict.{RowsJudgeable};
 ghost use Rattle.log_reader.specs.Answering.{answer_of, ReadsLog};
 
-use base::{LogAnswer, Refusal};
-use checker_files::Tested;
+use base::{LogAnswer, LogEnd, Refusal, Rejection};
 use log_course::Followed;
 use logic::Position;
-use outcome::Course;
 
 // The answer for a log of so many bytes that has been followed so far: 19 if the next line is not of
 // the form, and else what its lines come to.
@@ -23,12 +21,11 @@ pub fn ended(followed: Followed, length: usize) -> LogAnswer
 {
     let line = followed.line;
     if followed.next < length {
-        return LogAnswer::Refused(Refusal::Log(line.0));
+        return Err(Rejection::Refused(Refusal::Log(line.0)));
     }
-    let course = followed.course;
-    match course {
-        Course::Fits(place) => LogAnswer::Row(place.row),
-        Course::Fails { line: first, .. } => LogAnswer::Line(first.0),
+    match followed.course {
+        Ok(place) => Ok(LogEnd::Row(place.row)),
+        Err(misfit) => Ok(LogEnd::Line(misfit.line.0)),
     }
 }
 
@@ -48,9 +45,6 @@ fn read_lines(tower: &[u8], table: &[u8], log: &[u8]) -> LogAnswer
 pub fn read_log(tower: &[u8], table: &[u8], log: &[u8]) -> LogAnswer
     ensures { ReadsLog result tower.now table.now log.now }
 {
-    match checker_files::test_files(tower, table) {
-        Tested::Sound => read_lines(tower, table, log),
-        Tested::NotGood(reason) => LogAnswer::NotGood(reason),
-        Tested::Refused(why) => LogAnswer::Refused(why),
-    }
+    checker_files::test_files(tower, table)?;
+    read_lines(tower, table, log)
 }

@@ -3,7 +3,7 @@ use Prim.Native.Nat.{ℕ, ◌≤◌, ◌<◌}
 use mathlib.Core.Path.{◌≡◌, refl}
 use mathlib.Core.Logic.{◌↔◌, ◌⊎◌, inl, inr}
 use mathlib.Core.Bool.{Bool, true, false, ◌||◌}
-use mathlib.Core.Option.{some}
+use Rattle.std.specs.Prelude.{Some}
 use mathlib.Core.List.{List}
 use lib.Dec.{eqb, ltb}
 use borrow.Author.Tests.{eqb-true, eqb-false, eq-eqb, ne_eqb, ltb-false, le-ltb}
@@ -15,7 +15,7 @@ use Rattle.logic.specs.Tables.{Table, row_at, AllowsAction, NoneWithheld, GoesOn
 -- 'A kind 2 action is never withheld, and reason b covers it.' Reason b is `NoneWithheld`; in a row for which it holds, and so in every row of a
 -- good table, an enabled action of kind 2 is allowed.
 pub sure_allowed : (tower : Tower) (table : Table) (r : ℕ) → NoneWithheld tower table r
-    → (a y : ℕ) → tower.target (row_at table r).state a ≡ some y → tower.kind a ≡ 2 → AllowsAction table r a
+    → (a y : ℕ) → tower.target (row_at table r).state a ≡ Some y → tower.kind a ≡ 2 → AllowsAction table r a
 unfolding NoneWithheld controllable
 sure_allowed tower table r none a y enabled sure = none a y enabled (rw sure refl)
 

@@ -5,7 +5,7 @@ use native.Mathlib.Omega.{arith}
 use native.Mathlib.Decide.{ℕ_discrete}
 use mathlib.Core.Path.{◌≡◌, refl, sym, ◌∙◌, ap}
 use mathlib.Core.Logic.{◌↔◌, ◌⊎◌, inl, inr}
-use mathlib.Core.Option.{Option, none, some}
+use Rattle.std.specs.Prelude.{Option, None, Some}
 use mathlib.Core.List.Memᴰ
 use mathlib.Core.List.{List, [], ◌∷◌, ◌++◌, Memᴰ, append_assoc}
 use lib.ListN.{length, length-append}
@@ -28,12 +28,12 @@ step_equal s t e f = ap (λ a. record { action = a; target = s.target }) e ∙ a
 pub row_equal : (s t : Row) → s.state ≡ t.state → s.steps ≡ t.steps → s ≡ t
 row_equal s t e f = ap (λ a. record { state = a; steps = s.steps }) e ∙ ap (λ b. record { state = t.state; steps = b }) f
 
-no_step : (a p : ℕ) → step_to [] a ≡ some p → ⊥
+no_step : (a p : ℕ) → step_to [] a ≡ Some p → ⊥
 unfolding step_to
 no_step a p e = let z : ◌≡◌ {A = ℕ} 0 1 = cc in omega arith
 
 -- An action finds the first step that has it.
-pub step_here : (s : Step) (steps : List Step) (a : ℕ) → s.action ≡ a → step_to (s ∷ steps) a ≡ some s.target
+pub step_here : (s : Step) (steps : List Step) (a : ℕ) → s.action ≡ a → step_to (s ∷ steps) a ≡ Some s.target
 unfolding step_to
 step_here s steps a e = rw (eq-eqb _ _ e)
 
@@ -49,12 +49,12 @@ ascending_rest s [] h = tt
 ascending_rest s (t ∷ steps) h = h.1
 
 -- In ascending steps every action behind the first step is above it.
-pub ascending_above : (s : Step) (steps : List Step) (a p : ℕ) → Ascending (s ∷ steps) → step_to steps a ≡ some p → s.action < a
+pub ascending_above : (s : Step) (steps : List Step) (a p : ℕ) → Ascending (s ∷ steps) → step_to steps a ≡ Some p → s.action < a
 unfolding Ascending
 ascending_above s [] a p h e = absurd (no_step a p e)
 ascending_above s (t ∷ steps) a p h e = go (ℕ_discrete t.action a) (ascending_above t steps a p h.1)
   where
-    go : Dec (t.action ≡ a) → (step_to steps a ≡ some p → t.action < a) → s.action < a
+    go : Dec (t.action ≡ a) → (step_to steps a ≡ Some p → t.action < a) → s.action < a
     go (yes f) ih = omega (arith, h.0)
     go (no n) ih = omega (arith, h.0, ih (sym (step_past t steps a n) ∙ e))
 
@@ -69,12 +69,12 @@ ascending_mem s t (u ∷ steps) h i = go (Memᴰ.cases_cons i) (ascending_mem u 
     go (inr k) ih = omega (arith, h.0, ih k)
 
 -- What an action leads to is the target of a step with that action.
-pub step_member : (steps : List Step) (a p : ℕ) → step_to steps a ≡ some p
+pub step_member : (steps : List Step) (a p : ℕ) → step_to steps a ≡ Some p
     → (s : Step) × Memᴰ s steps × (s.action ≡ a) × (s.target ≡ p)
 step_member [] a p e = absurd (no_step a p e)
 step_member (s ∷ steps) a p e = go (ℕ_discrete s.action a) (step_member steps a p)
   where
-    go : Dec (s.action ≡ a) → (step_to steps a ≡ some p → (t : Step) × Memᴰ t steps × (t.action ≡ a) × (t.target ≡ p))
+    go : Dec (s.action ≡ a) → (step_to steps a ≡ Some p → (t : Step) × Memᴰ t steps × (t.action ≡ a) × (t.target ≡ p))
         → (t : Step) × Memᴰ t (s ∷ steps) × (t.action ≡ a) × (t.target ≡ p)
     go (yes f) ih = (s, Memᴰ.head refl, f, cc (e, step_here s steps a f))
     go (no n) ih = let (t, i, f, g) = ih (sym (step_past s steps a n) ∙ e) in (t, Memᴰ.tail i, f, g)
@@ -85,19 +85,19 @@ unfolding Once
 ascending_once [] h = tt
 ascending_once (s ∷ steps) h = (go (step_to steps s.action) refl, ascending_once steps (ascending_rest s steps h))
   where
-    go : (o : Option ℕ) → step_to steps s.action ≡ o → step_to steps s.action ≡ none
-    go none e = e
-    go (some p) e = absurd (omega (arith, ascending_above s steps s.action p h e))
+    go : (o : Option ℕ) → step_to steps s.action ≡ o → step_to steps s.action ≡ None
+    go None e = e
+    go (Some p) e = absurd (omega (arith, ascending_above s steps s.action p h e))
 
 -- Where actions are distinct, every step is found by its action.
-pub step_found : (s : Step) (steps : List Step) → Once steps → Memᴰ s steps → step_to steps s.action ≡ some s.target
+pub step_found : (s : Step) (steps : List Step) → Once steps → Memᴰ s steps → step_to steps s.action ≡ Some s.target
 unfolding Once
 step_found s [] o m = absurd (Memᴰ.not-nil m)
 step_found s (t ∷ steps) o m = go (Memᴰ.cases_cons m) (step_found s steps o.1) (ℕ_discrete t.action s.action)
   where
-    go : (s ≡ t) ⊎ Memᴰ s steps → (Memᴰ s steps → step_to steps s.action ≡ some s.target) → Dec (t.action ≡ s.action)
-        → step_to (t ∷ steps) s.action ≡ some s.target
-    go (inl e) ih d = step_here t steps s.action (ap (λ x. x.action) (sym e)) ∙ ap (λ x. some x.target) (sym e)
+    go : (s ≡ t) ⊎ Memᴰ s steps → (Memᴰ s steps → step_to steps s.action ≡ Some s.target) → Dec (t.action ≡ s.action)
+        → step_to (t ∷ steps) s.action ≡ Some s.target
+    go (inl e) ih d = step_here t steps s.action (ap (λ x. x.action) (sym e)) ∙ ap (λ x. Some x.target) (sym e)
     go (inr k) ih (yes f) = let g = ih k in let h = o.0 in let z : ◌≡◌ {A = ℕ} 0 1 = cc in absurd (omega arith)
     go (inr k) ih (no n) = step_past t steps s.action n ∙ ih k
 
@@ -109,9 +109,9 @@ unfolding row_at
 row_behind before row rows r e = get_or_at before row rows _ r e
 
 -- Runs of a table lead to its rows.
-pub leads_inside : (table : Table) → IsTable table → (r s : ℕ) (w : List ℕ) → r < length table → leads (move table) r w ≡ some s
+pub leads_inside : (table : Table) → IsTable table → (r s : ℕ) (w : List ℕ) → r < length table → leads (move table) r w ≡ Some s
     → s < length table
-leads_inside table is r s [] lt e = let f : some s ≡ some r = sym e ∙ leads_nil (move table) r in let g : s ≡ r = cc in omega arith
+leads_inside table is r s [] lt e = let f : Some s ≡ Some r = sym e ∙ leads_nil (move table) r in let g : s ≡ r = cc in omega arith
 leads_inside table is r s (a ∷ w) lt e =
     let (t, f, g) = leads_out (move table) r s a w e in leads_inside table is t s w (is.targets r a t lt f) g
 
@@ -123,11 +123,11 @@ pub record FollowsRuns (tower : Tower) (table : Table) : Type 0 where
 
 -- Where a table follows a tower, a run of the one leads to the state of the row to which it leads in the other.
 pub follows_leads : (tower : Tower) (table : Table) → FollowsRuns tower table → (r s : ℕ) (w : List ℕ) → r < length table
-    → leads (move table) r w ≡ some s → leads tower.target (row_at table r).state w ≡ some (row_at table s).state
+    → leads (move table) r w ≡ Some s → leads tower.target (row_at table r).state w ≡ Some (row_at table s).state
 unfolding StepsRight
 follows_leads tower table f r s [] lt e =
-    let g : some s ≡ some r = sym e ∙ leads_nil (move table) r in
-    let h : r ≡ s = cc in leads_nil tower.target (row_at table r).state ∙ ap (λ x. some (row_at table x).state) h
+    let g : Some s ≡ Some r = sym e ∙ leads_nil (move table) r in
+    let h : r ≡ s = cc in leads_nil tower.target (row_at table r).state ∙ ap (λ x. Some (row_at table x).state) h
 follows_leads tower table f r s (a ∷ w) lt e =
     let (t, g, h) = leads_out (move table) r s a w e in
     leads_in tower.target (row_at table r).state (row_at table t).state (row_at table s).state a w (f.steps r lt a t g)
@@ -136,10 +136,10 @@ follows_leads tower table f r s (a ∷ w) lt e =
 -- What an allowed run of a table that follows the tower leads to.
 pub record Arrives (tower : Tower) (table : Table) (w : List ℕ) (r : ℕ) : Type 0 where
   pub row : r < length table
-  pub state : leads tower.target tower.start w ≡ some (row_at table r).state
+  pub state : leads tower.target tower.start w ≡ Some (row_at table r).state
 
 -- A run that leads to row r of the table leads to the state of row r in the tower.
-pub arrives : (tower : Tower) (table : Table) → FollowsRuns tower table → (w : List ℕ) (r : ℕ) → leads (move table) 0 w ≡ some r
+pub arrives : (tower : Tower) (table : Table) → FollowsRuns tower table → (w : List ℕ) (r : ℕ) → leads (move table) 0 w ≡ Some r
     → Arrives tower table w r
 unfolding GoodStart
 arrives tower table f w r e =
@@ -154,7 +154,7 @@ good_follows tower book table g = record { is_table = g.is_table; start = g.a; s
 
 -- In a good table an allowed run leads to a row, and in the tower to the state of that row.
 pub good_arrives : (tower : Tower) (book : Book) (table : Table) → Good tower book table → (w : List ℕ) (r : ℕ)
-    → leads (move table) 0 w ≡ some r → Arrives tower table w r
+    → leads (move table) 0 w ≡ Some r → Arrives tower table w r
 good_arrives tower book table g = arrives tower table (good_follows tower book table g)
 
 -- What a good table allows is a run of the tower.
@@ -166,7 +166,7 @@ good_run tower book table g w (r, e) = ((row_at table r).state, (good_arrives to
 
 -- Some run leads to row r.
 abbrev pub Reached : Table → ℕ → Type 0
-Reached table r = (w : List ℕ) × (leads (move table) 0 w ≡ some r)
+Reached table r = (w : List ℕ) × (leads (move table) 0 w ≡ Some r)
 
 -- What holds below m and at m holds below m + 1.
 pub below_suc : (P : ℕ → Type 0) (m : ℕ) → ((k : ℕ) → k < m → P k) → P m → (k : ℕ) → k < suc m → P k
@@ -212,7 +212,7 @@ pub first_met_reached : (table : Table) → IsTable table → FirstMet 0 1 table
 first_met_reached table is h = reached_from table is [] table 0 1 refl refl h start
   where
     start : (k : ℕ) → k < 1 → Reached table k
-    start k lt = let e : 0 ≡ k = omega arith in ([], leads_nil (move table) 0 ∙ ap {B = Option ℕ} some e)
+    start k lt = let e : 0 ≡ k = omega arith in ([], leads_nil (move table) 0 ∙ ap {B = Option ℕ} Some e)
 
 -- ---- alike rows of two tables
 
@@ -229,7 +229,7 @@ SameRuns table other = (w : List ℕ) → Allows table w ↔ Allows other w
 
 -- Rows to which one run leads, in two tables that follow one tower and allow the same runs, are alike.
 pub met_alike : (tower : Tower) (table other : Table) → FollowsRuns tower table → FollowsRuns tower other → SameRuns table other
-    → (w : List ℕ) (r s : ℕ) → leads (move table) 0 w ≡ some r → leads (move other) 0 w ≡ some s → Alike table r other s
+    → (w : List ℕ) (r s : ℕ) → leads (move table) 0 w ≡ Some r → leads (move other) 0 w ≡ Some s → Alike table r other s
 unfolding Allows AllowsFrom
 met_alike tower table other f g same w r s e h =
     record {
@@ -239,10 +239,10 @@ met_alike tower table other f g same w r s e h =
       runs = λ u. (onward table other r s (λ v. (same v).0) e h u, onward other table s r (λ v. (same v).1) h e u);
     }
   where
-    states : {x y : ℕ} → leads tower.target tower.start w ≡ some x → leads tower.target tower.start w ≡ some y → x ≡ y
+    states : {x y : ℕ} → leads tower.target tower.start w ≡ Some x → leads tower.target tower.start w ≡ Some y → x ≡ y
     states a b = cc
 
-    onward : (t u : Table) (p q : ℕ) → ((v : List ℕ) → Allows t v → Allows u v) → leads (move t) 0 w ≡ some p → leads (move u) 0 w ≡ some q
+    onward : (t u : Table) (p q : ℕ) → ((v : List ℕ) → Allows t v → Allows u v) → leads (move t) 0 w ≡ Some p → leads (move u) 0 w ≡ Some q
         → (v : List ℕ) → AllowsFrom t p v → AllowsFrom u q v
     onward t u p q give a b v (x, c) =
         let (y, d) = give (w ++ v) (x, append_in (move t) 0 p x w v a c) in
@@ -251,7 +251,7 @@ met_alike tower table other f g same w r s e h =
 
 -- A step of a row is matched by one of any row that is alike, and leads to alike rows.
 pub alike_step : (tower : Tower) (table other : Table) → FollowsRuns tower table → FollowsRuns tower other → (r s a p : ℕ)
-    → Alike table r other s → move table r a ≡ some p → (q : ℕ) × (move other s a ≡ some q) × Alike table p other q
+    → Alike table r other s → move table r a ≡ Some p → (q : ℕ) × (move other s a ≡ Some q) × Alike table p other q
 unfolding AllowsFrom StepsRight
 alike_step tower table other f g r s a p l e = (q, to, found)
   where
@@ -261,16 +261,16 @@ alike_step tower table other f g r s a p l e = (q, to, found)
     q : ℕ
     q = there.0
 
-    to : move other s a ≡ some q
+    to : move other s a ≡ Some q
     to = sym (leads_one (move other) s a) ∙ there.1
 
-    target : tower.target (row_at table r).state a ≡ some (row_at table p).state
+    target : tower.target (row_at table r).state a ≡ Some (row_at table p).state
     target = f.steps r l.row a p e
 
-    other_target : tower.target (row_at table r).state a ≡ some (row_at other q).state
+    other_target : tower.target (row_at table r).state a ≡ Some (row_at other q).state
     other_target = rw l.state (g.steps s l.other_row a q to)
 
-    onward : (t u : Table) (i j k m : ℕ) → ((v : List ℕ) → AllowsFrom t i v → AllowsFrom u j v) → move t i a ≡ some k → move u j a ≡ some m
+    onward : (t u : Table) (i j k m : ℕ) → ((v : List ℕ) → AllowsFrom t i v → AllowsFrom u j v) → move t i a ≡ Some k → move u j a ≡ Some m
         → (v : List ℕ) → AllowsFrom t k v → AllowsFrom u m v
     onward t u i j k m give b c v (x, d) =
         let (y, h) = give (a ∷ v) (x, leads_in (move t) i k x a v b d) in
@@ -317,8 +317,8 @@ alike_one tower table other c r p s l k =
 
 -- Each action has a step in both lists or in none, and the targets are linked.
 record Paired (L : ℕ → ℕ → Type 0) (xs ys : List Step) : Type 0 where
-  there : (a p : ℕ) → step_to xs a ≡ some p → (q : ℕ) × (step_to ys a ≡ some q) × L p q
-  back : (a q : ℕ) → step_to ys a ≡ some q → (p : ℕ) × (step_to xs a ≡ some p) × L p q
+  there : (a p : ℕ) → step_to xs a ≡ Some p → (q : ℕ) × (step_to ys a ≡ Some q) × L p q
+  back : (a q : ℕ) → step_to ys a ≡ Some q → (p : ℕ) × (step_to xs a ≡ Some p) × L p q
 
 -- A link that a row has with at most one on each side.
 record OneToOne (L : ℕ → ℕ → Type 0) : Type 0 where
@@ -332,7 +332,7 @@ record SameSteps (L : ℕ → ℕ → Type 0) (xs ys : List Step) (m n : ℕ) : 
   linked : (k : ℕ) → k < m → L k k
 
 -- In ascending steps no action is below the first.
-first_lowest : (s : Step) (steps : List Step) (a p : ℕ) → Ascending (s ∷ steps) → step_to (s ∷ steps) a ≡ some p → s.action ≤ a
+first_lowest : (s : Step) (steps : List Step) (a p : ℕ) → Ascending (s ∷ steps) → step_to (s ∷ steps) a ≡ Some p → s.action ≤ a
 first_lowest s steps a p h e = go (ℕ_discrete s.action a)
   where
     go : Dec (s.action ≡ a) → s.action ≤ a
@@ -344,10 +344,10 @@ module _ (L : ℕ → ℕ → Type 0) where
       → (s.action ≡ t.action) × L s.target t.target
   paired_heads s t xs ys up ups p = (sym equal, rw same at there.2)
     where
-      there : (q : ℕ) × (step_to (t ∷ ys) s.action ≡ some q) × L s.target q
+      there : (q : ℕ) × (step_to (t ∷ ys) s.action ≡ Some q) × L s.target q
       there = p.there s.action s.target (step_here s xs s.action refl)
 
-      back : (q : ℕ) × (step_to (s ∷ xs) t.action ≡ some q) × L q t.target
+      back : (q : ℕ) × (step_to (s ∷ xs) t.action ≡ Some q) × L q t.target
       back = p.back t.action t.target (step_here t ys t.action refl)
 
       equal : t.action ≡ s.action

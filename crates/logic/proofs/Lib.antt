@@ -5,3 +5,4 @@ pub mod TableFile
 pub mod TowerFile
 pub mod ActionKinds
 pub mod TimedParts
+pub mod Ordering

@@ -3,7 +3,7 @@ use Prim.Native.Nat.{ℕ, ◌+◌, ◌*◌, ◌≤◌, ◌<◌}
 use native.Mathlib.Omega.{arith}
 use native.Mathlib.Nat.{le_trans, mul-le-mul, mul-suc}
 use mathlib.Core.Path.{◌≡◌, refl, ◌∙◌, ap}
-use mathlib.Core.Option.{some}
+use Rattle.std.specs.Prelude.{Some}
 use mathlib.Core.List.{List, [], ◌∷◌, ◌++◌, map, Memᴰ}
 use lib.ListN.{length, length-append}
 use Rattle.base.specs.Lists.{joined}
@@ -29,7 +29,7 @@ pub record Fits (layout : FileLayout) (states actions : ℕ) (table : Table) : T
   pub few_rows : length table ≤ most_rows
   pub is_table : IsTable table
   pub state : (r : ℕ) → r < length table → (row_at table r).state < states
-  pub action : (r a s : ℕ) → r < length table → move table r a ≡ some s → a < actions
+  pub action : (r a s : ℕ) → r < length table → move table r a ≡ Some s → a < actions
   pub ascending : (r : ℕ) → r < length table → Ascending (row_at table r).steps
 
 -- One row fits a file for so many states, actions and rows.
@@ -43,7 +43,7 @@ row_mem : (table : Table) (r : ℕ) → r < length table → Memᴰ (row_at tabl
 unfolding row_at
 row_mem table r lt = mem_get_or table r (record { state = 0; steps = [] }) lt
 
-move_step : (table : Table) (r a s : ℕ) → move table r a ≡ some s → step_to (row_at table r).steps a ≡ some s
+move_step : (table : Table) (r a s : ℕ) → move table r a ≡ Some s → step_to (row_at table r).steps a ≡ Some s
 unfolding move
 move_step table r a s e = e
 
@@ -62,7 +62,7 @@ fits_row layout states actions table f row i = go (mem_index (record { state = 0
           target = λ s k. f.is_table.targets r s.action s.target lt (found s k);
         }
       where
-        found : (s : Step) → Memᴰ s row.steps → move table r s.action ≡ some s.target
+        found : (s : Step) → Memᴰ s row.steps → move table r s.action ≡ Some s.target
         found s k = rw e (step_found s row.steps (rw e at (f.is_table.once r lt)) k)
 
 -- A table fits if there are rows, not too many, for states and actions in range, and every row does.
@@ -91,7 +91,7 @@ fits_by_rows layout states actions table laid a b c d there few fit =
     at : (r : ℕ) → r < length table → RowFits states actions (length table) (row_at table r)
     at r lt = fit (row_at table r) (row_mem table r lt)
 
-    step_fits : (r x s : ℕ) → r < length table → move table r x ≡ some s → (x < actions) × (s < length table)
+    step_fits : (r x s : ℕ) → r < length table → move table r x ≡ Some s → (x < actions) × (s < length table)
     step_fits r x s lt e =
         let (t, i, f, g) = step_member (row_at table r).steps x s (move_step table r x s e) in
         (rw f at ((at r lt).action t i), rw g at ((at r lt).target t i))

@@ -4,7 +4,7 @@ use native.Mathlib.Omega.{arith}
 use mathlib.Core.Path.{◌≡◌, refl, sym, ◌∙◌}
 use mathlib.Core.Logic.{◌⊎◌, inl, inr}
 use mathlib.Core.Bool.{Bool, true, false, ◌&&◌, ◌||◌, not}
-use mathlib.Core.Option.{none, some}
+use Rattle.std.specs.Prelude.{None, Some}
 use mathlib.Core.List.{List, [], ◌∷◌}
 use lib.Dec.{leb, ltb}
 use borrow.Author.Tests.{leb-true, ltb-true, not-false}
@@ -25,7 +25,7 @@ pub record TowerFits (layout : FileLayout) (tower : Tower) : Type 0 where
   pub an_action : 1 ≤ tower.actions
   pub few_actions : tower.actions ≤ most_actions
   pub start : tower.start < tower.states
-  pub targets : (x a y : ℕ) → tower.target x a ≡ some y → y < tower.states
+  pub targets : (x a y : ℕ) → tower.target x a ≡ Some y → y < tower.states
   pub listed : Listed tower
 
 -- A count in range is at least 1 and at most the most.
@@ -36,8 +36,8 @@ range_out most n e =
 
 -- Runs of a tower lead to its states.
 pub leads_to_state : {layout : FileLayout} (tower : Tower) → TowerFits layout tower → (x y : ℕ) (w : List ℕ) → x < tower.states
-    → leads tower.target x w ≡ some y → y < tower.states
-leads_to_state tower f x y [] lt e = let g : some y ≡ some x = sym e ∙ leads_nil tower.target x in let h : y ≡ x = cc in omega arith
+    → leads tower.target x w ≡ Some y → y < tower.states
+leads_to_state tower f x y [] lt e = let g : Some y ≡ Some x = sym e ∙ leads_nil tower.target x in let h : y ≡ x = cc in omega arith
 leads_to_state tower f x y (a ∷ w) lt e =
     let (z, g, h) = leads_out tower.target x y a w e in leads_to_state tower f z y w (f.targets x a z g) h
 
@@ -93,13 +93,13 @@ pub record Enabled (bytes : List ℕ) (x a y : ℕ) : Type 0 where
   pub not_disabled : not_enabled bytes x a ≡ false
   pub target : target_of bytes x a ≡ y
 
-pub target_enabled : (bytes : List ℕ) (x a y : ℕ) → (tower_of bytes).target x a ≡ some y → Enabled bytes x a y
+pub target_enabled : (bytes : List ℕ) (x a y : ℕ) → (tower_of bytes).target x a ≡ Some y → Enabled bytes x a y
 unfolding tower_of
 target_enabled bytes x a y e =
     go (ltb x (states_of bytes)) (ltb a (actions_of bytes)) (not_enabled bytes x a) refl refl refl e
   where
     go : (p q r : Bool) → ltb x (states_of bytes) ≡ p → ltb a (actions_of bytes) ≡ q → not_enabled bytes x a ≡ r
-        → pick (p && q && not r) (λ _. some (target_of bytes x a)) (λ _. none) ≡ some y → Enabled bytes x a y
+        → pick (p && q && not r) (λ _. Some (target_of bytes x a)) (λ _. None) ≡ Some y → Enabled bytes x a y
     go true true false s t u f =
         record { state = ltb-true x (states_of bytes) s; action = ltb-true a (actions_of bytes) t; not_disabled = u; target = cc }
     go true true true s t u f = let z : ◌≡◌ {A = ℕ} 0 1 = cc in absurd (omega arith)

@@ -1,7 +1,8 @@
 -- 01, 'Runs and broken rules': runs, positions, T(i), kept and broken. The logic is that of document 004, with whole ticks.
 use Rattle.std.specs.Prelude.{ℕ, ◌<◌, ◌≡◌, ◌⊎◌, true, length, get_or, take}
-use Rattle.std.proofs.Math.Option
-use Rattle.std.proofs.Math.Option.{Option, some, bind}
+use Rattle.std.specs.Prelude.{unwrap_or}
+use Rattle.std.specs.Prelude.{Option, Some}
+use Rattle.base.specs.Options.{bind}
 use mathlib.Core.List.{List, [], ◌∷◌, map, Memᴰ}
 use Rattle.logic.specs.Time.{ticks, plus, AtMost, position, after, From, Before}
 use Rattle.logic.specs.Tower.{Tower}
@@ -10,13 +11,13 @@ use Rattle.logic.specs.declared.Tick.{Tick}
 use Rattle.logic.specs.declared.Position.{Position}
 
 -- where a list of actions leads from x by the given moves; nothing once a move is not there. Towers, tables and pairs all move so.
-unfoldable pub leads {ℓ} : {X : Type ℓ} → (X → ℕ → Option X) → X → List ℕ → Option X
-leads move x [] = some x
+unfoldable pub leads : {X : Type 0} → (X → ℕ → Option X) → X → List ℕ → Option X
+leads move x [] = Some x
 leads move x (a ∷ w) = bind (move x a) (λ y. leads move y w)
 
 -- A run is a list of actions, each enabled.
 unfoldable pub IsRun : Tower → List ℕ → Type 0
-IsRun tower w = (x : ℕ) × (leads tower.target tower.start w ≡ some x)
+IsRun tower w = (x : ℕ) × (leads tower.target tower.start w ≡ Some x)
 
 -- One action of a run with the state that it leaves.
 pub record Moment : Type 0 where
@@ -29,7 +30,7 @@ Trace = List Moment
 -- the actions of a run from state x, each with the state that it leaves
 unfoldable pub trace_from : Tower → ℕ → List ℕ → Trace
 trace_from tower x [] = []
-trace_from tower x (a ∷ w) = record { state = x; action = a } ∷ trace_from tower (Option.get_or (tower.target x a) x) w
+trace_from tower x (a ∷ w) = record { state = x; action = a } ∷ trace_from tower (unwrap_or (tower.target x a) x) w
 
 unfoldable pub trace : Tower → List ℕ → Trace
 trace tower w = trace_from tower tower.start w

@@ -1,6 +1,6 @@
 -- 01, 'Good tables': tables, what a table allows, when it is good, and which form the made table has.
 use Rattle.std.specs.Prelude.{ℕ, suc, ◌<◌, ◌≡◌, ◌↔◌, ◌⊎◌, true, false, List, [], ◌∷◌, length, get_or, eqb}
-use Rattle.std.proofs.Math.Option.{Option, none, some}
+use Rattle.std.specs.Prelude.{Option, None, Some}
 use Rattle.base.specs.Choice.{pick}
 use Rattle.logic.specs.Tower.{Tower, controllable, goes_on}
 use Rattle.logic.specs.Book.{Book}
@@ -25,8 +25,8 @@ row_at table r = get_or table r (record { state = 0; steps = [] })
 
 -- the target row of an action among the steps; nothing where it has none
 unfoldable pub step_to : List Step → ℕ → Option ℕ
-step_to [] a = none
-step_to (s ∷ steps) a = pick (eqb s.action a) (λ _. some s.target) (λ _. step_to steps a)
+step_to [] a = None
+step_to (s ∷ steps) a = pick (eqb s.action a) (λ _. Some s.target) (λ _. step_to steps a)
 
 -- the row that an allowed action leads to from row r
 unfoldable pub move : Table → ℕ → ℕ → Option ℕ
@@ -34,11 +34,11 @@ move table r a = step_to (row_at table r).steps a
 
 -- the action is allowed in row r
 unfoldable pub AllowsAction : Table → ℕ → ℕ → Type 0
-AllowsAction table r a = (s : ℕ) × (move table r a ≡ some s)
+AllowsAction table r a = (s : ℕ) × (move table r a ≡ Some s)
 
 -- from row r on, each action in turn has a step in the row reached and leads to that step's target row
 unfoldable pub AllowsFrom : Table → ℕ → List ℕ → Type 0
-AllowsFrom table r w = (s : ℕ) × (leads (move table) r w ≡ some s)
+AllowsFrom table r w = (s : ℕ) × (leads (move table) r w ≡ Some s)
 
 -- A table allows a run if it does so from row 0 on.
 unfoldable pub Allows : Table → List ℕ → Type 0
@@ -47,12 +47,12 @@ Allows table w = AllowsFrom table 0 w
 -- the actions of the steps are distinct: the step that comes first for an action is its only one
 unfoldable pub Once : List Step → Type 0
 Once [] = Unit {0}
-Once (s ∷ steps) = (step_to steps s.action ≡ none) × Once steps
+Once (s ∷ steps) = (step_to steps s.action ≡ None) × Once steps
 
 -- One row or more; targets are rows; no action twice in a row.
 pub record IsTable (table : Table) : Type 0 where
   pub some_row : 0 < length table
-  pub targets : (r a s : ℕ) → r < length table → move table r a ≡ some s → s < length table
+  pub targets : (r a s : ℕ) → r < length table → move table r a ≡ Some s → s < length table
   pub once : (r : ℕ) → r < length table → Once (row_at table r).steps
 
 -- (a) Row 0 has the tower's start state.
@@ -62,12 +62,12 @@ GoodStart tower table = (row_at table 0).state ≡ tower.start
 -- (b) In row r each enabled action that may not be withheld, of kind 0 or 2, is allowed.
 unfoldable pub NoneWithheld : Tower → Table → ℕ → Type 0
 NoneWithheld tower table r =
-    (a y : ℕ) → tower.target (row_at table r).state a ≡ some y → controllable (tower.kind a) ≡ false → AllowsAction table r a
+    (a y : ℕ) → tower.target (row_at table r).state a ≡ Some y → controllable (tower.kind a) ≡ false → AllowsAction table r a
 
 -- (c) In row r each allowed action is enabled and its target row has the state reached.
 unfoldable pub StepsRight : Tower → Table → ℕ → Type 0
 StepsRight tower table r =
-    (a s : ℕ) → move table r a ≡ some s → tower.target (row_at table r).state a ≡ some (row_at table s).state
+    (a s : ℕ) → move table r a ≡ Some s → tower.target (row_at table r).state a ≡ Some (row_at table s).state
 
 -- (d) In row r some action is allowed, of a kind that counts as going on: 1 or 2 (02, item 1).
 unfoldable pub GoesOn : Tower → Table → ℕ → Type 0

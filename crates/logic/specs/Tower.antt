@@ -1,6 +1,6 @@
 -- 01, 'Tower file': the tower as a timed transition graph (document 004), and when a file is fit to be one.
 use Rattle.std.specs.Prelude.{ℕ, ◌+◌, ◌*◌, ◌/◌, ◌%◌, ◌^◌, ◌<◌, ◌≡◌, Bool, false, ◌&&◌, ◌||◌, not, List, length, leb, ltb, eqb}
-use Rattle.std.proofs.Math.Option.{Option, none, some}
+use Rattle.std.specs.Prelude.{Option, None, Some}
 use Rattle.base.specs.Choice.{pick}
 use Rattle.base.specs.Lists.{some_of, below}
 use Rattle.base.specs.Bytes.{byte_at, number_at}
@@ -25,7 +25,7 @@ pub record Tower : Type 0 where
 
 -- Whatever is enabled is one of the tower's actions.
 unfoldable pub Listed : Tower → Type 0
-Listed tower = (x a y : ℕ) → tower.target x a ≡ some y → a < tower.actions
+Listed tower = (x a y : ℕ) → tower.target x a ≡ Some y → a < tower.actions
 
 -- The kinds of actions: 0 is the player's, 1 is ours, 2 comes without us and is sure to come, as the clock's train (02, item 1).
 
@@ -177,5 +177,5 @@ tower_of bytes =
       marked = λ x k. bit k (mask_of bytes x);
       target = λ x a.
           pick (ltb x (states_of bytes) && ltb a (actions_of bytes) && not (not_enabled bytes x a))
-          (λ _. some (target_of bytes x a)) (λ _. none);
+          (λ _. Some (target_of bytes x a)) (λ _. None);
     }

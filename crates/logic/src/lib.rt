@@ -3,11 +3,11 @@
 #![tactic(auto)]
 
 // A number of ticks: the length of a step, a bound, or what is left of a bound.
-#[derive(Clone, Copy)]
+#[derive(Clone, Copy, PartialEq, Eq, PartialOrd, Ord)]
 pub struct Tick(pub u64);
 
 // A position of a run. Position i follows i actions.
-#[derive(Clone, Copy)]
+#[derive(Clone, Copy, PartialEq, Eq, PartialOrd, Ord)]
 pub struct Position(pub usize);
 
 // How a tower's file and its tables are laid out (01, 'Tower file'): what follows from the bytes that

@@ -5,7 +5,8 @@ use mathlib.Core.Bool.{true}
 use mathlib.Core.List.{List}
 use native.Mathlib.Omega.{arith}
 use lib.ListN.{length}
-use Rattle.base.specs.Answers.{give, ◌then◌}
+use Rattle.base.specs.Answers.{Answer, ◌then◌}
+use Rattle.std.specs.Prelude.{Ok}
 use Rattle.base.proofs.Answers.{then_gives}
 use Rattle.logic.specs.declared.FileLayout.{FileLayout}
 use Rattle.logic.specs.Tower.{Tower, narrow, layout_of}
@@ -36,16 +37,16 @@ pub record KnownFile (file : List ℕ) : Type 0 where
   pub short : length file ≤ 52012
   pub laid : laid_out file ≡ true
 
-pub made_known : (tower text file : List ℕ) → made_file tower text ≡ give file → KnownFile file
+pub made_known : (tower text file : List ℕ) → made_file tower text ≡ Ok file → KnownFile file
 unfolding made_file
 made_known tower text file e =
-    let (t, is_tower, e₁) = then_gives (read_tower tower) (λ t. read_book t.marks text then λ book. table_for t book then λ table. give (table_file (layout_of tower) t.states t.actions table)) e in
-    let (book, is_book, e₂) = then_gives (read_book t.marks text) (λ book. table_for t book then λ table. give (table_file (layout_of tower) t.states t.actions table)) e₁ in
-    let (table, is_table, e₃) = then_gives (table_for t book) (λ table. give (table_file (layout_of tower) t.states t.actions table)) e₂ in
+    let (t, is_tower, e₁) = then_gives (read_tower tower) (λ t. read_book t.marks text then λ book. table_for t book then λ table. Ok (table_file (layout_of tower) t.states t.actions table)) e in
+    let (book, is_book, e₂) = then_gives (read_book t.marks text) (λ book. table_for t book then λ table. Ok (table_file (layout_of tower) t.states t.actions table)) e₁ in
+    let (table, is_table, e₃) = then_gives (table_for t book) (λ table. Ok (table_file (layout_of tower) t.states t.actions table)) e₂ in
     known t book table is_tower is_book is_table e₃
   where
-    known : (t : Tower) (book : Book) (table : Table) → read_tower tower ≡ give t → read_book t.marks text ≡ give book
-        → table_for t book ≡ give table → give (table_file (layout_of tower) t.states t.actions table) ≡ give file → KnownFile file
+    known : (t : Tower) (book : Book) (table : Table) → read_tower tower ≡ Ok t → read_book t.marks text ≡ Ok book
+        → table_for t book ≡ Ok table → ◌≡◌ {A = Answer (List ℕ)} (Ok (table_file (layout_of tower) t.states t.actions table)) (Ok file) → KnownFile file
     known t book table is_tower is_book is_table same =
         let fit : FitFiles tower text t book = record { tower_read = is_tower; book_read = is_book } in
         let given = given_table t book (makeable tower text t book fit) table is_table in

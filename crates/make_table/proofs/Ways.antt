@@ -8,9 +8,9 @@ use lib.ListN.{length, take, drop, length-take}
 use lib.Seq.{sets-eq, take_at, length-take-le}
 use borrow.Author.Tests.{le-leb, le-ltb}
 use Rattle.base.specs.Bytes.{long_enough, cleared}
-use Rattle.base.specs.Answers.{Answer, refuse, give, ◌if◌else◌, ◌then◌}
-use Rattle.base.specs.declared.MakeAnswer.{MakeAnswer}
-use Rattle.base.specs.declared.MakeAnswer.TheVariants.{Made}
+use Rattle.base.specs.Answers.{Answer, ◌if◌else◌, ◌then◌}
+use Rattle.std.specs.Prelude.{Err, Ok}
+use Rattle.base.specs.Answers.{MakeAnswer}
 use Rattle.reading.specs.TableReading.{laid_out}
 use Rattle.outcome.specs.Areas.{make_areas, book_area, pairs_area, index_area, graph_area, sets_area, room_area, flags_area, classes_area}
 use Rattle.outcome.specs.Make.{made_file, fitting, written, make_outcome}
@@ -26,8 +26,8 @@ unfolding ◌then◌ fitting ◌if◌else◌
 room tower text most e = go (made_file tower text) refl
   where
     go : (o : Answer (List ℕ)) → made_file tower text ≡ o → (o then λ file. fitting most file) ≡ o
-    go (refuse r) f = refl
-    go (give file) f = rw (le-ltb most (length file) (omega (arith, (made_known tower text file f).short)))
+    go (Err r) f = refl
+    go (Ok file) f = rw (le-ltb most (length file) (omega (arith, (made_known tower text file f).short)))
 
 -- The areas are long enough.
 enough : (a b c d e f g h : List ℕ) → length a ≡ book_area → length b ≡ pairs_area → length c ≡ index_area → length d ≡ graph_area
@@ -49,11 +49,11 @@ enough a b c d e f g h p q r s t u v w =
 -- What is answered for a file.
 answer_is : (o : Answer (List ℕ)) (out : List ℕ) (areas : List (List ℕ)) → (written o out areas).answer ≡ made_answer o
 unfolding written made_answer
-answer_is (refuse r) out areas = refl
-answer_is (give file) out areas = refl
+answer_is (Err r) out areas = refl
+answer_is (Ok file) out areas = refl
 
 -- What the output begins with.
-output_begins : (o : Answer (List ℕ)) (file out : List ℕ) (areas : List (List ℕ)) → o ≡ give file → length file ≤ length out
+output_begins : (o : Answer (List ℕ)) (file out : List ℕ) (areas : List (List ℕ)) → o ≡ Ok file → length file ≤ length out
     → take (length file) (written o out areas).output ≡ file
 unfolding written
 output_begins o file out areas e l =
@@ -87,13 +87,13 @@ record Saved (n : ℕ) (out : List ℕ) : Type 0 where
   pub within : n ≤ length out
   pub laid : laid_out (take n out) ≡ true
 
-saved : (r : MakeAnswer) (n : ℕ) (tower text out : List ℕ) → r ≡ Made n → MadeFile r tower text out → Saved n out
+saved : (r : MakeAnswer) (n : ℕ) (tower text out : List ℕ) → r ≡ Ok n → MadeFile r tower text out → Saved n out
 unfolding made_answer
 saved r n tower text out e made = go (made_file tower text) refl (sym made.answered ∙ e)
   where
-    go : (o : Answer (List ℕ)) → made_file tower text ≡ o → made_answer o ≡ Made n → Saved n out
-    go (refuse w) f g = absurd (let z : ◌≡◌ {A = ℕ} 0 1 = cc in omega arith)
-    go (give file) f g =
+    go : (o : Answer (List ℕ)) → made_file tower text ≡ o → made_answer o ≡ Ok n → Saved n out
+    go (Err w) f g = absurd (let z : ◌≡◌ {A = ℕ} 0 1 = cc in omega arith)
+    go (Ok file) f g =
         let count : length file ≡ n = cc in
         let whole = made.begins file f in
         record {
@@ -105,11 +105,11 @@ saved r n tower text out e made = go (made_file tower text) refl (sym made.answe
 pub part_taken : (n : ℕ) (area : List ℕ) → n ≤ length area → n ≡ length (take n area)
 part_taken n area l = sym (length-take-le n area l)
 
-pub made_within : (r : MakeAnswer) (n : ℕ) (tower text out : List ℕ) → r ≡ Made n → MadeFile r tower text out → n ≤ length out
+pub made_within : (r : MakeAnswer) (n : ℕ) (tower text out : List ℕ) → r ≡ Ok n → MadeFile r tower text out → n ≤ length out
 made_within r n tower text out e made = (saved r n tower text out e made).within
 
-pub made_taken : (r : MakeAnswer) (n : ℕ) (tower text out : List ℕ) → r ≡ Made n → MadeFile r tower text out → n ≡ length (take n out)
+pub made_taken : (r : MakeAnswer) (n : ℕ) (tower text out : List ℕ) → r ≡ Ok n → MadeFile r tower text out → n ≡ length (take n out)
 made_taken r n tower text out e made = part_taken n out (made_within r n tower text out e made)
 
-pub made_laid : (r : MakeAnswer) (n : ℕ) (tower text out : List ℕ) → r ≡ Made n → MadeFile r tower text out → laid_out (take n out) ≡ true
+pub made_laid : (r : MakeAnswer) (n : ℕ) (tower text out : List ℕ) → r ≡ Ok n → MadeFile r tower text out → laid_out (take n out) ≡ true
 made_laid r n tower text out e made = (saved r n tower text out e made).laid

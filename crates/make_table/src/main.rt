@@ -8,7 +8,6 @@ ghost use Rattle.reading.specs.TableReading.{rows_of, laid_out};
 ghost use Rattle.make_table.specs.Files.{MadeFile};
 
 use base::{MakeAnswer, Refusal};
-use program_files::Contents;
 use std::env::Env;
 use std::fs::Files;
 use std::io::{Eprint, Print};
@@ -41,12 +40,10 @@ fn print_rows<R: Print + Eprint>(rt: &R, table: &[u8]) -> bool
     requires { laid_out table.now ≡ true }
 {
     let rows = file_table::rows(table);
-    let mut row = 0;
-    while row < rows {
+    for row in 0..rows {
         if !print_row(rt, table, row) {
             return false;
         }
-        row += 1;
     }
     true
 }
@@ -140,7 +137,7 @@ fn not_printed<R: Eprint>(rt: &R, table: &[u8]) {
         program_saying::in_file(
             rt,
             table,
-            b"the new table is in place; its listing is not printed whole",
+            "the new table is in place; its listing is not printed whole",
         );
     }
 }
@@ -169,25 +166,27 @@ fn finish<R: Files + RandomSource + Print + Eprint>(
 fn dead_end(tower: &[u8]) -> bool {
     let mut spare = [0u8; LONGEST_TABLE];
     match make(tower, b"", &mut spare) {
-        MakeAnswer::Made(n) => false,
-        MakeAnswer::Refused(why) => is_no_table(why),
+        Ok(_) => false,
+        Err(why) => is_no_table(why),
     }
 }
 
-// The value that stands for no state.
-const NONE: usize = 255;
-
-// The state of a row that waits for the player alone, in the table that a tower and the rules make; 255
-// where there is none. `sure` is the tower as it would be if the player were sure to come.
-fn waiting_in(tower: &[u8], sure: &[u8], text: &[u8], spare: &mut [u8; LONGEST_TABLE]) -> usize {
+// The state of a row that waits for the player alone, in the table that a tower and the rules make. `sure`
+// is the tower as it would be if the player were sure to come.
+fn waiting_in(
+    tower: &[u8],
+    sure: &[u8],
+    text: &[u8],
+    spare: &mut [u8; LONGEST_TABLE],
+) -> Option<usize> {
     match make(sure, text, spare) {
-        MakeAnswer::Made(n) => place_table::waiting_state(tower, spare),
-        MakeAnswer::Refused(why) => NONE,
+        Ok(_) => place_table::waiting_state(tower, spare),
+        Err(_) => None,
     }
 }
 
-// A state in which a table that keeps the rules would wait for the player alone; 255 where there is none.
-fn waiting_state(tower: &[u8], text: &[u8]) -> usize {
+// A state in which a table that keeps the rules would wait for the player alone.
+fn waiting_state(tower: &[u8], text: &[u8]) -> Option<usize> {
     let mut sure = [0u8; program_limits::TOWER];
     let t = place_tower::sure_copy(tower, &mut sure);
     let mut spare = [0u8; LONGEST_TABLE];
@@ -196,7 +195,7 @@ fn waiting_state(tower: &[u8], text: &[u8]) -> usize {
 
 // Whether a refusal is 12.
 fn is_no_table(why: Refusal) -> bool {
-    refusal_numbers::number(why) == 12
+    why == Refusal::NoTable
 }
 
 // Says why there is no good table. Where the tower alone has none, the rules are not to blame; else they
@@ -214,8 +213,7 @@ fn refuse_none<R: Print + Eprint>(
         words_refusal::refuse_tower(rt, why, tower, tower_bytes);
         return;
     }
-    let state = waiting_state(tower_bytes, text);
-    if state < NONE {
+    if let Some(state) = waiting_state(tower_bytes, text) {
         words_refusal::refuse_waiting(rt, why, book, state);
         return;
     }
@@ -250,10 +248,10 @@ fn make_from<R: Files + RandomSource + Print + Eprint>(
 ) {
     let mut out = [0u8; LONGEST_TABLE];
     match make(tower_bytes, text, &mut out) {
-        MakeAnswer::Made(n) => {
+        Ok(n) => {
             finish(rt, &out[..n], table, tower_bytes, text);
         }
-        MakeAnswer::Refused(why) => {
+        Err(why) => {
             refuse(rt, why, tower, book, table, tower_bytes, text);
             unchanged(rt, table);
         }
@@ -268,15 +266,15 @@ fn run_files<R: Files + RandomSource + Print + Eprint>(
     book: &[u8],
     table: &[u8],
 ) -> bool {
-    let mut tower_bytes = [0u8; program_limits::TOWER];
-    let Contents::Bytes(t) = program_files::read_file(rt, tower, &mut tower_bytes) else {
+    let mut tower_area = [0u8; program_limits::TOWER];
+    let Some(tower_bytes) = program_files::read_file(rt, tower, &mut tower_area) else {
         return false;
     };
-    let mut text = [0u8; program_limits::BOOK];
-    let Contents::Bytes(b) = program_files::read_file(rt, book, &mut text) else {
+    let mut text_area = [0u8; program_limits::BOOK];
+    let Some(text) = program_files::read_file(rt, book, &mut text_area) else {
         return false;
     };
-    make_from(rt, &tower_bytes[..t], &text[..b], tower, book, table);
+    make_from(rt, tower_bytes, text, tower, book, table);
     true
 }
 
@@ -293,19 +291,19 @@ fn run<R: Files + RandomSource + Print + Eprint>(rt: &R, tower: &[u8], book: &[u
 
 // The names are the arguments.
 fn run_named<R: Env + Files + RandomSource + Print + Eprint>(rt: &R) {
-    let mut tower = [0u8; 4096];
-    let Contents::Bytes(t) = program_files::argument(rt, 1, b"TOWER", &mut tower) else {
+    let mut tower_area = [0u8; 4096];
+    let Some(tower) = program_files::argument(rt, 1, b"TOWER", &mut tower_area) else {
         return;
     };
-    let mut book = [0u8; 4096];
-    let Contents::Bytes(b) = program_files::argument(rt, 2, b"BOOK", &mut book) else {
+    let mut book_area = [0u8; 4096];
+    let Some(book) = program_files::argument(rt, 2, b"BOOK", &mut book_area) else {
         return;
     };
-    let mut table = [0u8; 4096];
-    let Contents::Bytes(n) = program_files::argument(rt, 3, b"TABLE", &mut table) else {
+    let mut table_area = [0u8; 4096];
+    let Some(table) = program_files::argument(rt, 3, b"TABLE", &mut table_area) else {
         return;
     };
-    run(rt, &tower[..t], &book[..b], &table[..n]);
+    run(rt, tower, book, table);
 }
 
 fn main(rt: HostRuntime) {
@@ -318,5 +316,5 @@ fn main(rt: HostRuntime) {
         run_named(&rt);
         return;
     }
-    program_saying::say(&rt, b"usage: make_table [TOWER BOOK TABLE]\n");
+    program_saying::say(&rt, "usage: make_table [TOWER BOOK TABLE]\n");
 }

@@ -1,7 +1,7 @@
 -- What the functions of the maker promise, from the book that is read on back to the whole outcome.
 use Rattle.std.specs.Prelude.{ℕ, ◌≡◌, List, [], ◌∷◌}
 use Rattle.base.specs.Answers.{make_said}
-use Rattle.base.specs.declared.MakeAnswer.{MakeAnswer}
+use Rattle.base.specs.Answers.{MakeAnswer}
 use Rattle.outcome.specs.Make.{make_outcome}
 use Rattle.book_progression.specs.NodeBytes.{IsHeld}
 use Rattle.maker_rows.specs.Rows.{made_table_file, Ends}

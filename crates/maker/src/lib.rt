@@ -9,9 +9,7 @@ ghost use Rattle.maker_areas.specs.Lent.{Room};
 ghost use Rattle.maker_rows.specs.Rows.{Ends};
 ghost use Rattle.maker.specs.Making.{TableMade, Makes};
 
-use base::{BookAnswer, MakeAnswer, Refusal};
-use file_tower::TowerRead;
-use pair_search::Found;
+use base::{MakeAnswer, Refusal};
 
 // The pairs are those of the tower, not of a table's rows.
 const ROWS: bool = false;
@@ -34,12 +32,8 @@ fn make_table(
     requires room { Room nodes.now pairs.old index.old graph.old sets.old room.old flags.old classes.old }
     ensures { TableMade result tower.now nodes.now out.old out.new }
 {
-    let found = pair_search::explore(tower, tower, ROWS, nodes, pairs, index, graph, sets, room);
-    match found {
-        Found::TooMany => MakeAnswer::Refused(Refusal::Pairs),
-        Found::TooWide => MakeAnswer::Refused(Refusal::Alternatives),
-        Found::Met(n) => maker_rows::make_rows(tower, out, graph, flags, classes, room, n),
-    }
+    let n = pair_search::explore(tower, tower, ROWS, nodes, pairs, index, graph, sets, room)?;
+    maker_rows::make_rows(tower, out, graph, flags, classes, room, n)
 }
 
 // The two files: tower, book; and the table.
@@ -59,17 +53,11 @@ fn make_files(
     requires { Room nodes.old pairs.old index.old graph.old sets.old room.old flags.old classes.old }
     ensures { Ends (made_file tower.now text.now) out.old result out.new }
 {
-    let read = file_tower::read_tower(tower);
-    if let TowerRead::Refused(why) = read {
-        return MakeAnswer::Refused(why);
-    }
-    let book = book_reader::read_lines(file_tower::marks(tower), text, nodes);
-    match book {
-        BookAnswer::Refused(why) => MakeAnswer::Refused(why),
-        BookAnswer::Read { .. } => make_table(
-            tower, nodes, out, pairs, index, graph, sets, room, flags, classes,
-        ),
-    }
+    file_tower::read_tower(tower)?;
+    book_reader::read_lines(file_tower::marks(tower), text, nodes)?;
+    make_table(
+        tower, nodes, out, pairs, index, graph, sets, room, flags, classes,
+    )
 }
 
 // Writes the made table for the tower and the book to the output and answers its length, or the first
@@ -91,7 +79,7 @@ pub fn make(
     ensures { Makes result tower.now text.now out.old nodes.old pairs.old index.old graph.old sets.old room.old flags.old classes.old out.new nodes.new pairs.new index.new graph.new sets.new room.new flags.new classes.new }
 {
     if !maker_areas::long_enough(nodes, pairs, index, graph, sets, room, flags, classes) {
-        return MakeAnswer::Refused(Refusal::Area);
+        return Err(Refusal::Area);
     }
     let answer = make_files(
         tower, text, out, nodes, pairs, index, graph, sets, room, flags, classes,

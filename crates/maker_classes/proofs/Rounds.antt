@@ -4,7 +4,7 @@ use native.Mathlib.Omega.{arith}
 use native.Mathlib.Decide.{dec_lt}
 use mathlib.Core.Path.{◌≡◌, refl, sym, ap, ◌∙◌, subst}
 use mathlib.Core.Bool.{Bool, true, false}
-use mathlib.Core.Option.{Option, none, some}
+use Rattle.std.specs.Prelude.{Option, None, Some}
 use mathlib.Core.List.{List}
 use lib.ListN.{length, take, replicate}
 use lib.Dec.{eqb, ltb}
@@ -45,17 +45,17 @@ module _ (graph flags : List ℕ) (actions n : ℕ) (kind : ℕ → ℕ) (held :
   -- equal classes are shown exactly where steps lead to one class
   shows_out : (o p : Option ℕ) → shown (class_in classes) o ≡ shown (class_in classes) p → same_option same o p ≡ true
   unfolding shown same_option
-  shows_out none none e = refl
-  shows_out none (some y) e = absurd (omega arith)
-  shows_out (some x) none e = absurd (omega arith)
-  shows_out (some x) (some y) e = eq-eqb (class_in classes x) (class_in classes y) (omega arith)
+  shows_out None None e = refl
+  shows_out None (Some y) e = absurd (omega arith)
+  shows_out (Some x) None e = absurd (omega arith)
+  shows_out (Some x) (Some y) e = eq-eqb (class_in classes x) (class_in classes y) (omega arith)
 
   shows_back : (o p : Option ℕ) → same_option same o p ≡ true → shown (class_in classes) o ≡ shown (class_in classes) p
   unfolding shown same_option
-  shows_back none none e = refl
-  shows_back none (some y) e = never_both e refl
-  shows_back (some x) none e = never_both e refl
-  shows_back (some x) (some y) e = ap (λ z. z + 1) (eqb-true (class_in classes x) (class_in classes y) e)
+  shows_back None None e = refl
+  shows_back None (Some y) e = never_both e refl
+  shows_back (Some x) None e = never_both e refl
+  shows_back (Some x) (Some y) e = ap (λ z. z + 1) (eqb-true (class_in classes x) (class_in classes y) e)
 
   -- Pairs that look the same stay in one class in a pass,
   alike_passes : (i j : ℕ) → AlikePairs seen i j → pass pairs (safe_in flags) same i j ≡ true

@@ -4,7 +4,7 @@ use native.Mathlib.Omega.{arith}
 use native.Mathlib.Decide.{ℕ_discrete}
 use mathlib.Core.Path.{◌≡◌, refl, sym, ap, ◌∙◌, subst}
 use mathlib.Core.Bool.{true, false}
-use mathlib.Core.Option.{Option, none, some}
+use Rattle.std.specs.Prelude.{Option, None, Some}
 use mathlib.Core.List.{List}
 use lib.ListN.{length, take}
 use Rattle.pair_graph.specs.Steps.{class_in, safe_in, led_to}
@@ -85,7 +85,7 @@ module _ (graph flags : List ℕ) (actions n : ℕ) (area mid marks : List ℕ) 
     module _ (marks_after : List ℕ) (again : MarkedAgain n actions graph flags (take 2000 after) marks separated marks_after)
         (marks_long : length marks_after ≡ length marks) where
       -- A pair to which a step from a quiet pair leads has the class that it had.
-      led_same : (i a j : ℕ) → i < n → a < actions → Quiet actions graph flags marks separated i → led_to graph flags i a ≡ some j
+      led_same : (i a j : ℕ) → i < n → a < actions → Quiet actions graph flags marks separated i → led_to graph flags i a ≡ Some j
           → class_in (take 2000 after) j ≡ class_in (take 2000 area) j
       led_same i a j l m quiet e =
           let there = allowed_below graph flags n actions i a j stands.given.held l m e in
@@ -98,8 +98,8 @@ module _ (graph flags : List ℕ) (actions n : ℕ) (area mid marks : List ℕ) 
       shows_still i a l m quiet = go (led_to graph flags i a) refl
         where
           go : (o : Option ℕ) → led_to graph flags i a ≡ o → shown (class_in (take 2000 after)) o ≡ shown (class_in (take 2000 area)) o
-          go none e = unfold shown in refl
-          go (some j) e = unfold shown in (ap (λ x. x + 1) (led_same i a j l m quiet e))
+          go None e = unfold shown in refl
+          go (Some j) e = unfold shown in (ap (λ x. x + 1) (led_same i a j l m quiet e))
 
       settled : (k : ℕ) → k < n → safe_in flags k ≡ true → marked_in marks_after k ≡ false
           → AlikePairs (view_of graph flags actions (take 2000 after)) k (class_in (take 2000 after) k)

@@ -106,10 +106,8 @@ pub fn look_all(
 {
     area_bytes::clear(&mut area[HEADS..HEADS_END]);
     let mut separated = 0;
-    let mut i = 0;
-    while i < n {
+    for i in 0..n {
         separated = look(graph, flags, n, actions, i, area, marks, separated);
-        i += 1;
     }
     separated
 }
@@ -119,11 +117,9 @@ pub fn adopt(n: usize, separated: usize, area: &mut [u8], marks: &[u8])
     requires { ToAdopt n area.old marks.now separated }
     ensures { Adopted n area.old marks.now separated area.new }
 {
-    let mut p = 0;
-    while p < separated {
+    for p in 0..separated {
         let i = maker_marks::noted(marks, p);
         let new = area_bytes::two_bytes(area, NEW + 2 * i);
         area_bytes::put_two_bytes(area, 2 * i, new);
-        p += 1;
     }
 }

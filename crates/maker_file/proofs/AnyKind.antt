@@ -2,7 +2,7 @@
 use Prim.Native.Nat.{ℕ}
 use mathlib.Core.Path.{◌≡◌, refl, ap, fun_ext}
 use mathlib.Core.Bool.{Bool}
-use mathlib.Core.Option.{Option, none, some}
+use Rattle.std.specs.Prelude.{Option, None, Some}
 use mathlib.Core.List.{List, map}
 use Rattle.base.specs.Lists.{below, present}
 use Rattle.logic.specs.Tower.{Tower}
@@ -18,8 +18,8 @@ module _ (n actions : ℕ) (state : ℕ → ℕ) (move : ℕ → ℕ → Move) (
 
   step_kind : (a : ℕ) (o : Option ℕ) → graph_step (graph kind) safe class a o ≡ graph_step (graph other) safe class a o
   unfolding graph_step row_order same_class allowed_all allowed
-  step_kind a none = refl
-  step_kind a (some j) = refl
+  step_kind a None = refl
+  step_kind a (Some j) = refl
 
   row_kind : (i : ℕ) → graph_row (graph kind) safe class i ≡ graph_row (graph other) safe class i
   unfolding graph_row allowed

@@ -4,7 +4,7 @@ use native.Mathlib.Omega.{arith}
 use native.Mathlib.Nat.{mul-zero, mul-suc, mul-le-mul}
 use native.Mathlib.Numerals.{add-one}
 use mathlib.Core.Path.{◌≡◌, refl, sym, ◌∙◌, ap, ap₂, subst}
-use mathlib.Core.Option.{Option}
+use Rattle.std.specs.Prelude.{Option}
 use mathlib.Core.List.{List, [], ◌∷◌, ◌++◌, map, append_assoc}
 use lib.ListN.{length, drop, length-append, length-map}
 use lib.Seq.{sets, length-sets}
@@ -23,7 +23,7 @@ use Rattle.maker_order.specs.Orders.{followers, classes_part, order_of, Classed,
 use Rattle.maker_order.proofs.Rest.{rest, rest_all, rest_next, rest_none}
 use Rattle.maker_order.proofs.Orders.{class_read, length_order}
 use Rattle.maker_file.specs.Writing.{table_in, Writable, ShortNumbers, WritesTable, step_from, steps_in, row_in, packed, steps_total, bytes_of_steps, Laid, Wrote, WroteHeader, WroteRows, WroteFile}
-use Rattle.maker_file.specs.declared.Written.TheVariants.{Made, NoRoom}
+use Rattle.std.specs.Prelude.{Some, None}
 use Rattle.maker_file.proofs.Tables.{sets_append, length_steps, packed_cons, packed_nil, length_packed, no_steps, bytes_append, length_bytes, file_parts, file_long}
 use Rattle.maker_file.proofs.Same.{table_same}
 use Rattle.maker_file.proofs.Going.{Totalling, totalling_start, totalling_more, laid_few, laid_total, next_pair, no_pair}
@@ -340,7 +340,7 @@ module _ (graph flags classes : List ℕ) (n actions : ℕ) (given : Writable gr
 
       -- There is no room.
       pub writes_nothing : (out : List ℕ) → length out < p + 3 * total
-          → WritesTable (table_file layout states actions (table_in graph flags classes n actions)) out NoRoom out
+          → WritesTable (table_file layout states actions (table_in graph flags classes n actions)) out None out
       writes_nothing out l =
           let less = lt-ltb (length out) (length (table_file layout states actions (table_in graph flags classes n actions))) (omega (arith, file_length)) in
           record { answered = rw less; left = rw less }
@@ -348,12 +348,12 @@ module _ (graph flags classes : List ℕ) (n actions : ℕ) (given : Writable gr
       -- The file is written.
       pub writes_file : (out z : List ℕ) (size : ℕ) → p + 3 * total ≤ length out
           → WroteFile layout graph flags area states actions rows out z size
-          → WritesTable (table_file layout states actions (table_in graph flags classes n actions)) out (Made size) z
+          → WritesTable (table_file layout states actions (table_in graph flags classes n actions)) out (Some size) z
       writes_file out z size l w =
           let file = table_file layout states actions in
           let enough = le-ltb (length out) (length (file (table_in graph flags classes n actions))) (omega (arith, file_length)) in
           record {
-            answered = rw enough (ap Made (w.long ∙ sym (ap (λ t. length (file t)) table_is)));
+            answered = rw enough (ap (λ r. Some r) (w.long ∙ sym (ap (λ t. length (file t)) table_is)));
             left = rw enough (w.left ∙ sym (ap (λ t. sets out 0 (file t)) table_is));
           }
 

@@ -4,7 +4,7 @@ use native.Mathlib.Omega.{arith}
 use mathlib.Core.Path.{◌≡◌, refl, sym, ◌∙◌, ap, ap₂}
 use mathlib.Core.Logic.{⊎_elim}
 use mathlib.Core.Bool.{Bool, true, false, ◌||◌}
-use mathlib.Core.Option.{Option, none, some}
+use Rattle.std.specs.Prelude.{Option, None, Some}
 use mathlib.Core.List.Memᴰ
 use mathlib.Core.List.{List, [], ◌∷◌, ◌++◌, map, Memᴰ}
 use lib.Dec.{eqb}
@@ -114,14 +114,14 @@ module _ (graph flags classes part : List ℕ) (n actions : ℕ) (moves : Flagge
       (below_one n 0 (omega arith)) (below_one n 0 (omega arith))
 
   module _ (order : List ℕ) (is_order : order ≡ search_from (same_in part) (followers graph flags actions) once n 0) (rows_below : Below n order) where
-    step_same : (a : ℕ) (o : Option ℕ) → ((j : ℕ) → o ≡ some j → j < n)
+    step_same : (a : ℕ) (o : Option ℕ) → ((j : ℕ) → o ≡ Some j → j < n)
         → graph_step (graph_in graph n actions) (safe_in flags) (class_in classes) a o ≡ step_in part order a o
     unfolding graph_step step_in same_class same_in
-    step_same a none h = refl
-    step_same a (some j) h =
+    step_same a None h = refl
+    step_same a (Some j) h =
         let at = rows_met ∙ sym is_order in
         let place = place_same n (same_in classes) (same_in part) same_agrees j order (h j refl) rows_below in
-        ap (λ (t : ℕ). some (record { action = a; target = t })) (ap (place_of (same_in classes j)) at ∙ place)
+        ap (λ (t : ℕ). Some (record { action = a; target = t })) (ap (place_of (same_in classes j)) at ∙ place)
 
     row_same : (i : ℕ) → i < n → graph_row (graph_in graph n actions) (safe_in flags) (class_in classes) i ≡ row_in graph flags part order actions i
     unfolding graph_row row_in steps_in step_from led_to allowed graph_in

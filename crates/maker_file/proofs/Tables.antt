@@ -3,7 +3,7 @@ use Prim.Native.Nat.{ℕ, suc, ◌+◌, ◌*◌, ◌≤◌}
 use native.Mathlib.Omega.{arith}
 use native.Mathlib.Nat.{add-zero}
 use mathlib.Core.Path.{◌≡◌, refl, ◌∙◌, ap, ap₂}
-use mathlib.Core.Option.{Option, none, some}
+use Rattle.std.specs.Prelude.{Option, None, Some}
 use mathlib.Core.List.{List, [], ◌∷◌, ◌++◌, map, map-map, map-append, append-nil}
 use lib.ListN.{length, set, length-append, length-map}
 use lib.Seq.{sets}
@@ -30,8 +30,8 @@ sets_append l i (v ∷ vs) ws =
 length_present : {X : Type 0} (os : List (Option X)) → length (present os) ≤ length os
 unfolding present
 length_present [] = omega arith
-length_present (none ∷ os) = omega (arith, length_present os)
-length_present (some x ∷ os) = omega (arith, length_present os)
+length_present (None ∷ os) = omega (arith, length_present os)
+length_present (Some x ∷ os) = omega (arith, length_present os)
 
 -- A pair has no more followers than there are actions.
 pub followers_few : (graph flags : List ℕ) (actions i : ℕ) → length (followers graph flags actions i) ≤ actions
@@ -44,8 +44,8 @@ module _ (graph flags part order : List ℕ) where
   length_step : (a : ℕ) (o : Option ℕ) (ss : List (Option Step)) (os : List (Option ℕ)) → length (present ss) ≡ length (present os)
       → length (present (step_in part order a o ∷ ss)) ≡ length (present (o ∷ os))
   unfolding step_in present
-  length_step a none ss os e = e
-  length_step a (some j) ss os e = ap suc e
+  length_step a None ss os e = e
+  length_step a (Some j) ss os e = ap suc e
 
   length_steps_from : (i : ℕ) (bs : List ℕ) → length (present (map (step_from graph flags part order i) bs)) ≡ length (present (map (led_to graph flags i) bs))
   unfolding step_from present

@@ -3,7 +3,7 @@ use Prim.Native.Nat.{ℕ, suc, ◌+◌, ◌-◌, ◌*◌, ◌^◌, ◌≤◌, �
 use native.Mathlib.Omega.{arith}
 use mathlib.Core.Path.{◌≡◌, refl, sym, ◌∙◌, ap, ap₂}
 use mathlib.Core.Bool.{Bool, true}
-use mathlib.Core.Option.{some}
+use Rattle.std.specs.Prelude.{Some}
 use mathlib.Core.List.{List, [], ◌∷◌, ◌++◌}
 use lib.ListN.{length}
 use lib.Seq.{sets, length-sets}
@@ -18,10 +18,9 @@ use Rattle.base.proofs.Search.{few_once, search_closed}
 use Rattle.logic.specs.Tables.{Step}
 use Rattle.logic.specs.declared.FileLayout.{FileLayout}
 use Rattle.logic.specs.TableFile.{rows_at, steps_at, header_bytes, step_bytes}
-use Rattle.pair_graph.specs.Steps.{class_in, led_to, led_of}
+use Rattle.pair_graph.specs.Steps.{class_in, led_to}
 use Rattle.maker_order.specs.Orders.{followers, classes_part, same_in, order_of, of_class}
-use Rattle.pair_graph.specs.declared.Led.{Led}
-use Rattle.pair_graph.specs.declared.Led.TheVariants.{To, Nowhere}
+use Rattle.std.specs.Prelude.{Option, None}
 use Rattle.maker_order.proofs.Orders.{same_is, class_read, length_order, mark_some, of_same}
 use Rattle.pair_graph.proofs.Moves.{led_some, led_none, allowed_below}
 use Rattle.maker_file.specs.Writing.{step_in, step_from, Laid, IsRow, RowsMarked, Wrote, WroteCounts, WroteHeader}
@@ -30,12 +29,12 @@ use Rattle.maker_file.proofs.Going.{row_pair_below}
 
 -- ---- one step more or none
 
-pub no_step : (graph flags : List ℕ) (i a : ℕ) (r : Led) → r ≡ led_of (led_to graph flags i a) → r ≡ Nowhere
+pub no_step : (graph flags : List ℕ) (i a : ℕ) (r : Option ℕ) → r ≡ (led_to graph flags i a) → r ≡ None
     → 0 ≡ length (present (led_to graph flags i a ∷ []))
 unfolding present
 no_step graph flags i a r e f = let o = led_none (led_to graph flags i a) r e f in rw o
 
-pub a_step : (graph flags : List ℕ) (i a j : ℕ) (r : Led) → r ≡ led_of (led_to graph flags i a) → r ≡ To j
+pub a_step : (graph flags : List ℕ) (i a j : ℕ) (r : Option ℕ) → r ≡ (led_to graph flags i a) → r ≡ Some j
     → 1 ≡ length (present (led_to graph flags i a ∷ []))
 unfolding present
 a_step graph flags i a j r e f = let o = led_some (led_to graph flags i a) r j e f in rw o
@@ -57,9 +56,9 @@ row_read area n j c m h e f =
     let g : m ≡ number_at 2 area (2000 + 2 * n + 2 * number_at 2 area (2 * j)) = f ∙ ap (λ k. number_at 2 area (2000 + 2 * n + 2 * k)) e in
     omega (arith, mark_least area n j c m h e f)
 
-module _ (graph flags area : List ℕ) (n actions rows i a j : ℕ) (r : Led) (laid : Laid graph flags area n actions rows) (row : IsRow area rows i)
-    (l : a < actions) (is_r : r ≡ led_of (led_to graph flags i a)) (is_to : r ≡ To j) where
-  led_is : led_to graph flags i a ≡ some j
+module _ (graph flags area : List ℕ) (n actions rows i a j : ℕ) (r : Option ℕ) (laid : Laid graph flags area n actions rows) (row : IsRow area rows i)
+    (l : a < actions) (is_r : r ≡ (led_to graph flags i a)) (is_to : r ≡ Some j) where
+  led_is : led_to graph flags i a ≡ Some j
   led_is = led_some (led_to graph flags i a) r j is_r is_to
 
   target_below : j < n
@@ -135,7 +134,7 @@ module _ (graph flags area : List ℕ) (n actions rows i a j : ℕ) (r : Led) (l
       })
 
 -- No step is written.
-pub wrote_none : (graph flags area : List ℕ) (rows i a : ℕ) (r : Led) (p : ℕ) (out : List ℕ) → r ≡ led_of (led_to graph flags i a) → r ≡ Nowhere
+pub wrote_none : (graph flags area : List ℕ) (rows i a : ℕ) (r : Option ℕ) (p : ℕ) (out : List ℕ) → r ≡ (led_to graph flags i a) → r ≡ None
     → Wrote (present (step_from graph flags (classes_part area) (order_of area rows) i a ∷ [])) out p out p
 unfolding step_from step_in present
 wrote_none graph flags area rows i a r p out is_r f =

@@ -1,6 +1,6 @@
 -- The table of the pairs that the areas hold: what the writer is given, and what it leaves.
 use Rattle.std.specs.Prelude.{ℕ, ◌+◌, ◌*◌, ◌≤◌, ◌<◌, ◌≡◌, length, ltb}
-use Rattle.std.proofs.Math.Option.{Option, none, some}
+use Rattle.std.specs.Prelude.{Option, None, Some}
 use mathlib.Core.List.{List, ◌++◌, map, Memᴰ}
 use Rattle.std.proofs.lemmas.List.Edits.{sets}
 use Rattle.base.specs.Choice.{pick}
@@ -14,8 +14,6 @@ use Rattle.pair_graph.specs.Graph.{Graph}
 use Rattle.pair_graph.specs.Steps.{class_in, safe_in, state_in, led_to, graph_with, FlaggedGraph}
 use Rattle.pair_graph.specs.GraphTable.{graph_table}
 use Rattle.maker_order.specs.Orders.{followers, classes_part, same_in, order_of, RowsNumbered}
-use Rattle.maker_file.specs.declared.Written.{Written}
-use Rattle.maker_file.specs.declared.Written.TheVariants.{Made, NoRoom}
 
 -- ---- the table
 
@@ -42,16 +40,16 @@ pub record ShortNumbers (layout : FileLayout) : Type 0 where
   pub most : layout.width ≤ 2
 
 -- What the writer answers and leaves in the output: the file from 0 on if there is room for it, and else the output as it was.
-pub record WritesTable (file out : List ℕ) (answer : Written) (after : List ℕ) : Type 0 where
-  pub answered : answer ≡ pick (ltb (length out) (length file)) (λ _. NoRoom) (λ _. Made (length file))
+pub record WritesTable (file out : List ℕ) (answer : Option ℕ) (after : List ℕ) : Type 0 where
+  pub answered : answer ≡ pick (ltb (length out) (length file)) (λ _. None) (λ _. Some (length file))
   pub left : after ≡ pick (ltb (length out) (length file)) (λ _. out) (λ _. sets out 0 file)
 
 -- ---- its parts, over the list of rows
 
 -- the step of action a, if it leads to a pair
 unfoldable pub step_in : (part order : List ℕ) → ℕ → Option ℕ → Option Step
-step_in part order a none = none
-step_in part order a (some j) = some (record { action = a; target = place_of (same_in part j) order })
+step_in part order a None = None
+step_in part order a (Some j) = Some (record { action = a; target = place_of (same_in part j) order })
 
 -- the step of action a from pair i
 unfoldable pub step_from : (graph flags part order : List ℕ) → ℕ → ℕ → Option Step

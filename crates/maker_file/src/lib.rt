@@ -13,17 +13,9 @@ ghost use Rattle.maker_file.specs.Writing.{table_in, Writable, ShortNumbers, Wri
 
 use logic::FileLayout;
 use maker_order;
-use pair_graph::Led;
 
 // Where the list of rows begins in the area of classes.
 const ORDER_AT: usize = 2000;
-
-// The length of the table, or that there is no room for it.
-#[derive(Clone, Copy)]
-pub enum Written {
-    Made(usize),
-    NoRoom,
-}
 
 // The pair that stands for row r.
 fn pair_of(area: &[u8], r: usize) -> usize
@@ -49,7 +41,7 @@ fn has_step(graph: &[u8], flags: &[u8], pairs: usize, actions: usize, i: usize, 
     requires a_lt_actions { a < actions }
     ensures { result ≡ length (present (led_to graph.now flags.now i a ∷ [])) }
 {
-    let Led::To(_) = pair_graph::allowed(graph, flags, pairs, actions, i, a) else {
+    let Some(_) = pair_graph::allowed(graph, flags, pairs, actions, i, a) else {
         return 0;
     };
     1
@@ -62,10 +54,8 @@ fn step_count(graph: &[u8], flags: &[u8], pairs: usize, actions: usize, i: usize
     ensures { result ≡ length (followers graph.now flags.now actions i) }
 {
     let mut count = 0;
-    let mut a = 0;
-    while a < actions {
+    for a in 0..actions {
         count += has_step(graph, flags, pairs, actions, i, a);
-        a += 1;
     }
     count
 }
@@ -83,15 +73,13 @@ fn total_steps(
     ensures { result ≡ steps_total graph.now flags.now actions (order_of area.now rows) }
 {
     let mut total = 0;
-    let mut r = 0;
-    while r < rows {
+    for r in 0..rows {
         total += step_count(graph, flags, pairs, actions, pair_of(area, r));
-        r += 1;
     }
     total
 }
 
-// WritesTable two two-byte numbers at p.
+// Writes two two-byte numbers at p.
 fn write_two_numbers(out: &mut [u8], p: usize, a: usize, b: usize)
     requires { p + 4 ≤ length out.old }
     ensures { out.new ≡ sets out.old p (number_bytes 2 a ++ number_bytes 2 b) }
@@ -100,7 +88,7 @@ fn write_two_numbers(out: &mut [u8], p: usize, a: usize, b: usize)
     area_bytes::put_two_bytes(out, p + 2, b);
 }
 
-// WritesTable the first four numbers of the header: rows, steps, and where each begin.
+// Writes the first four numbers of the header: rows, steps, and where each begin.
 fn write_counts(out: &mut [u8], rows: usize, steps: usize, place: usize)
     requires { rows_at ≤ length out.old }
     ensures { WroteCounts rows steps place out.old out.new }
@@ -109,7 +97,7 @@ fn write_counts(out: &mut [u8], rows: usize, steps: usize, place: usize)
     write_two_numbers(out, 4, file_layout::ROWS_AT, place);
 }
 
-// WritesTable the header.
+// Writes the header.
 fn write_header(
     out: &mut [u8],
     layout: FileLayout,
@@ -127,7 +115,7 @@ fn write_header(
     write_two_numbers(out, 8, states, actions);
 }
 
-// WritesTable at p a number in one byte, and behind it one in two.
+// Writes at p a number in one byte, and behind it one in two.
 fn write_three_bytes(out: &mut [u8], p: usize, small: usize, number: usize)
     requires { p + 3 ≤ length out.old }
     ensures { out.new ≡ sets out.old p (number_bytes 1 small ++ number_bytes 2 number) }
@@ -136,7 +124,7 @@ fn write_three_bytes(out: &mut [u8], p: usize, small: usize, number: usize)
     area_bytes::put_two_bytes(out, p + 1, number);
 }
 
-// WritesTable a row at p: state, step count, first step.
+// Writes a row at p: state, step count, first step.
 fn write_row(out: &mut [u8], p: usize, width: usize, state: usize, count: usize, first: usize)
     requires le_width { 1 ≤ width }
     requires width_bound { width ≤ 2 }
@@ -147,7 +135,7 @@ fn write_row(out: &mut [u8], p: usize, width: usize, state: usize, count: usize,
     write_three_bytes(out, p + width, count, first);
 }
 
-// WritesTable the rows, each with the number of steps before it as its first step.
+// Writes the rows, each with the number of steps before it as its first step.
 fn write_rows(
     graph: &[u8],
     flags: &[u8],
@@ -164,8 +152,7 @@ fn write_rows(
     ensures { WroteRows layout graph.now flags.now area.now actions rows out.old out.new }
 {
     let mut first = 0;
-    let mut row = 0;
-    while row < rows {
+    for row in 0..rows {
         let i = pair_of(area, row);
         let count = step_count(graph, flags, pairs, actions, i);
         write_row(
@@ -177,11 +164,10 @@ fn write_rows(
             first,
         );
         first += count;
-        row += 1;
     }
 }
 
-// WritesTable the step of action a from pair i at p, if it is allowed. Returns where the next step goes.
+// Writes the step of action a from pair i at p, if it is allowed. Returns where the next step goes.
 fn write_allowed(
     graph: &[u8],
     flags: &[u8],
@@ -200,14 +186,14 @@ fn write_allowed(
     requires a_in_bounds { p + 3 * length (present (step_of graph.now flags.now area.now rows i a ∷ [])) ≤ length out.old }
     ensures { Wrote (present (step_of graph.now flags.now area.now rows i a ∷ [])) out.old p out.new result }
 {
-    let Led::To(j) = pair_graph::allowed(graph, flags, pairs, actions, i, a) else {
+    let Some(j) = pair_graph::allowed(graph, flags, pairs, actions, i, a) else {
         return p;
     };
     write_three_bytes(out, p, a, row_of(area, pairs, j));
     p + file_layout::STEP_SIZE
 }
 
-// WritesTable the steps from pair i at p, actions ascending. Returns where the next step goes.
+// Writes the steps from pair i at p, actions ascending. Returns where the next step goes.
 fn write_steps_of(
     graph: &[u8],
     flags: &[u8],
@@ -225,15 +211,13 @@ fn write_steps_of(
     ensures { Wrote (steps_of graph.now flags.now area.now rows actions i) out.old p out.new result }
 {
     let mut next = p;
-    let mut a = 0;
-    while a < actions {
+    for a in 0..actions {
         next = write_allowed(graph, flags, area, out, pairs, actions, rows, i, a, next);
-        a += 1;
     }
     next
 }
 
-// WritesTable the steps of all rows at p, packed in row order. Returns where the file ends.
+// Writes the steps of all rows at p, packed in row order. Returns where the file ends.
 fn write_steps(
     graph: &[u8],
     flags: &[u8],
@@ -249,8 +233,7 @@ fn write_steps(
     ensures { Wrote (packed_of graph.now flags.now area.now rows actions) out.old p out.new result }
 {
     let mut next = p;
-    let mut done = 0;
-    while done < rows {
+    for done in 0..rows {
         next = write_steps_of(
             graph,
             flags,
@@ -262,12 +245,11 @@ fn write_steps(
             pair_of(area, done),
             next,
         );
-        done += 1;
     }
     next
 }
 
-// WritesTable the table of so many rows with so many steps. Returns its length.
+// Writes the table of so many rows with so many steps. Returns its length.
 fn write_file(
     graph: &[u8],
     flags: &[u8],
@@ -300,7 +282,7 @@ fn write_file(
     )
 }
 
-// WritesTable the table of the safe pairs and their classes in this layout, if there is room for it.
+// Writes the table of the safe pairs and their classes in this layout, and answers its length, if there is room for it.
 // Behind the classes the area is used for the order of the rows.
 pub fn write_table(
     graph: &[u8],
@@ -311,7 +293,7 @@ pub fn write_table(
     pairs: usize,
     states: usize,
     actions: usize,
-) -> Written
+) -> Option<usize>
     requires writable { Writable graph.now flags.now classes.old pairs actions }
     requires short_numbers { ShortNumbers layout }
     ensures { WritesTable (table_file layout states actions (table_in graph.now flags.now classes.old pairs actions)) out.old result out.new }
@@ -320,9 +302,9 @@ pub fn write_table(
     let total = total_steps(graph, flags, classes, pairs, actions, rows);
     let steps_at = file_layout::row_at(layout, rows);
     if out.len() < steps_at + file_layout::STEP_SIZE * total {
-        return Written::NoRoom;
+        return None;
     }
-    Written::Made(write_file(
+    Some(write_file(
         graph, flags, classes, out, layout, pairs, states, actions, rows, total,
     ))
 }

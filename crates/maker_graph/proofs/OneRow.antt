@@ -2,7 +2,7 @@
 use Prim.Native.Nat.{ℕ, zero, suc, ◌<◌}
 use mathlib.Core.Path.{◌≡◌, refl, sym, ◌∙◌, ap₂, subst}
 use mathlib.Core.Bool.{Bool, true, false}
-use mathlib.Core.Option.{Option, none, some, map}
+use Rattle.std.specs.Prelude.{Option, None, Some, option_map}
 use mathlib.Core.List.{Memᴰ}
 use native.Mathlib.Omega.{arith}
 use lib.ListN.{length}
@@ -29,50 +29,50 @@ pub record SafeGraph (tower : Tower) (book : Book) (graph : Graph) (staying : �
 
 -- a test on values, asked of their images
 same_option_map : {X Y : Type 0} (f : X → Y) (same : Y → Y → Bool) (o p : Option X)
-    → same_option same (map f o) (map f p) ≡ same_option (λ x y. same (f x) (f y)) o p
+    → same_option same (option_map f o) (option_map f p) ≡ same_option (λ x y. same (f x) (f y)) o p
 unfolding same_option
-same_option_map f same none none = refl
-same_option_map f same none (some y) = refl
-same_option_map f same (some x) none = refl
-same_option_map f same (some x) (some y) = refl
+same_option_map f same None None = refl
+same_option_map f same None (Some y) = refl
+same_option_map f same (Some x) None = refl
+same_option_map f same (Some x) (Some y) = refl
 
 module _ (tower : Tower) (book : Book) (graph : Graph) (staying : ℕ → Bool) (g : SafeGraph tower book graph staying) where
   module _ (i a : ℕ) where
-    none_safe : pair_step tower book (numbered tower book i) a ≡ none → safe_step tower book (numbered tower book i) a ≡ none
+    none_safe : pair_step tower book (numbered tower book i) a ≡ None → safe_step tower book (numbered tower book i) a ≡ None
     unfolding safe_step only_if
     none_safe e = rw e
 
-    some_safe : (j : ℕ) → j < length (pairs tower book) → pair_step tower book (numbered tower book i) a ≡ some (numbered tower book j)
-        → safe_step tower book (numbered tower book i) a ≡ map (numbered tower book) (allowed_to staying (to j))
+    some_safe : (j : ℕ) → j < length (pairs tower book) → pair_step tower book (numbered tower book i) a ≡ Some (numbered tower book j)
+        → safe_step tower book (numbered tower book i) a ≡ option_map (numbered tower book) (allowed_to staying (to j))
     unfolding safe_step only_if allowed_to
     some_safe j l e = rw (e, g.safes j (omega (arith, g.of.count))) (go (safe tower book (numbered tower book j)))
       where
-        go : (b : Bool) → pick b (λ _. some (numbered tower book j)) (λ _. none) ≡ map (numbered tower book) (pick b (λ _. some j) (λ _. none))
+        go : (b : Bool) → pick b (λ _. Some (numbered tower book j)) (λ _. None) ≡ option_map (numbered tower book) (pick b (λ _. Some j) (λ _. None))
         go true = refl
         go false = refl
 
   -- an allowed step of a number is one of its pair
   pub allowed_step : (i a : ℕ) → i < graph.pairs → a < graph.actions
-      → safe_step tower book (numbered tower book i) a ≡ map (numbered tower book) (allowed_to staying (graph.move i a))
+      → safe_step tower book (numbered tower book i) a ≡ option_map (numbered tower book) (allowed_to staying (graph.move i a))
   allowed_step i a lt la = go (graph.move i a) (g.of.moves i a lt la)
     where
       go : (m : Move) → SaysStep tower book i a m
-          → safe_step tower book (numbered tower book i) a ≡ map (numbered tower book) (allowed_to staying m)
+          → safe_step tower book (numbered tower book i) a ≡ option_map (numbered tower book) (allowed_to staying m)
       go not_enabled (says_not_enabled e) = unfold allowed_to in (none_safe i a (not_enabled_none tower book i a e))
       go broken (says_broken y e f) = unfold allowed_to in (none_safe i a f)
       go (to j) (says_to _ l e) = some_safe i a j l e
 
   -- what an allowed step leads to is there and kept
-  pub allowed_safe : (i a j : ℕ) → i < graph.pairs → a < graph.actions → allowed_to staying (graph.move i a) ≡ some j → SafePair graph staying j
+  pub allowed_safe : (i a j : ℕ) → i < graph.pairs → a < graph.actions → allowed_to staying (graph.move i a) ≡ Some j → SafePair graph staying j
   allowed_safe i a j lt la e = go (graph.move i a) (g.of.moves i a lt la) e
     where
-      pick_out : (b : Bool) (k : ℕ) → pick b (λ _. some k) (λ _. none) ≡ some j → (b ≡ true) × (k ≡ j)
+      pick_out : (b : Bool) (k : ℕ) → pick b (λ _. Some k) (λ _. None) ≡ Some j → (b ≡ true) × (k ≡ j)
       pick_out true k f = (refl, let z : k ≡ j = cc in z)
       pick_out false k f = let z : ◌≡◌ {A = ℕ} 0 1 = cc in absurd (omega arith)
 
-      go : (m : Move) → SaysStep tower book i a m → allowed_to staying m ≡ some j → SafePair graph staying j
-      go not_enabled says f = let h : none ≡ some j = unfold allowed_to in f in let z : ◌≡◌ {A = ℕ} 0 1 = cc in absurd (omega arith)
-      go broken says f = let h : none ≡ some j = unfold allowed_to in f in let z : ◌≡◌ {A = ℕ} 0 1 = cc in absurd (omega arith)
+      go : (m : Move) → SaysStep tower book i a m → allowed_to staying m ≡ Some j → SafePair graph staying j
+      go not_enabled says f = let h : None ≡ Some j = unfold allowed_to in f in let z : ◌≡◌ {A = ℕ} 0 1 = cc in absurd (omega arith)
+      go broken says f = let h : None ≡ Some j = unfold allowed_to in f in let z : ◌≡◌ {A = ℕ} 0 1 = cc in absurd (omega arith)
       go (to k) (says_to _ l s) f =
           let (b, same) = pick_out (staying k) k (unfold allowed_to in f) in
           subst (SafePair graph staying) same (record { there = omega (arith, g.of.count); is_safe = b })
@@ -98,11 +98,11 @@ module _ (tower : Tower) (book : Book) (graph : Graph) (staying : ℕ → Bool) 
           where
             go : (o p : Option ℕ) → allowed_to staying (graph.move i a) ≡ o → allowed_to staying (graph.move j a) ≡ p
                 → same_option (λ k l. eqb (class k) (class l)) o p ≡ true
-                → same_option (alike_for tower book n) (map (numbered tower book) o) (map (numbered tower book) p) ≡ true
-            go none none eo ep f = unfold same_option in refl
-            go none (some l) eo ep f = unfold same_option in f
-            go (some k) none eo ep f = unfold same_option in f
-            go (some k) (some l) eo ep f =
+                → same_option (alike_for tower book n) (option_map (numbered tower book) o) (option_map (numbered tower book) p) ≡ true
+            go None None eo ep f = unfold same_option in refl
+            go None (Some l) eo ep f = unfold same_option in f
+            go (Some k) None eo ep f = unfold same_option in f
+            go (Some k) (Some l) eo ep f =
                 unfold same_option in
                 (ih k l (allowed_safe i a k ki.there la eo) (allowed_safe j a l kj.there la ep) (eqb-true (class k) (class l) (unfold same_option in f)))
 

@@ -3,7 +3,7 @@ use Prim.Native.Nat.{ℕ, zero, suc, ◌<◌}
 use mathlib.Core.Path.{◌≡◌, refl, sym, ◌∙◌, ap, subst}
 use mathlib.Core.Logic.{◌⊎◌, inl, inr}
 use mathlib.Core.Bool.{Bool, true, false, ◌&&◌, ◌||◌, not}
-use mathlib.Core.Option.{none}
+use Rattle.std.specs.Prelude.{None}
 use mathlib.Core.List.{Memᴰ}
 use native.Mathlib.Omega.{arith}
 use lib.ListN.{length}
@@ -24,8 +24,8 @@ pub led_out : (staying : ℕ → Bool) (m : Move) → LeadsTo staying m → (j :
 led_out staying m (led j k) = (j, refl, k)
 
 -- an action that is not enabled makes no step
-pub not_enabled_none : (tower : Tower) (book : Book) (i a : ℕ) → tower.target (numbered tower book i).state a ≡ none
-    → pair_step tower book (numbered tower book i) a ≡ none
+pub not_enabled_none : (tower : Tower) (book : Book) (i a : ℕ) → tower.target (numbered tower book i).state a ≡ None
+    → pair_step tower book (numbered tower book i) a ≡ None
 not_enabled_none tower book i a e =
     whether_there (pair_step tower book (numbered tower book i) a) (λ f. f)
     (λ w f. none-some e (pair_step_out tower book (numbered tower book i) w a f).0)

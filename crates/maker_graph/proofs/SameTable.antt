@@ -2,8 +2,8 @@
 use Prim.Native.Nat.{ℕ, zero, suc, ◌<◌}
 use mathlib.Core.Path.{◌≡◌, refl, sym, ◌∙◌, ap, ap₂, subst}
 use mathlib.Core.Bool.{Bool, true, false, ◌||◌}
-use mathlib.Core.Option
-use mathlib.Core.Option.{Option, none, some}
+use Rattle.std.specs.Prelude.{option_map}
+use Rattle.std.specs.Prelude.{Option, None, Some}
 use mathlib.Core.List.Memᴰ
 use mathlib.Core.List.{List, [], ◌∷◌, ◌++◌, map, Memᴰ, map-append}
 use mathlib.Core.Logic.{◌⊎◌, inl, inr}
@@ -159,16 +159,16 @@ module _ {X Y : Type 0} (f : X → Y) (same : X → X → Bool) (same' : Y → Y
 
 -- what is there and leads on, along a list of actions
 present_map : {X Y : Type 0} (f : X → Y) (step : ℕ → Option X) (step' : ℕ → Option Y) (acts : List ℕ)
-    → ((a : ℕ) → Memᴰ a acts → step' a ≡ Option.map f (step a)) → map f (present (map step acts)) ≡ present (map step' acts)
+    → ((a : ℕ) → Memᴰ a acts → step' a ≡ option_map f (step a)) → map f (present (map step acts)) ≡ present (map step' acts)
 unfolding present
 present_map f step step' [] same = refl
 present_map f step step' (a ∷ rest) same =
     go (step a) (step' a) (same a (Memᴰ.head refl)) (present_map f step step' rest (λ b m. same b (Memᴰ.tail m)))
   where
-    go : (o : Option _) (p : Option _) → p ≡ Option.map f o → map f (present (map step rest)) ≡ present (map step' rest)
+    go : (o : Option _) (p : Option _) → p ≡ option_map f o → map f (present (map step rest)) ≡ present (map step' rest)
         → map f (present (o ∷ map step rest)) ≡ present (p ∷ map step' rest)
-    go none p e h = rw e h
-    go (some x) p e h = rw e (ap (λ l. f x ∷ l) h)
+    go None p e h = rw e h
+    go (Some x) p e h = rw e (ap (λ l. f x ∷ l) h)
 
 -- lists that agree element by element
 map_along : {X Y : Type 0} (f h : X → Y) (xs : List X) → ((x : X) → Memᴰ x xs → f x ≡ h x) → map f xs ≡ map h xs
@@ -239,12 +239,12 @@ module _ (tower : Tower) (book : Book) (graph : Graph) (staying : ℕ → Bool) 
       (safe_followers tower book) follow stay graph.pairs 0 first_safe_pair i m
 
   -- a step of the graph is that of its pairs
-  step_same : (a : ℕ) (o : Option ℕ) → ((j : ℕ) → o ≡ some j → SafePair graph staying j)
-      → graph_step graph staying class a o ≡ row_step tower book a (Option.map num o)
+  step_same : (a : ℕ) (o : Option ℕ) → ((j : ℕ) → o ≡ Some j → SafePair graph staying j)
+      → graph_step graph staying class a o ≡ row_step tower book a (option_map num o)
   unfolding graph_step row_step
-  step_same a none all = refl
-  step_same a (some j) all =
-      ap (λ n. some (record { action = a; target = n }))
+  step_same a None all = refl
+  step_same a (Some j) all =
+      ap (λ n. Some (record { action = a; target = n }))
       (place_map num (same_class graph staying class) (one_row tower book) (SafePair graph staying) agrees j (row_order graph staying class) (all j refl) order_safe
       ∙ ap (place_of (one_row tower book (num j))) order_pairs)
 

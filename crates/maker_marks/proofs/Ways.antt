@@ -4,7 +4,7 @@ use native.Mathlib.Omega.{arith}
 use native.Mathlib.Decide.{dec_lt, ℕ_discrete}
 use mathlib.Core.Path.{◌≡◌, refl, sym, ◌∙◌, ap, subst}
 use mathlib.Core.Bool.{Bool, true, false}
-use mathlib.Core.Option.{some}
+use Rattle.std.specs.Prelude.{Some}
 use mathlib.Core.List.{List, ◌++◌}
 use lib.ListN.{length, set, take, drop, replicate, length-set, length-append, length-drop, length-replicate, get_or-append}
 use lib.Seq.{get_or-set_same, get_or-set_other, get_or-append-add, get_or-drop, length-take-le}
@@ -102,7 +102,7 @@ module _ (n actions : ℕ) (graph flags classes marks : List ℕ) (entries : ℕ
           first_too = m.first_too;
         }
       where
-        reached : (i a j p : ℕ) → i < n → a < actions → safe_in flags i ≡ true → led_to graph flags i a ≡ some j → p < entries
+        reached : (i a j p : ℕ) → i < n → a < actions → safe_in flags i ≡ true → led_to graph flags i a ≡ Some j → p < entries
             → noted_in marks p ≡ j → marked_in after i ≡ true
         reached i a j p l k safe leads o is_j =
             let move = (allowed_out (safe_in flags) (move_at graph i a) j leads).0 in

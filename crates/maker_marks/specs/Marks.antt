@@ -1,7 +1,7 @@
 -- The marks of the pairs that are looked at again in the next pass, and the list of those that the last pass gave another class: a lent area
 -- with a mark for each pair, behind the marks the list, and behind it one byte more.
 use Rattle.std.specs.Prelude.{ℕ, ◌+◌, ◌*◌, ◌≤◌, ◌<◌, ◌≡◌, Bool, true, false, List, length, eqb}
-use Rattle.std.proofs.Math.Option.{some}
+use Rattle.std.specs.Prelude.{Some}
 use Rattle.base.specs.Bytes.{byte_at, number_at}
 use Rattle.pair_graph.specs.Graph.{to}
 use Rattle.pair_graph.specs.Steps.{pair_room, action_room, move_at, class_in, safe_in, led_to, FlaggedGraph}
@@ -54,7 +54,7 @@ pub record ReadyToMark (n actions : ℕ) (graph flags classes marks : List ℕ) 
 
 -- No step from pair i leads to a pair on the list.
 pub record Quiet (actions : ℕ) (graph flags marks : List ℕ) (entries i : ℕ) : Type 0 where
-  pub none : (a j p : ℕ) → a < actions → led_to graph flags i a ≡ some j → p < entries → noted_in marks p ≡ j → ⊥
+  pub none : (a j p : ℕ) → a < actions → led_to graph flags i a ≡ Some j → p < entries → noted_in marks p ≡ j → ⊥
 
 -- Just the safe pairs are marked.
 pub record SafeMarked (n : ℕ) (flags after : List ℕ) : Type 0 where

@@ -54,10 +54,8 @@ pub fn mark_safe(flags: &[u8], n: usize, marks: &mut [u8])
     requires n_in_bounds_2 { n ≤ length marks.old }
     ensures { SafeMarked n flags.now marks.new }
 {
-    let mut i = 0;
-    while i < n {
+    for i in 0..n {
         marks[i] = flags[i];
-        i += 1;
     }
 }
 
@@ -105,11 +103,9 @@ fn mark_before_all(
     requires { ReadyToMark n actions graph.now flags.now classes.now marks.old entries }
     ensures { MarkedBeforeAll n actions graph.now flags.now classes.now marks.old entries marks.new }
 {
-    let mut p = 0;
-    while p < entries {
+    for p in 0..entries {
         let j = noted(marks, p);
         mark_before(graph, flags, actions, n, classes, j, marks);
-        p += 1;
     }
 }
 
@@ -163,10 +159,8 @@ fn mark_with_firsts(flags: &[u8], n: usize, classes: &[u8], marks: &mut [u8])
     if marks[FIRST_AT] != MARKED {
         return;
     }
-    let mut i = 0;
-    while i < n {
+    for i in 0..n {
         mark_with_first(flags, classes, i, marks);
-        i += 1;
     }
 }
 

@@ -4,7 +4,7 @@ use native.Mathlib.Omega.{arith}
 use native.Mathlib.Decide.{dec_lt}
 use mathlib.Core.Path.{◌≡◌, refl, sym, ◌∙◌, ap, ap₂}
 use mathlib.Core.Bool.{Bool, true, false}
-use mathlib.Core.Option.{Option, none, some}
+use Rattle.std.specs.Prelude.{Option, None, Some}
 use mathlib.Core.List.{List, [], ◌∷◌, ◌++◌, Memᴰ, append-nil}
 use lib.ListN.{length, get_or, drop, length-append, get_or-append}
 use lib.Seq.{append_snoc, drop-cons, drop-append-le, drop-length, get_or_at}
@@ -189,8 +189,8 @@ grown_longer part seen others = omega (arith, length-append seen (new_ones (same
 pub grown_present : (part seen : List ℕ) (o : Option ℕ) (js : List ℕ)
     → grown part seen (present (o ∷ []) ++ js) ≡ grown part (grown part seen (present (o ∷ []))) js
 unfolding present
-grown_present part seen none js = rw (grown_none part seen)
-grown_present part seen (some j) js = grown_cons part seen j js
+grown_present part seen None js = rw (grown_none part seen)
+grown_present part seen (Some j) js = grown_cons part seen j js
 
 -- ---- the search
 

@@ -3,15 +3,15 @@ use Prim.Native.Nat.{ℕ, suc, ◌+◌, ◌-◌, ◌≤◌, ◌<◌}
 use native.Mathlib.Omega.{arith}
 use native.Mathlib.Numerals.{add-one}
 use mathlib.Core.Path.{◌≡◌, refl}
-use mathlib.Core.Option.{Option, none, some}
+use Rattle.std.specs.Prelude.{Option, None, Some}
 use mathlib.Core.List.{List, [], ◌∷◌, ◌++◌, map}
 use Rattle.base.specs.Lists.{below, count_from, present}
 
 -- What is there first, and then the rest.
 present_cons : {X : Type 0} (o : Option X) (os : List (Option X)) → present (o ∷ os) ≡ present (o ∷ []) ++ present os
 unfolding present
-present_cons none os = refl
-present_cons (some x) os = refl
+present_cons None os = refl
+present_cons (Some x) os = refl
 
 module _ {X : Type 0} (f : ℕ → Option X) (n : ℕ) where
   -- what is there for the numbers from a on, below n

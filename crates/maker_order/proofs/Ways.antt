@@ -15,9 +15,8 @@ use mir.Val.{Fits}
 use Rattle.base.specs.Lists.{present, some_of}
 use Rattle.base.specs.Bytes.{number_at}
 use Rattle.base.specs.Search.{Apart, search_on, search_from, once}
-use Rattle.pair_graph.specs.Steps.{class_in, led_to, led_of, FlaggedGraph}
-use Rattle.pair_graph.specs.declared.Led.{Led}
-use Rattle.pair_graph.specs.declared.Led.TheVariants.{To, Nowhere}
+use Rattle.pair_graph.specs.Steps.{class_in, led_to, FlaggedGraph}
+use Rattle.std.specs.Prelude.{Option, Some, None}
 use Rattle.pair_graph.proofs.Moves.{led_some, led_none, allowed_below}
 use Rattle.maker_order.specs.Orders.{followers, order_at, marks_at, classes_part, same_in, order_of, of_class, mark_in, grown, RowsNumbered, Grows, Classed, Cleared, InOrder}
 use Rattle.area_bytes.proofs.Clearing.{part_byte}
@@ -169,22 +168,22 @@ module _ (n : ℕ) (area : List ℕ) (rows j : ℕ) (h : RowsNumbered n area row
                 }
 
 -- An action that leads nowhere.
-pub meets_nothing : (graph flags : List ℕ) (n : ℕ) (area : List ℕ) (rows i a : ℕ) (r : Led) → RowsNumbered n area rows
-    → r ≡ led_of (led_to graph flags i a) → r ≡ Nowhere → Grows n area rows (present (led_to graph flags i a ∷ [])) area rows
+pub meets_nothing : (graph flags : List ℕ) (n : ℕ) (area : List ℕ) (rows i a : ℕ) (r : Option ℕ) → RowsNumbered n area rows
+    → r ≡ (led_to graph flags i a) → r ≡ None → Grows n area rows (present (led_to graph flags i a ∷ [])) area rows
 unfolding present
 meets_nothing graph flags n area rows i a r h e f =
     let o = led_none (led_to graph flags i a) r e f in
     rw o (meets_none n area rows h)
 
 -- An action that leads to a pair: it is one of the n,
-pub led_pair_below : (graph flags : List ℕ) (n actions i a j : ℕ) (r : Led) → FlaggedGraph n actions graph flags → i < n → a < actions
-    → r ≡ led_of (led_to graph flags i a) → r ≡ To j → j < n
+pub led_pair_below : (graph flags : List ℕ) (n actions i a j : ℕ) (r : Option ℕ) → FlaggedGraph n actions graph flags → i < n → a < actions
+    → r ≡ (led_to graph flags i a) → r ≡ Some j → j < n
 led_pair_below graph flags n actions i a j r moves l k e f =
     allowed_below graph flags n actions i a j moves l k (led_some (led_to graph flags i a) r j e f)
 
 -- and is met.
-pub meets_led : (graph flags : List ℕ) (n : ℕ) (area : List ℕ) (rows i a j : ℕ) (r : Led) (z : List ℕ) (s : ℕ)
-    → r ≡ led_of (led_to graph flags i a) → r ≡ To j → Grows n area rows (j ∷ []) z s
+pub meets_led : (graph flags : List ℕ) (n : ℕ) (area : List ℕ) (rows i a j : ℕ) (r : Option ℕ) (z : List ℕ) (s : ℕ)
+    → r ≡ (led_to graph flags i a) → r ≡ Some j → Grows n area rows (j ∷ []) z s
     → Grows n area rows (present (led_to graph flags i a ∷ [])) z s
 unfolding present
 meets_led graph flags n area rows i a j r z s e f g =

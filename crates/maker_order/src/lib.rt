@@ -8,8 +8,6 @@ ghost use Rattle.base.specs.Lists.{present};
 ghost use Rattle.pair_graph.specs.Steps.{led_to, FlaggedGraph};
 ghost use Rattle.maker_order.specs.Orders.{followers, order_of, marks_at, RowsNumbered, Grows, Classed, Cleared, InOrder};
 
-use pair_graph::Led;
-
 // Where the list of rows begins in the area, and how many classes there may be.
 const ORDER_AT: usize = 2000;
 
@@ -48,7 +46,7 @@ fn meet_by(
     requires a_lt_actions { a < actions }
     ensures { Grows pairs area.old rows (present (led_to graph.now flags.now i a ∷ [])) area.new result }
 {
-    let Led::To(j) = pair_graph::allowed(graph, flags, pairs, actions, i, a) else {
+    let Some(j) = pair_graph::allowed(graph, flags, pairs, actions, i, a) else {
         return rows;
     };
     meet(area, pairs, rows, j)
@@ -70,10 +68,8 @@ fn expand(
     ensures { Grows pairs area.old rows (followers graph.now flags.now actions i) area.new result }
 {
     let mut met = rows;
-    let mut a = 0;
-    while a < actions {
+    for a in 0..actions {
         met = meet_by(graph, flags, area, pairs, actions, met, i, a);
-        a += 1;
     }
     met
 }

@@ -3,45 +3,44 @@ use Prim.Native.Nat.{ℕ}
 use native.Mathlib.Omega.{arith}
 use mathlib.Core.Path.{◌≡◌, refl, sym, ap, ◌∙◌}
 use mathlib.Core.Bool.{Bool, true, false}
-use mathlib.Core.Option.{none, some}
+use Rattle.std.specs.Prelude.{None, Some}
 use mathlib.Core.List.{List}
 use Rattle.base.specs.Choice.{pick}
 use Rattle.base.specs.Lists.{every, some_of, below, count_from}
 use Rattle.base.proofs.Lists.{never_both}
 use Rattle.logic.specs.Tower.{Tower, tower_of, controllable, goes_on}
 use Rattle.pair_graph.specs.Graph.{Move, not_enabled, broken, to, allowed_to}
-use Rattle.pair_graph.specs.Steps.{move_at, safe_in, is_enabled, led_to, led_of, FlaggedGraph}
-use Rattle.pair_graph.specs.declared.Led.{Led}
-use Rattle.pair_graph.specs.declared.Led.TheVariants.{To, Nowhere}
+use Rattle.pair_graph.specs.Steps.{move_at, safe_in, is_enabled, led_to, FlaggedGraph}
+use Rattle.std.specs.Prelude.{Option}
 use Rattle.pair_graph.proofs.Moves.{led_some, led_none, allowed_out}
 use Rattle.maker_removal.specs.Removal.{leads_inside, stays_inside, not_forced_at, goes_at, none_forced, some_goes, fine_at, PairInput}
 
 -- ---- where a move leads
 
 -- one that leads to a safe pair is allowed
-allowed_inside : (safe : ℕ → Bool) (m : Move) (j : ℕ) → allowed_to safe m ≡ some j → true ≡ leads_inside safe m
+allowed_inside : (safe : ℕ → Bool) (m : Move) (j : ℕ) → allowed_to safe m ≡ Some j → true ≡ leads_inside safe m
 unfolding leads_inside
 allowed_inside safe m j e = let (is_to, is_safe) = allowed_out safe m j e in sym (ap (leads_inside safe) is_to ∙ is_safe)
 
 -- any other is not
-not_allowed : (safe : ℕ → Bool) (m : Move) → allowed_to safe m ≡ none → false ≡ leads_inside safe m
+not_allowed : (safe : ℕ → Bool) (m : Move) → allowed_to safe m ≡ None → false ≡ leads_inside safe m
 unfolding allowed_to leads_inside
 not_allowed safe not_enabled e = refl
 not_allowed safe broken e = refl
 not_allowed safe (to k) e = go (safe k) e
   where
-    go : (b : Bool) → pick b (λ _. some k) (λ _. none) ≡ none → false ≡ b
+    go : (b : Bool) → pick b (λ _. Some k) (λ _. None) ≡ None → false ≡ b
     go true e = let z : ◌≡◌ {A = ℕ} 0 1 = cc in absurd (omega arith)
     go false e = refl
 
-module _ (graph flags : List ℕ) (i a : ℕ) (r : Led) (is_r : r ≡ led_of (led_to graph flags i a)) where
+module _ (graph flags : List ℕ) (i a : ℕ) (r : Option ℕ) (is_r : r ≡ (led_to graph flags i a)) where
   -- It leads to a safe pair.
-  pub led_inside : (j : ℕ) → r ≡ To j → true ≡ leads_inside (safe_in flags) (move_at graph i a)
+  pub led_inside : (j : ℕ) → r ≡ Some j → true ≡ leads_inside (safe_in flags) (move_at graph i a)
   unfolding led_to
   led_inside j e = allowed_inside (safe_in flags) (move_at graph i a) j (led_some (led_to graph flags i a) r j is_r e)
 
   -- It does not.
-  pub led_outside : r ≡ Nowhere → false ≡ leads_inside (safe_in flags) (move_at graph i a)
+  pub led_outside : r ≡ None → false ≡ leads_inside (safe_in flags) (move_at graph i a)
   unfolding led_to
   led_outside e = not_allowed (safe_in flags) (move_at graph i a) (led_none (led_to graph flags i a) r is_r e)
 

@@ -4,19 +4,13 @@ ghost use Rattle.logic.specs.Tower.{tower_of};
 ghost use Rattle.pair_graph.specs.Steps.{move_at, safe_in};
 ghost use Rattle.maker_removal.specs.Removal.{leads_inside, not_forced_at, goes_at, none_forced, some_goes, fine_at, PairInput};
 
-use pair_graph::Led;
-
 // Action a leads from pair i to a safe pair.
 fn leads_inside(tower: &[u8], graph: &[u8], n: usize, i: usize, a: usize, flags: &[u8]) -> bool
     requires pair_input { PairInput tower.now n graph.now flags.now i }
     requires a_bound { a < (tower_of tower.now).actions }
     ensures { result ≡ leads_inside (safe_in flags.now) (move_at graph.now i a) }
 {
-    let led = pair_graph::allowed(graph, flags, n, file_tower::actions(tower), i, a);
-    let Led::To(j) = led else {
-        return false;
-    };
-    true
+    pair_graph::allowed(graph, flags, n, file_tower::actions(tower), i, a).is_some()
 }
 
 // Action a cannot force a way out of the safe pairs from pair i: it may be withheld, is not enabled
@@ -53,12 +47,10 @@ fn none_forced(tower: &[u8], graph: &[u8], n: usize, i: usize, flags: &[u8]) -> 
     ensures { result ≡ none_forced (tower_of tower.now) graph.now (safe_in flags.now) i }
 {
     let actions = file_tower::actions(tower);
-    let mut a = 0;
-    while a < actions {
+    for a in 0..actions {
         if !not_forced(tower, graph, n, i, a, flags) {
             return false;
         }
-        a += 1;
     }
     true
 }
@@ -69,12 +61,10 @@ fn some_goes(tower: &[u8], graph: &[u8], n: usize, i: usize, flags: &[u8]) -> bo
     ensures { result ≡ some_goes (tower_of tower.now) graph.now (safe_in flags.now) i }
 {
     let actions = file_tower::actions(tower);
-    let mut a = 0;
-    while a < actions {
+    for a in 0..actions {
         if goes(tower, graph, n, i, a, flags) {
             return true;
         }
-        a += 1;
     }
     false
 }

@@ -44,10 +44,8 @@ fn begin(n: usize, area: &mut [u8])
     requires { n ≤ length area.old }
     ensures { AllSafe n area.old area.new }
 {
-    let mut i = 0;
-    while i < n {
+    for i in 0..n {
         area[i] = pair_graph::SAFE;
-        i += 1;
     }
 }
 
@@ -87,10 +85,8 @@ fn visit_all(tower: &[u8], graph: &[u8], n: usize, area: &mut [u8]) -> usize
     ensures { Removing (tower_of tower.now) n graph.now none_ahead area.new result }
 {
     let mut height = 0;
-    let mut next = 0;
-    while next < n {
+    for next in 0..n {
         height = visit(tower, graph, n, next, area, height);
-        next += 1;
     }
     height
 }

@@ -2,15 +2,15 @@
 use Prim.Native.Nat.{ℕ}
 use mathlib.Core.Path.{◌≡◌, sym, subst}
 use mathlib.Core.List.{List}
-use Rattle.base.specs.Answers.{Answer, refuse, ◌then◌}
+use Rattle.base.specs.Answers.{Answer, ◌then◌}
+use Rattle.std.specs.Prelude.{Err}
 use Rattle.base.specs.declared.Refusal.{Refusal}
-use Rattle.base.specs.declared.MakeAnswer.{MakeAnswer}
-use Rattle.base.specs.declared.MakeAnswer.TheVariants as Make
+use Rattle.base.specs.Answers.{MakeAnswer}
 use Rattle.outcome.specs.Make.{written}
 use Rattle.maker_rows.specs.Rows.{ending, Ends}
 
 -- A refusal leaves the output as it is.
-pub refused_ends : (file : Answer (List ℕ)) (why : Refusal) (out : List ℕ) → file ≡ refuse why → Ends file out (Make.Refused why) out
+pub refused_ends : (file : Answer (List ℕ)) (why : Refusal) (out : List ℕ) → file ≡ Err why → Ends file out (Err why) out
 unfolding ending ◌then◌ written
 refused_ends file why out e = record { answer = rw e; output = rw e }
 

@@ -5,7 +5,8 @@ use mathlib.Core.Path.{◌≡◌, sym, ◌∙◌, ap}
 use mathlib.Core.Bool.{true, false}
 use mathlib.Core.List.{List}
 use lib.ListN.{get_or}
-use Rattle.base.specs.Answers.{refuse, give, ◌if◌else◌, ◌then◌}
+use Rattle.base.specs.Answers.{◌if◌else◌, ◌then◌}
+use Rattle.std.specs.Prelude.{Err, Ok}
 use Rattle.base.specs.declared.Refusal.TheVariants.{NoTable}
 use Rattle.base.proofs.Search.{search_first}
 use Rattle.logic.specs.Tower.{Tower, tower_of, layout_of}
@@ -47,7 +48,7 @@ module _ (tower graph flags : List ℕ) (n : ℕ) (least : 1 ≤ n) (removed : R
   first_safe = safes 0 (omega arith) ∙ ap (safe (tower_of tower) book) (first_number (tower_of tower) book)
 
   -- Where the first pair went, there is no table.
-  pub none_made : safe_in flags 0 ≡ false → made_table_file tower book ≡ refuse NoTable
+  pub none_made : safe_in flags 0 ≡ false → made_table_file tower book ≡ Err NoTable
   unfolding made_table_file table_for ◌if◌else◌ ◌then◌
   none_made e =
       let unsafe : safe (tower_of tower) book (first_pair (tower_of tower) book) ≡ false = sym first_safe ∙ e in
@@ -74,9 +75,9 @@ module _ (tower graph flags : List ℕ) (n : ℕ) (least : 1 ≤ n) (removed : R
 
     -- Else the table of the safe pairs is the made table.
     pub table_made : made_table_file tower book
-        ≡ give (table_file (layout_of tower) (tower_of tower).states (tower_of tower).actions (graph_table (graph_in tower graph n) (safe_in flags) class))
+        ≡ Ok (table_file (layout_of tower) (tower_of tower).states (tower_of tower).actions (graph_table (graph_in tower graph n) (safe_in flags) class))
     unfolding made_table_file table_for ◌if◌else◌ ◌then◌
     table_made =
         rw (few, narrow, is_safe)
-        (ap (λ (table : Table). give (table_file (layout_of tower) (tower_of tower).states (tower_of tower).actions table))
+        (ap (λ (table : Table). Ok (table_file (layout_of tower) (tower_of tower).states (tower_of tower).actions table))
         (sym (same_table (tower_of tower) book (graph_in tower graph n) (safe_in flags) safe_graph class classes)))

@@ -8,10 +8,11 @@ use lib.ListN.{length}
 use lib.Seq.{sets}
 use lib.Dec.{ltb}
 use Rattle.base.specs.Choice.{pick}
-use Rattle.base.specs.Answers.{give, ◌if◌else◌, ◌then◌}
+use Rattle.base.specs.Answers.{◌if◌else◌, ◌then◌}
+use Rattle.std.specs.Prelude.{ok_or, Ok}
 use Rattle.base.specs.declared.Refusal.TheVariants.{NoTable, Output}
-use Rattle.base.specs.declared.MakeAnswer.{MakeAnswer}
-use Rattle.base.specs.declared.MakeAnswer.TheVariants as Make
+use Rattle.base.specs.Answers.{MakeAnswer}
+use Rattle.std.specs.Prelude.{Err}
 use Rattle.logic.specs.Tower.{tower_of, layout_of}
 use Rattle.logic.specs.declared.FileLayout.{FileLayout}
 use Rattle.logic.specs.TableFile.{table_file}
@@ -25,8 +26,7 @@ use Rattle.maker_removal.specs.Removal.{removal_size, Removed}
 use Rattle.maker_classes.specs.Passes.{ReadyForPass, Classified}
 use Rattle.maker_classes.proofs.Laws.{classes_right}
 use Rattle.maker_file.specs.Writing.{ShortNumbers, table_in, Writable, WritesTable}
-use Rattle.maker_file.specs.declared.Written.{Written}
-use Rattle.maker_file.specs.declared.Written.TheVariants.{Made, NoRoom}
+use Rattle.std.specs.Prelude.{Option, Some, None}
 use Rattle.maker_file.proofs.AnyKind.{table_of_tower}
 use Rattle.maker_rows.specs.Rows.{made_table_file, ending, Ends, graph_in, PairsMet, PairsSafe, SafeWritten, RowsMade}
 use Rattle.maker_rows.proofs.Laws.{refused_ends, ends_along}
@@ -36,13 +36,13 @@ use Rattle.maker_rows.proofs.SafePairs.{none_made, table_made}
 
 -- A file for which there is room is written to the output, and its length is the answer.
 made_ends : (file out : List ℕ) {size : ℕ} {after : List ℕ} → ltb (length out) (length file) ≡ false → size ≡ length file
-    → after ≡ sets out 0 file → Ends (give file) out (Make.Made size) after
+    → after ≡ sets out 0 file → Ends (Ok file) out (Ok size) after
 unfolding ending ◌then◌ fitting ◌if◌else◌ written
 made_ends file out fits e f = record { answer = rw (fits, e); output = rw (fits, f) }
 
 -- 16.
 no_room_ends : (file out : List ℕ) {after : List ℕ} → ltb (length out) (length file) ≡ true → after ≡ out
-    → Ends (give file) out (Make.Refused Output) after
+    → Ends (Ok file) out (Err Output) after
 unfolding ending ◌then◌ fitting ◌if◌else◌ written
 no_room_ends file out long f = record { answer = rw long; output = rw (long, f) }
 
@@ -90,7 +90,7 @@ module _ (tower graph flags classes marks : List ℕ) (n actions : ℕ) (safe : 
           class_numbers = λ i l. omega (arith, classified.most i l, met.holds.pairs_most);
         }
 
-    module _ (states : ℕ) (out out_after : List ℕ) (w : Written) (is_states : states ≡ (tower_of tower).states)
+    module _ (states : ℕ) (out out_after : List ℕ) (w : Option ℕ) (is_states : states ≡ (tower_of tower).states)
         (layout : FileLayout) (is_layout : layout ≡ layout_of tower)
         (writes : WritesTable (table_file layout states actions (table_in graph flags after n actions)) out w out_after) where
       abbrev file : List ℕ
@@ -108,26 +108,18 @@ module _ (tower graph flags classes marks : List ℕ) (n actions : ℕ) (safe : 
           subst (λ m. Classes (graph_with n m (tower_of tower).kind graph) (safe_in flags) (class_in after)) is_actions
           (classes_right graph flags actions n classes marks after made classifiable classified (tower_of tower).kind)
 
-      wrote : (r : MakeAnswer) → Ends (give file) out r out_after → SafeWritten r tower graph flags n out out_after
+      wrote : (r : MakeAnswer) → Ends (Ok file) out r out_after → SafeWritten r tower graph flags n out out_after
       wrote r ends = record { class = class_in after; classes = safe_classes; ends = ends }
 
-      -- The table is written.
-      pub safe_made : (size : ℕ) → w ≡ Made size → SafeWritten (Make.Made size) tower graph flags n out out_after
-      safe_made size e = wrote (Make.Made size) (go (ltb (length out) (length file)) refl (sym e ∙ right.answered) right.left)
+      -- The table is written, or there is no room for it.
+      pub safe_written : (r : MakeAnswer) → r ≡ ok_or w Output → SafeWritten r tower graph flags n out out_after
+      safe_written r e =
+          wrote r (go (ltb (length out) (length file)) refl (e ∙ ap (λ o. ok_or o Output) right.answered) right.left)
         where
-          go : (b : Bool) → ltb (length out) (length file) ≡ b → Made size ≡ pick b (λ _. NoRoom) (λ _. Made (length file))
-              → out_after ≡ pick b (λ _. out) (λ _. sets out 0 file) → Ends (give file) out (Make.Made size) out_after
-          go true p q s = absurd (let z : ◌≡◌ {A = ℕ} 0 1 = cc in omega arith)
-          go false p q s = let same : size ≡ length file = cc in made_ends file out p same s
-
-      -- There is no room for it.
-      pub safe_no_room : w ≡ NoRoom → SafeWritten (Make.Refused Output) tower graph flags n out out_after
-      safe_no_room e = wrote (Make.Refused Output) (go (ltb (length out) (length file)) refl (sym e ∙ right.answered) right.left)
-        where
-          go : (b : Bool) → ltb (length out) (length file) ≡ b → NoRoom ≡ pick b (λ _. NoRoom) (λ _. Made (length file))
-              → out_after ≡ pick b (λ _. out) (λ _. sets out 0 file) → Ends (give file) out (Make.Refused Output) out_after
-          go true p q s = no_room_ends file out p s
-          go false p q s = absurd (let z : ◌≡◌ {A = ℕ} 0 1 = cc in omega arith)
+          go : (b : Bool) → ltb (length out) (length file) ≡ b → r ≡ ok_or (pick b (λ _. None) (λ _. Some (length file))) Output
+              → out_after ≡ pick b (λ _. out) (λ _. sets out 0 file) → Ends (Ok file) out r out_after
+          go true p q s = rw q (no_room_ends file out p s)
+          go false p q s = rw q (made_ends file out p refl s)
 
 -- ---- make_rows
 
@@ -157,7 +149,7 @@ met_safe tower graph before flags classes marks n b met removed same is_b e =
 module _ (tower graph before flags classes marks : List ℕ) (n : ℕ) (b : Bool) (met : PairsMet tower graph before classes marks n)
     (removed : Removed (tower_of tower) n graph flags) (is_b : b ≡ safe_in flags 0) where
   -- 12.
-  pub no_table : (out : List ℕ) → b ≡ false → RowsMade (Make.Refused NoTable) tower graph n out out
+  pub no_table : (out : List ℕ) → b ≡ false → RowsMade (Err NoTable) tower graph n out out
   no_table out e =
       record {
         says =

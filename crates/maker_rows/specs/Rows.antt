@@ -1,7 +1,8 @@
 -- What is promised from the pairs that were met on: the file of the made table, and the answer.
 use Rattle.std.specs.Prelude.{ℕ, ◌*◌, ◌≤◌, ◌≡◌, true, false, List, [], length}
-use Rattle.base.specs.Answers.{Answer, give, ◌then◌}
-use Rattle.base.specs.declared.MakeAnswer.{MakeAnswer}
+use Rattle.base.specs.Answers.{Answer, ◌then◌}
+use Rattle.std.specs.Prelude.{Ok}
+use Rattle.base.specs.Answers.{MakeAnswer}
 use Rattle.logic.specs.Tower.{FitTower, tower_of, layout_of}
 use Rattle.logic.specs.Book.{Book}
 use Rattle.logic.specs.TableFile.{table_file}
@@ -19,7 +20,7 @@ use Rattle.pair_graph.specs.GraphOf.{GraphOf}
 -- the file of the made table, where the tower's file is fit and the book is read
 unfoldable pub made_table_file : (tower : List ℕ) → Book → Answer (List ℕ)
 made_table_file tower book =
-    table_for (tower_of tower) book then λ table. give (table_file (layout_of tower) (tower_of tower).states (tower_of tower).actions table)
+    table_for (tower_of tower) book then λ table. Ok (table_file (layout_of tower) (tower_of tower).states (tower_of tower).actions table)
 
 -- how a call ends that makes this file or is refused, but for the areas
 unfoldable pub ending : Answer (List ℕ) → List ℕ → MakeOutcome
@@ -55,7 +56,7 @@ pub record PairsSafe (tower graph flags classes marks : List ℕ) (n : ℕ) : Ty
 pub record SafeWritten (r : MakeAnswer) (tower graph flags : List ℕ) (n : ℕ) (out after : List ℕ) : Type 0 where
   pub class : ℕ → ℕ
   pub classes : Classes (graph_in tower graph n) (safe_in flags) class
-  pub ends : Ends (give (table_file (layout_of tower) (tower_of tower).states (tower_of tower).actions (graph_table (graph_in tower graph n) (safe_in flags) class))) out r after
+  pub ends : Ends (Ok (table_file (layout_of tower) (tower_of tower).states (tower_of tower).actions (graph_table (graph_in tower graph n) (safe_in flags) class))) out r after
 
 -- The made table is the file, or there is none, for each book whose pairs these are.
 pub record RowsMade (r : MakeAnswer) (tower graph : List ℕ) (n : ℕ) (out after : List ℕ) : Type 0 where

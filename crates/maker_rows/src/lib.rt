@@ -7,7 +7,6 @@ ghost use Rattle.pair_graph.specs.Steps.{safe_in};
 ghost use Rattle.maker_rows.specs.Rows.{PairsMet, PairsSafe, SafeWritten, RowsMade};
 
 use base::{MakeAnswer, Refusal};
-use maker_file::Written;
 
 // The first pair is safe.
 fn first_safe(flags: &[u8]) -> bool
@@ -35,10 +34,7 @@ fn write_safe(
     maker_classes::classify(graph, flags, actions, n, classes, marks);
     let layout = file_layout::layout_of(tower);
     let written = maker_file::write_table(graph, flags, classes, out, layout, n, states, actions);
-    match written {
-        Written::Made(size) => MakeAnswer::Made(size),
-        Written::NoRoom => MakeAnswer::Refused(Refusal::Output),
-    }
+    written.ok_or(Refusal::Output)
 }
 
 // The table of n pairs that were met: 12, 16, or made.
@@ -56,7 +52,7 @@ pub fn make_rows(
 {
     maker_removal::remove(tower, graph, n, flags);
     if !first_safe(flags) {
-        return MakeAnswer::Refused(Refusal::NoTable);
+        return Err(Refusal::NoTable);
     }
     write_safe(tower, out, graph, flags, classes, marks, n)
 }

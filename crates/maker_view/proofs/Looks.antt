@@ -13,9 +13,8 @@ use mir.Val.{Fits}
 use Rattle.base.specs.Bytes.{number_at}
 use Rattle.base.specs.Lists.{every, below}
 use Rattle.base.proofs.Lists.{never_both, every_below}
-use Rattle.pair_graph.specs.Steps.{class_in, state_in, led_to, led_of, FlaggedGraph}
-use Rattle.pair_graph.specs.declared.Led.{Led}
-use Rattle.pair_graph.specs.declared.Led.TheVariants.{To, Nowhere}
+use Rattle.pair_graph.specs.Steps.{class_in, state_in, led_to, FlaggedGraph}
+use Rattle.std.specs.Prelude.{Option, Some, None}
 use Rattle.pair_graph.proofs.Moves.{led_some, led_none, allowed_below}
 use Rattle.area_bytes.proofs.Scans.{Left, every_end}
 use Rattle.maker_view.specs.View.{View, shown, shows_in, same_shows, view_of, bucket_upto, bucket_of}
@@ -28,13 +27,13 @@ pub more_fits : (l : List ℕ) (p r : ℕ) → r ≡ number_at 2 l p → ((j : �
 unfolding number_at
 more_fits l p r e h = omega (arith, h p, h (p + 1))
 
-module _ (graph flags classes : List ℕ) (i a : ℕ) (r : Led) (is_r : r ≡ led_of (led_to graph flags i a)) where
+module _ (graph flags classes : List ℕ) (i a : ℕ) (r : Option ℕ) (is_r : r ≡ (led_to graph flags i a)) where
   -- An action that is not allowed shows 0.
-  pub shows_none : r ≡ Nowhere → Seen 0 (shows_in graph flags classes i a)
+  pub shows_none : r ≡ None → Seen 0 (shows_in graph flags classes i a)
   unfolding shows_in shown
   shows_none e = record { is = rw (led_none (led_to graph flags i a) r is_r e); within = omega arith }
 
-  module _ (j : ℕ) (is_to : r ≡ To j) where
+  module _ (j : ℕ) (is_to : r ≡ Some j) where
     -- The pair that an allowed one leads to has its class there,
     pub target_there : (pairs actions : ℕ) → FlaggedGraph pairs actions graph flags → i < pairs → a < actions → 2000 ≤ length classes
         → 2 * j + 1 < length classes

@@ -1,6 +1,6 @@
 -- What a pass sees of the pairs: of each its tower state, its class, and the class that each action leads to.
 use Rattle.std.specs.Prelude.{ℕ, zero, suc, ◌+◌, ◌*◌, ◌%◌, ◌≤◌, ◌<◌, ◌≡◌, Bool, true, false, List, eqb}
-use Rattle.std.proofs.Math.Option.{Option, none, some}
+use Rattle.std.specs.Prelude.{Option, None, Some}
 use Rattle.pair_graph.specs.Steps.{class_in, safe_in, state_in, led_to}
 
 -- ---- what is seen
@@ -16,8 +16,8 @@ pub record View : Type 0 where
 
 -- an allowed step shows the class it leads to plus 1, and none shows 0
 unfoldable pub shown : (ℕ → ℕ) → Option ℕ → ℕ
-shown class none = 0
-shown class (some j) = class j + 1
+shown class None = 0
+shown class (Some j) = class j + 1
 
 -- what action a of pair i shows, with the classes in the given bytes
 unfoldable pub shows_in : List ℕ → List ℕ → List ℕ → ℕ → ℕ → ℕ

@@ -6,8 +6,6 @@ ghost use Rattle.pair_graph.specs.Steps.{FlaggedGraph};
 ghost use Rattle.maker_view.specs.View.{shows_in, same_shows, view_of};
 ghost use Rattle.maker_view.specs.View.{Seen, Tells, IsBucket};
 
-use pair_graph::Led;
-
 // The buckets, and the factor of the hash.
 const BUCKETS: usize = 1021;
 
@@ -29,7 +27,7 @@ fn seen(
     requires in_bounds { 2000 ≤ length classes.now }
     ensures { Seen result (shows_in graph.now flags.now classes.now i a) }
 {
-    let Led::To(j) = pair_graph::allowed(graph, flags, pairs, actions, i, a) else {
+    let Some(j) = pair_graph::allowed(graph, flags, pairs, actions, i, a) else {
         return 0;
     };
     pair_graph::class(classes, j) + 1
@@ -79,12 +77,10 @@ pub fn alike(
     if pair_graph::class(classes, i) != pair_graph::class(classes, j) {
         return false;
     }
-    let mut a = 0;
-    while a < actions {
+    for a in 0..actions {
         if !same_step(graph, flags, pairs, actions, classes, i, j, a) {
             return false;
         }
-        a += 1;
     }
     true
 }
@@ -105,10 +101,8 @@ pub fn bucket(
 {
     let state = pair_graph::state(graph, i);
     let mut sum = (state * FACTOR + pair_graph::class(classes, i)) % BUCKETS;
-    let mut next = 0;
-    while next < actions {
+    for next in 0..actions {
         sum = (sum * FACTOR + seen(graph, flags, pairs, actions, classes, i, next)) % BUCKETS;
-        next += 1;
     }
     sum
 }

@@ -4,11 +4,11 @@ use Prim.Native.Nat.{ℕ, ◌<◌}
 use mathlib.Core.Path.{◌≡◌, sym, ◌∙◌, ap, ap₂, subst}
 use mathlib.Core.Logic.{◌⊎◌, inl, inr}
 use mathlib.Core.Bool.{true, false}
-use mathlib.Core.Option.{map-eq-some_iff}
+use Rattle.base.proofs.Options.{map-eq-some_iff}
 use mathlib.Core.List.Memᴰ
 use mathlib.Core.List.{List, map, map-map}
 use Rattle.base.specs.Lists.{total}
-use Rattle.base.specs.Answers.{give, refuse}
+use Rattle.std.specs.Prelude.{Err, Ok}
 use Rattle.base.specs.declared.Refusal.TheVariants.{Pairs, Alternatives}
 use Rattle.base.proofs.Lists.{never_both, some_one, distinct_map}
 use Rattle.logic.specs.Tower.{Tower}
@@ -94,23 +94,23 @@ module _ (tower : Tower) (book : Book) (able : Makeable tower book)
       }
 
   -- What is made is accepted.
-  pub made_accepted : judge tower book (made_table tower book) ≡ give good_table
+  pub made_accepted : judge tower book (made_table tower book) ≡ Ok good_table
   made_accepted =
       go
       (good_accepted tower book (made_table tower book)
       (record { listed = able.listed; fit = able.fit; is_table = (so tower book able few first_safe).is_table })
       (made_good tower book able few first_safe))
     where
-      go : ((judge tower book (made_table tower book) ≡ give good_table) × (MoreThan most_pairs (ReachedItem tower book (made_table tower book)) → ⊥)
+      go : ((judge tower book (made_table tower book) ≡ Ok good_table) × (MoreThan most_pairs (ReachedItem tower book (made_table tower book)) → ⊥)
           × (GivesOver (rows_tower tower (made_table tower book)) book → ⊥))
-          ⊎ (((judge tower book (made_table tower book) ≡ refuse Pairs) × MoreThan most_pairs (ReachedItem tower book (made_table tower book)))
-          ⊎ ((judge tower book (made_table tower book) ≡ refuse Alternatives) × GivesOver (rows_tower tower (made_table tower book)) book))
-          → judge tower book (made_table tower book) ≡ give good_table
+          ⊎ (((judge tower book (made_table tower book) ≡ Err Pairs) × MoreThan most_pairs (ReachedItem tower book (made_table tower book)))
+          ⊎ ((judge tower book (made_table tower book) ≡ Err Alternatives) × GivesOver (rows_tower tower (made_table tower book)) book))
+          → judge tower book (made_table tower book) ≡ Ok good_table
       go (inl (e, fewer, narrower)) = e
       go (inr (inl (e, many))) = never_both ((over_pairs_iff tower book able.listed).1 (items_few many)) few
       go (inr (inr (e, wide))) = never_both ((over_alternatives_iff tower book able.listed few).1 (items_narrow wide)) narrow
 
-pub given_table : (tower : Tower) (book : Book) → Makeable tower book → (table : Table) → table_for tower book ≡ give table
+pub given_table : (tower : Tower) (book : Book) → Makeable tower book → (table : Table) → table_for tower book ≡ Ok table
     → GivenTable tower book table
 given_table tower book able table e =
     let is = table_made tower book able table e in

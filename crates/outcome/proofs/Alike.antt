@@ -3,7 +3,7 @@ use Prim.Native.Nat.{ℕ, zero, suc, ◌<◌}
 use mathlib.Core.Path.{◌≡◌, refl, sym, ap, ◌∙◌}
 use mathlib.Core.Logic.{◌↔◌, ◌⊎◌, inl, inr}
 use mathlib.Core.Bool.{true, false}
-use mathlib.Core.Option.{Option, none, some}
+use Rattle.std.specs.Prelude.{Option, None, Some}
 use mathlib.Core.List.Memᴰ
 use mathlib.Core.List.{List, [], ◌∷◌, map, Memᴰ}
 use borrow.Author.Tests.{eqb-true, eq-eqb}
@@ -26,7 +26,7 @@ pub record Known (tower : Tower) (book : Book) : Type 0 where
   pub listed : Listed tower
   pub few : over_pairs tower book ≡ false
   pub first_safe : safe tower book (first_pair tower book) ≡ true
-  pub met_step : (v : Pair) (a : ℕ) (w : Pair) → Memᴰ v (pairs tower book) → pair_step tower book v a ≡ some w
+  pub met_step : (v : Pair) (a : ℕ) (w : Pair) → Memᴰ v (pairs tower book) → pair_step tower book v a ≡ Some w
       → Memᴰ w (pairs tower book)
   pub safe_fine : (v : Pair) → Memᴰ v (pairs tower book) → safe tower book v ≡ true → fine tower book (safe tower book) v ≡ true
 
@@ -108,13 +108,13 @@ module _ (tower : Tower) (book : Book) where
       (Memᴰ.cast (ap (λ (t : Two). t.one) (sym f)) i, Memᴰ.cast (ap (λ (t : Two). t.other) (sym f)) j)
 
   -- What an allowed action leads to is the pair's step, and safe.
-  pub safe_step_out : (v : Pair) (a : ℕ) (w : Pair) → safe_step tower book v a ≡ some w
-      → (pair_step tower book v a ≡ some w) × (safe tower book w ≡ true)
+  pub safe_step_out : (v : Pair) (a : ℕ) (w : Pair) → safe_step tower book v a ≡ Some w
+      → (pair_step tower book v a ≡ Some w) × (safe tower book w ≡ true)
   unfolding safe_step
   safe_step_out v a w e = only_if_out (safe tower book) (pair_step tower book v a) e
 
   -- An allowed action leads to the state that it leads to in the tower.
-  pub safe_step_target : (v : Pair) (a : ℕ) (w : Pair) → safe_step tower book v a ≡ some w → tower.target v.state a ≡ some w.state
+  pub safe_step_target : (v : Pair) (a : ℕ) (w : Pair) → safe_step tower book v a ≡ Some w → tower.target v.state a ≡ Some w.state
   safe_step_target v a w e = (pair_step_out tower book v w a (safe_step_out v a w e).0).0
 
   -- The same allowed runs lead on from both.
@@ -122,8 +122,8 @@ module _ (tower : Tower) (book : Book) where
   SameOn v w = (u : List ℕ) → is_there (leads (safe_step tower book) v u) ≡ is_there (leads (safe_step tower book) w u)
 
   -- An allowed action leads from equal states to equal states.
-  pub safe_step_state : (v w x y : Pair) (a : ℕ) → v.state ≡ w.state → safe_step tower book v a ≡ some x
-      → safe_step tower book w a ≡ some y → x.state ≡ y.state
+  pub safe_step_state : (v w x y : Pair) (a : ℕ) → v.state ≡ w.state → safe_step tower book v a ≡ Some x
+      → safe_step tower book w a ≡ Some y → x.state ≡ y.state
   safe_step_state v w x y a e f g =
       some_one (safe_step_target v a x f) (ap (λ (s : ℕ). tower.target s a) e ∙ safe_step_target w a y g)
 
@@ -134,7 +134,7 @@ module _ (tower : Tower) (book : Book) where
       ∙ ap (λ (o : Option Pair). is_there o) (leads_one (safe_step tower book) w a)
 
   -- Where the same runs lead on, they do so behind an action.
-  same_on_step : (v w x y : Pair) (a : ℕ) → SameOn v w → safe_step tower book v a ≡ some x → safe_step tower book w a ≡ some y → SameOn x y
+  same_on_step : (v w x y : Pair) (a : ℕ) → SameOn v w → safe_step tower book v a ≡ Some x → safe_step tower book w a ≡ Some y → SameOn x y
   same_on_step v w x y a h f g u =
       ap (λ (o : Option Pair). is_there o) (sym (leads_step (safe_step tower book) v x a u f)) ∙ h (a ∷ u)
       ∙ ap (λ (o : Option Pair). is_there o) (leads_step (safe_step tower book) w y a u g)
@@ -148,10 +148,10 @@ module _ (tower : Tower) (book : Book) where
     where
       both : ((x y : Pair) → x.state ≡ y.state → SameOn x y → alike_for tower book n x y ≡ true) → (a : ℕ) (o p : Option Pair)
           → safe_step tower book v a ≡ o → safe_step tower book w a ≡ p → same_option (alike_for tower book n) o p ≡ true
-      both ih a none none f g = refl
-      both ih a none (some y) f g = never_both (same_on_one v w h a ∙ is_there_in g) (there_not f)
-      both ih a (some x) none f g = never_both (sym (same_on_one v w h a) ∙ is_there_in f) (there_not g)
-      both ih a (some x) (some y) f g = ih x y (safe_step_state v w x y a e f g) (same_on_step v w x y a h f g)
+      both ih a None None f g = refl
+      both ih a None (Some y) f g = never_both (same_on_one v w h a ∙ is_there_in g) (there_not f)
+      both ih a (Some x) None f g = never_both (sym (same_on_one v w h a) ∙ is_there_in f) (there_not g)
+      both ih a (Some x) (Some y) f g = ih x y (safe_step_state v w x y a e f g) (same_on_step v w x y a h f g)
 
   -- Pairs with equal state from which the same runs lead on are one row.
   pub runs_one_row : (v w : Pair) → v.state ≡ w.state → SameOn v w → one_row tower book v w ≡ true
@@ -160,17 +160,17 @@ module _ (tower : Tower) (book : Book) where
 
   module _ (known : Known tower book) where
     -- Steps that are allowed lead from met pairs to met pairs.
-    pub safe_met : (v : Pair) (a : ℕ) (w : Pair) → Memᴰ v (pairs tower book) → safe_step tower book v a ≡ some w
+    pub safe_met : (v : Pair) (a : ℕ) (w : Pair) → Memᴰ v (pairs tower book) → safe_step tower book v a ≡ Some w
         → Memᴰ w (pairs tower book)
     safe_met v a w m e = known.met_step v a w m (safe_step_out v a w e).0
 
     -- Only the tower's actions are allowed.
-    pub safe_listed : (v : Pair) (a : ℕ) (w : Pair) → safe_step tower book v a ≡ some w → a < tower.actions
+    pub safe_listed : (v : Pair) (a : ℕ) (w : Pair) → safe_step tower book v a ≡ Some w → a < tower.actions
     unfolding Listed
     safe_listed v a w e = known.listed v.state a w.state (safe_step_target v a w e)
 
     -- No other action is allowed.
-    pub unlisted_none : (v : Pair) (a : ℕ) → ¬ (a < tower.actions) → safe_step tower book v a ≡ none
+    pub unlisted_none : (v : Pair) (a : ℕ) → ¬ (a < tower.actions) → safe_step tower book v a ≡ None
     unlisted_none v a l = whether_there (safe_step tower book v a) (λ e. e) (λ w e. absurd (l (safe_listed v a w e)))
 
     -- Where a round tells no two met pairs apart, the next tells none apart.
@@ -184,10 +184,10 @@ module _ (tower : Tower) (book : Book) where
       where
         go : (a : ℕ) (o p : Option Pair) → safe_step tower book v a ≡ o → safe_step tower book w a ≡ p
             → same_option (alike_for tower book k) o p ≡ true → same_option (alike_for tower book (suc k)) o p ≡ true
-        go a none none f g h = h
-        go a none (some y) f g h = h
-        go a (some x) none f g h = h
-        go a (some x) (some y) f g h =
+        go a None None f g h = h
+        go a None (Some y) f g h = h
+        go a (Some x) None f g h = h
+        go a (Some x) (Some y) f g h =
             sym (still (record { one = x; other = y }) (twos_mem (safe_met v a x m f) (safe_met w a y n g))) ∙ h
 
     -- The rounds of splitting fall, and rest once they rest.
@@ -225,8 +225,8 @@ module _ (tower : Tower) (book : Book) where
       where
         go : ((x y : Pair) → Memᴰ x (pairs tower book) → Memᴰ y (pairs tower book) → one_row tower book x y ≡ true
             → is_there (leads (safe_step tower book) x u) ≡ is_there (leads (safe_step tower book) y u))
-            → ((safe_step tower book v a ≡ none) × (safe_step tower book w a ≡ none))
-            ⊎ ((x : Pair) × ((y : Pair) × (safe_step tower book v a ≡ some x) × (safe_step tower book w a ≡ some y)
+            → ((safe_step tower book v a ≡ None) × (safe_step tower book w a ≡ None))
+            ⊎ ((x : Pair) × ((y : Pair) × (safe_step tower book v a ≡ Some x) × (safe_step tower book w a ≡ Some y)
             × (one_row tower book x y ≡ true)))
             → is_there (leads (safe_step tower book) v (a ∷ u)) ≡ is_there (leads (safe_step tower book) w (a ∷ u))
         go ih (inl (f, g)) = rw (leads_stuck (safe_step tower book) v a u f, leads_stuck (safe_step tower book) w a u g)

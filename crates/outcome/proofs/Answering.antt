@@ -11,20 +11,16 @@ use lib.Dec.{ltb}
 use borrow.Author.Tests.{ltb-true, ltb-false, lt-ltb, le-ltb}
 use Rattle.base.specs.Lists.{some_of}
 use Rattle.base.specs.Bytes.{long_enough}
-use Rattle.base.specs.Answers.{Answer, give, refuse}
+use Rattle.base.specs.Answers.{Answer}
+use Rattle.std.specs.Prelude.{Err, Ok}
 use Rattle.base.proofs.Lists.{whether, never_both}
 use Rattle.base.proofs.Answers.{if_on, if_refuses, then_on, then_stays}
 use Rattle.base.specs.declared.Reason.{Reason}
 use Rattle.base.specs.declared.Reason.TheVariants.{Broken}
 use Rattle.base.specs.declared.Refusal.{Refusal}
 use Rattle.base.specs.declared.Refusal.TheVariants.{Range, Pairs, NoTable, Layout, Output, Alternatives}
-use Rattle.base.specs.declared.BookAnswer.TheVariants as Book
-use Rattle.base.specs.declared.BookAnswer.{BookAnswer}
-use Rattle.base.specs.declared.MakeAnswer.{MakeAnswer}
-use Rattle.base.specs.declared.MakeAnswer.TheVariants as Make
-use Rattle.base.specs.declared.MakeAnswer.TheVariants.{Refused}
-use Rattle.base.specs.declared.Verdict.{Verdict}
-use Rattle.base.specs.declared.Verdict.TheVariants as Check
+use Rattle.base.specs.Answers.{BookAnswer, MakeAnswer, Verdict}
+use Rattle.base.specs.declared.Rejection.TheVariants as Rejected
 use Rattle.logic.specs.Tower.{Tower, layout_of, most_marks}
 use Rattle.logic.specs.Book.{Book}
 use Rattle.logic.specs.Tables.{Table, rows_tower, Allows, Good, GoodAllow, IsMade}
@@ -60,7 +56,7 @@ use Rattle.outcome.proofs.FitCalls.{makeable, judgeable, of_files, call_fit, one
 
 module _ (marks : ℕ) (text : List ℕ) (areas : List (List ℕ)) where
   -- with areas that are long enough: 2, or what the book is read as
-  reads_over : long_enough book_areas areas ≡ true → most_marks < marks → (read_outcome marks text areas).answer ≡ Book.Refused Range
+  reads_over : long_enough book_areas areas ≡ true → most_marks < marks → (read_outcome marks text areas).answer ≡ Err Range
   unfolding book_answer book_under
   reads_over enough over =
       (book_enough marks text areas enough).0 ∙ ap book_answer (if_refuses Range _ (lt-ltb most_marks marks over))
@@ -72,8 +68,8 @@ module _ (marks : ℕ) (text : List ℕ) (areas : List (List ℕ)) where
   read_by : long_enough book_areas areas ≡ true → marks ≤ most_marks → (o : Answer Book) → read_book marks text ≡ o
       → RightRead marks text areas (book_answer o)
   unfolding book_answer
-  read_by enough few (refuse r) e = read_refused enough few r e
-  read_by enough few (give book) e = read_given enough few book e
+  read_by enough few (Err r) e = read_refused enough few r e
+  read_by enough few (Ok book) e = read_given enough few book e
 
   pub read_right : RightRead marks text areas (read_outcome marks text areas).answer
   read_right =
@@ -98,7 +94,7 @@ module _ (marks : ℕ) (text : List ℕ) (areas : List (List ℕ)) where
 -- ---- the checker
 
 -- files that are judged well hold a good table
-pub accepted_holds : (tower_file text file : List ℕ) → checked_file tower_file text file ≡ give good_table → HoldsGood tower_file text file
+pub accepted_holds : (tower_file text file : List ℕ) → checked_file tower_file text file ≡ Ok good_table → HoldsGood tower_file text file
 accepted_holds tower_file text file e =
     let (tower, (book, (table, fit, laid, j))) = accepted_files tower_file text file e in
     record {
@@ -112,10 +108,10 @@ accepted_holds tower_file text file e =
 
 pub good_or_size : (tower_file text file : List ℕ) (areas : List (List ℕ)) → long_enough check_areas areas ≡ true
     → (holds : HoldsGood tower_file text file)
-    → ((check_outcome tower_file text file areas).answer ≡ Check.Good)
-    ⊎ ((((check_outcome tower_file text file areas).answer ≡ Check.Refused Pairs)
+    → ((check_outcome tower_file text file areas).answer ≡ Ok tt)
+    ⊎ ((((check_outcome tower_file text file areas).answer ≡ Err (Rejected.Refused Pairs))
     × MoreThan most_pairs (ReachedItem holds.tower holds.book holds.table))
-    ⊎ (((check_outcome tower_file text file areas).answer ≡ Check.Refused Alternatives)
+    ⊎ (((check_outcome tower_file text file areas).answer ≡ Err (Rejected.Refused Alternatives))
     × GivesOver (rows_tower holds.tower holds.table) holds.book))
 unfolding verdict
 good_or_size tower_file text file areas enough holds =
@@ -127,13 +123,13 @@ good_or_size tower_file text file areas enough holds =
     says : (check_outcome tower_file text file areas).answer ≡ verdict (judge holds.tower holds.book holds.table)
     says = check_call tower_file text file areas holds.tower holds.book holds.table holds.fit holds.laid enough
 
-    go : ((judge holds.tower holds.book holds.table ≡ give good_table) × (Many holds.tower holds.book holds.table known → ⊥)
+    go : ((judge holds.tower holds.book holds.table ≡ Ok good_table) × (Many holds.tower holds.book holds.table known → ⊥)
         × (Wide holds.tower holds.book holds.table known → ⊥))
-        ⊎ (((judge holds.tower holds.book holds.table ≡ refuse Pairs) × Many holds.tower holds.book holds.table known)
-        ⊎ ((judge holds.tower holds.book holds.table ≡ refuse Alternatives) × Wide holds.tower holds.book holds.table known))
-        → ((check_outcome tower_file text file areas).answer ≡ Check.Good)
-        ⊎ ((((check_outcome tower_file text file areas).answer ≡ Check.Refused Pairs) × Many holds.tower holds.book holds.table known)
-        ⊎ (((check_outcome tower_file text file areas).answer ≡ Check.Refused Alternatives) × Wide holds.tower holds.book holds.table known))
+        ⊎ (((judge holds.tower holds.book holds.table ≡ Err Pairs) × Many holds.tower holds.book holds.table known)
+        ⊎ ((judge holds.tower holds.book holds.table ≡ Err Alternatives) × Wide holds.tower holds.book holds.table known))
+        → ((check_outcome tower_file text file areas).answer ≡ Ok tt)
+        ⊎ ((((check_outcome tower_file text file areas).answer ≡ Err (Rejected.Refused Pairs)) × Many holds.tower holds.book holds.table known)
+        ⊎ (((check_outcome tower_file text file areas).answer ≡ Err (Rejected.Refused Alternatives)) × Wide holds.tower holds.book holds.table known))
     go (inl (e, few, narrow)) = inl (says ∙ ap verdict e)
     go (inr (inl (e, many))) = inr (inl (says ∙ ap verdict e, many))
     go (inr (inr (e, wide))) = inr (inr (says ∙ ap verdict e, wide))
@@ -141,16 +137,16 @@ good_or_size tower_file text file areas enough holds =
 pub checks : (tower_file text file : List ℕ) (areas : List (List ℕ)) (tower : Tower) (book : Book) (table : Table)
     → FitFiles tower_file text tower book → FitTable tower file table → long_enough check_areas areas ≡ true
     → (MoreThan most_pairs (ReachedItem tower book table) → ⊥) → (GivesOver (rows_tower tower table) book → ⊥)
-    → ((check_outcome tower_file text file areas).answer ≡ Check.Good)
-    ⊎ ((why : Reason) × ((check_outcome tower_file text file areas).answer ≡ Check.NotGood why))
+    → ((check_outcome tower_file text file areas).answer ≡ Ok tt)
+    ⊎ ((why : Reason) × ((check_outcome tower_file text file areas).answer ≡ Err (Rejected.NotGood why)))
 unfolding verdict
 checks tower_file text file areas tower book table fit laid enough few narrow =
     go (judge tower book table) (judged tower book table (judgeable tower_file text file tower book table fit laid))
     (check_call tower_file text file areas tower book table fit laid enough)
   where
     go : (o : Answer Finding) → FirstReason tower book table o → (check_outcome tower_file text file areas).answer ≡ verdict o
-        → ((check_outcome tower_file text file areas).answer ≡ Check.Good)
-        ⊎ ((why : Reason) × ((check_outcome tower_file text file areas).answer ≡ Check.NotGood why))
+        → ((check_outcome tower_file text file areas).answer ≡ Ok tt)
+        ⊎ ((why : Reason) × ((check_outcome tower_file text file areas).answer ≡ Err (Rejected.NotGood why)))
     go o (by_rows q first) e = inr (q, e)
     go o (too_many right many) e = absurd (few many)
     go o (too_wide right not_many wide) e = absurd (narrow wide)
@@ -163,22 +159,22 @@ module _ (tower_file text file : List ℕ) (areas : List (List ℕ)) where
       → (check_outcome tower_file text file areas).answer ≡ verdict o
   checks_as enough o e = (check_enough tower_file text file areas enough).0 ∙ ap verdict e
 
-  tower_refused : (r : Refusal) → read_tower tower_file ≡ refuse r → checked_file tower_file text file ≡ refuse r
+  tower_refused : (r : Refusal) → read_tower tower_file ≡ Err r → checked_file tower_file text file ≡ Err r
   unfolding checked_file
   tower_refused r e = then_stays _ e
 
-  book_refused : (tower : Tower) (r : Refusal) → read_tower tower_file ≡ give tower → read_book tower.marks text ≡ refuse r
-      → checked_file tower_file text file ≡ refuse r
+  book_refused : (tower : Tower) (r : Refusal) → read_tower tower_file ≡ Ok tower → read_book tower.marks text ≡ Err r
+      → checked_file tower_file text file ≡ Err r
   unfolding checked_file
   book_refused tower r e f = then_on _ e ∙ then_stays _ f
 
-  table_refused : (tower : Tower) (book : Book) (r : Refusal) → FitFiles tower_file text tower book → read_table tower file ≡ refuse r
-      → checked_file tower_file text file ≡ refuse r
+  table_refused : (tower : Tower) (book : Book) (r : Refusal) → FitFiles tower_file text tower book → read_table tower file ≡ Err r
+      → checked_file tower_file text file ≡ Err r
   unfolding checked_file
   table_refused tower book r fit e = then_on _ fit.tower_read ∙ then_on _ fit.book_read ∙ then_stays _ e
 
   -- a table is refused with 13 alone
-  only_layout : (tower : Tower) (r : Refusal) → read_table tower file ≡ refuse r → Layout ≡ r
+  only_layout : (tower : Tower) (r : Refusal) → read_table tower file ≡ Err r → Layout ≡ r
   only_layout tower r e = (layout_only (λ q. Layout ≡ q) refl tower file).only r e
 
   pub check_right : RightCheck tower_file text file areas (check_outcome tower_file text file areas).answer
@@ -189,35 +185,35 @@ module _ (tower_file text file : List ℕ) (areas : List (List ℕ)) where
     where
       by_table : long_enough check_areas areas ≡ true → (tower : Tower) (book : Book) → FitFiles tower_file text tower book → (o : Answer Table)
           → read_table tower file ≡ o → RightCheck tower_file text file areas (check_outcome tower_file text file areas).answer
-      by_table enough tower book fit (refuse r) e =
-          let layout : read_table tower file ≡ refuse Layout = e ∙ ap refuse (sym (only_layout tower r e)) in
+      by_table enough tower book fit (Err r) e =
+          let layout : read_table tower file ≡ Err Layout = e ∙ ap Err (sym (only_layout tower r e)) in
           subst (RightCheck tower_file text file areas)
-          (sym (checks_as enough (refuse Layout) (table_refused tower book Layout fit layout))) (check_layout enough tower book fit layout)
-      by_table enough tower book fit (give table) e =
+          (sym (checks_as enough (Err Layout) (table_refused tower book Layout fit layout))) (check_layout enough tower book fit layout)
+      by_table enough tower book fit (Ok table) e =
           let laid : FitTable tower file table = unfold FitTable in e in
           subst (RightCheck tower_file text file areas) (sym (check_call tower_file text file areas tower book table fit laid enough))
           (check_judged enough tower book table fit laid (judge tower book table)
           (judged tower book table (judgeable tower_file text file tower book table fit laid)))
 
-      by_book : long_enough check_areas areas ≡ true → (tower : Tower) → read_tower tower_file ≡ give tower → (o : Answer Book)
+      by_book : long_enough check_areas areas ≡ true → (tower : Tower) → read_tower tower_file ≡ Ok tower → (o : Answer Book)
           → read_book tower.marks text ≡ o → RightCheck tower_file text file areas (check_outcome tower_file text file areas).answer
-      by_book enough tower e (refuse r) f =
-          subst (RightCheck tower_file text file areas) (sym (checks_as enough (refuse r) (book_refused tower r e f))) (check_book enough tower r e f)
-      by_book enough tower e (give book) f =
+      by_book enough tower e (Err r) f =
+          subst (RightCheck tower_file text file areas) (sym (checks_as enough (Err r) (book_refused tower r e f))) (check_book enough tower r e f)
+      by_book enough tower e (Ok book) f =
           by_table enough tower book (record { tower_read = e; book_read = f }) (read_table tower file) refl
 
       by_tower : long_enough check_areas areas ≡ true → (o : Answer Tower) → read_tower tower_file ≡ o
           → RightCheck tower_file text file areas (check_outcome tower_file text file areas).answer
-      by_tower enough (refuse r) e =
-          subst (RightCheck tower_file text file areas) (sym (checks_as enough (refuse r) (tower_refused r e))) (check_tower enough r e)
-      by_tower enough (give tower) e = by_book enough tower e (read_book tower.marks text) refl
+      by_tower enough (Err r) e =
+          subst (RightCheck tower_file text file areas) (sym (checks_as enough (Err r) (tower_refused r e))) (check_tower enough r e)
+      by_tower enough (Ok tower) e = by_book enough tower e (read_book tower.marks text) refl
 
   pub check_only : (x : Verdict) → RightCheck tower_file text file areas x → (check_outcome tower_file text file areas).answer ≡ x
   unfolding verdict
   check_only _ (check_area short) = (check_short tower_file text file areas short).0
-  check_only _ (check_tower enough r e) = checks_as enough (refuse r) (tower_refused r e)
-  check_only _ (check_book enough tower r e f) = checks_as enough (refuse r) (book_refused tower r e f)
-  check_only _ (check_layout enough tower book fit e) = checks_as enough (refuse Layout) (table_refused tower book Layout fit e)
+  check_only _ (check_tower enough r e) = checks_as enough (Err r) (tower_refused r e)
+  check_only _ (check_book enough tower r e f) = checks_as enough (Err r) (book_refused tower r e f)
+  check_only _ (check_layout enough tower book fit e) = checks_as enough (Err Layout) (table_refused tower book Layout fit e)
   check_only _ (check_judged enough tower book table fit laid o first) =
       check_call tower_file text file areas tower book table fit laid enough
       ∙ ap verdict (judge_is tower book table (judgeable tower_file text file tower book table fit laid) o first)
@@ -239,26 +235,26 @@ makes tower_file text tower book fit few narrow table is_good =
 -- the maker's answer in every case
 module _ (tower_file text output : List ℕ) (areas : List (List ℕ)) where
   -- a refusal of the files is the answer
-  pub made_refused : long_enough make_areas areas ≡ true → (r : Refusal) → made_file tower_file text ≡ refuse r
-      → (make_outcome tower_file text output areas).answer ≡ Refused r
+  pub made_refused : long_enough make_areas areas ≡ true → (r : Refusal) → made_file tower_file text ≡ Err r
+      → (make_outcome tower_file text output areas).answer ≡ Err r
   unfolding written
   made_refused enough r e =
       (make_enough tower_file text output areas enough).0 ∙ ap (λ o. (written o output []).answer) (then_stays _ e)
 
-  tower_unmade : (r : Refusal) → read_tower tower_file ≡ refuse r → made_file tower_file text ≡ refuse r
+  tower_unmade : (r : Refusal) → read_tower tower_file ≡ Err r → made_file tower_file text ≡ Err r
   unfolding made_file
   tower_unmade r e = then_stays _ e
 
-  book_unmade : (tower : Tower) (r : Refusal) → read_tower tower_file ≡ give tower → read_book tower.marks text ≡ refuse r
-      → made_file tower_file text ≡ refuse r
+  book_unmade : (tower : Tower) (r : Refusal) → read_tower tower_file ≡ Ok tower → read_book tower.marks text ≡ Err r
+      → made_file tower_file text ≡ Err r
   unfolding made_file
   book_unmade tower r e f = then_on _ e ∙ then_stays _ f
 
   -- a made table is given
   made_given : (tower : Tower) (book : Book) → FitFiles tower_file text tower book → (MoreThan most_pairs (ReachedPair tower book) → ⊥)
-      → (GivesOver tower book → ⊥) → (table : Table) → IsMade tower book table → table_for tower book ≡ give table
+      → (GivesOver tower book → ⊥) → (table : Table) → IsMade tower book table → table_for tower book ≡ Ok table
   made_given tower book fit few narrow table is =
-      table_only tower book (makeable tower_file text tower book fit) (give table) (Right.made table few narrow is)
+      table_only tower book (makeable tower_file text tower book fit) (Ok table) (Right.made table few narrow is)
 
   pub make_right : RightMake tower_file text output areas (make_outcome tower_file text output areas).answer
   make_right =
@@ -273,34 +269,34 @@ module _ (tower_file text output : List ℕ) (areas : List (List ℕ)) where
           → RightTable tower book o → table_for tower book ≡ o
           → RightMake tower_file text output areas (make_outcome tower_file text output areas).answer
       by_table enough tower book fit _ (Right.too_many many) e =
-          answer_by (Refused Pairs) (refused_call tower_file text output areas tower book fit enough Pairs e) (make_pairs enough tower book fit many)
+          answer_by (Err Pairs) (refused_call tower_file text output areas tower book fit enough Pairs e) (make_pairs enough tower book fit many)
       by_table enough tower book fit _ (Right.too_wide few wide) e =
-          answer_by (Refused Alternatives) (refused_call tower_file text output areas tower book fit enough Alternatives e)
+          answer_by (Err Alternatives) (refused_call tower_file text output areas tower book fit enough Alternatives e)
           (make_wide enough tower book fit few wide)
       by_table enough tower book fit _ (Right.none_good few narrow lost) e =
-          answer_by (Refused NoTable) (refused_call tower_file text output areas tower book fit enough NoTable e)
+          answer_by (Err NoTable) (refused_call tower_file text output areas tower book fit enough NoTable e)
           (make_none enough tower book fit few narrow lost)
       by_table enough tower book fit _ (Right.made table few narrow is) e =
           whether (ltb (length output) (length (table_file (layout_of tower_file) tower.states tower.actions table)))
           (λ short.
           let lt = ltb-true (length output) (length (table_file (layout_of tower_file) tower.states tower.actions table)) short in
-          answer_by (Refused Output) (table_no_room tower_file text tower book fit table e output areas enough lt) (make_room enough tower book fit few narrow table is lt))
+          answer_by (Err Output) (table_no_room tower_file text tower book fit table e output areas enough lt) (make_room enough tower book fit few narrow table is lt))
           (λ room.
           let le = ltb-false (length output) (length (table_file (layout_of tower_file) tower.states tower.actions table)) room in
-          answer_by (Make.Made (length (table_file (layout_of tower_file) tower.states tower.actions table)))
+          answer_by (Ok (length (table_file (layout_of tower_file) tower.states tower.actions table)))
           (table_answered tower_file text tower book fit table e output areas enough le) (make_made enough tower book fit few narrow table is le))
 
-      by_book : long_enough make_areas areas ≡ true → (tower : Tower) → read_tower tower_file ≡ give tower → (o : Answer Book)
+      by_book : long_enough make_areas areas ≡ true → (tower : Tower) → read_tower tower_file ≡ Ok tower → (o : Answer Book)
           → read_book tower.marks text ≡ o → RightMake tower_file text output areas (make_outcome tower_file text output areas).answer
-      by_book enough tower e (refuse r) f = answer_by (Refused r) (made_refused enough r (book_unmade tower r e f)) (make_book enough tower r e f)
-      by_book enough tower e (give book) f =
+      by_book enough tower e (Err r) f = answer_by (Err r) (made_refused enough r (book_unmade tower r e f)) (make_book enough tower r e f)
+      by_book enough tower e (Ok book) f =
           let fit : FitFiles tower_file text tower book = record { tower_read = e; book_read = f } in
           by_table enough tower book fit (table_for tower book) (table_right tower book (makeable tower_file text tower book fit)) refl
 
       by_tower : long_enough make_areas areas ≡ true → (o : Answer Tower) → read_tower tower_file ≡ o
           → RightMake tower_file text output areas (make_outcome tower_file text output areas).answer
-      by_tower enough (refuse r) e = answer_by (Refused r) (made_refused enough r (tower_unmade r e)) (make_tower enough r e)
-      by_tower enough (give tower) e = by_book enough tower e (read_book tower.marks text) refl
+      by_tower enough (Err r) e = answer_by (Err r) (made_refused enough r (tower_unmade r e)) (make_tower enough r e)
+      by_tower enough (Ok tower) e = by_book enough tower e (read_book tower.marks text) refl
 
   pub make_only : (x : MakeAnswer) → RightMake tower_file text output areas x → (make_outcome tower_file text output areas).answer ≡ x
   make_only _ (make_area short) = (make_short tower_file text output areas short).0
@@ -308,13 +304,13 @@ module _ (tower_file text output : List ℕ) (areas : List (List ℕ)) where
   make_only _ (make_book enough tower r e f) = made_refused enough r (book_unmade tower r e f)
   make_only _ (make_pairs enough tower book fit many) =
       refused_call tower_file text output areas tower book fit enough Pairs
-      (table_only tower book (makeable tower_file text tower book fit) (refuse Pairs) (Right.too_many many))
+      (table_only tower book (makeable tower_file text tower book fit) (Err Pairs) (Right.too_many many))
   make_only _ (make_wide enough tower book fit few wide) =
       refused_call tower_file text output areas tower book fit enough Alternatives
-      (table_only tower book (makeable tower_file text tower book fit) (refuse Alternatives) (Right.too_wide few wide))
+      (table_only tower book (makeable tower_file text tower book fit) (Err Alternatives) (Right.too_wide few wide))
   make_only _ (make_none enough tower book fit few narrow lost) =
       refused_call tower_file text output areas tower book fit enough NoTable
-      (table_only tower book (makeable tower_file text tower book fit) (refuse NoTable) (Right.none_good few narrow lost))
+      (table_only tower book (makeable tower_file text tower book fit) (Err NoTable) (Right.none_good few narrow lost))
   make_only _ (make_room enough tower book fit few narrow table is lt) =
       table_no_room tower_file text tower book fit table (made_given tower book fit few narrow table is) output areas enough lt
   make_only _ (make_made enough tower book fit few narrow table is le) =
@@ -328,25 +324,25 @@ same_made tower_file text n m file other_file call other_call =
     let same : file ≡ other_file = give_one (sym one ∙ two) in
     (sym size ∙ ap length same ∙ other_size, same)
   where
-    give_one : give file ≡ give other_file → file ≡ other_file
+    give_one : ◌≡◌ {A = Answer _} (Ok file) (Ok other_file) → file ≡ other_file
     give_one e = cc
 
 -- a refusal whose number is neither about the files nor 16 says why there is no table for their tower and their book
 refused_table : (tower_file text output : List ℕ) (areas : List (List ℕ)) (r : Refusal) → (One of_files r → ⊥) → (Output ≡ r → ⊥)
-    → (make_outcome tower_file text output areas).answer ≡ Refused r → (it : Fit tower_file text) × (table_for it.tower it.book ≡ refuse r)
+    → (make_outcome tower_file text output areas).answer ≡ Err r → (it : Fit tower_file text) × (table_for it.tower it.book ≡ Err r)
 unfolding One some_of
 refused_table tower_file text output areas r not_of_files not_output e =
     let it = refused_fit tower_file text output areas r not_of_files e in
     (it, call_refused tower_file text output areas it.tower it.book it.fit r (λ f. not_of_files (subst (One of_files) f refl)) not_output e)
 
 pub none_exists : (tower_file text output : List ℕ) (areas : List (List ℕ))
-    → (make_outcome tower_file text output areas).answer ≡ Refused NoTable → NoneGood tower_file text
+    → (make_outcome tower_file text output areas).answer ≡ Err NoTable → NoneGood tower_file text
 unfolding One some_of
 none_exists tower_file text output areas e =
     of_table
     (refused_table tower_file text output areas NoTable (λ f. never_both f refl) (λ f. let z : ◌≡◌ {A = ℕ} 0 1 = cc in omega arith) e)
   where
-    of_table : (it : Fit tower_file text) × (table_for it.tower it.book ≡ refuse NoTable) → NoneGood tower_file text
+    of_table : (it : Fit tower_file text) × (table_for it.tower it.book ≡ Err NoTable) → NoneGood tower_file text
     of_table (it, f) =
         record {
           tower = it.tower;
@@ -356,12 +352,12 @@ none_exists tower_file text output areas e =
         }
 
 pub beyond_size : (tower_file text output : List ℕ) (areas : List (List ℕ))
-    → (make_outcome tower_file text output areas).answer ≡ Refused Pairs → TooManyPairs tower_file text
+    → (make_outcome tower_file text output areas).answer ≡ Err Pairs → TooManyPairs tower_file text
 unfolding One some_of
 beyond_size tower_file text output areas e =
     of_table (refused_table tower_file text output areas Pairs (λ f. never_both f refl) (λ f. let z : ◌≡◌ {A = ℕ} 0 1 = cc in omega arith) e)
   where
-    of_table : (it : Fit tower_file text) × (table_for it.tower it.book ≡ refuse Pairs) → TooManyPairs tower_file text
+    of_table : (it : Fit tower_file text) × (table_for it.tower it.book ≡ Err Pairs) → TooManyPairs tower_file text
     of_table (it, f) =
         record {
           tower = it.tower;
@@ -371,13 +367,13 @@ beyond_size tower_file text output areas e =
         }
 
 pub beyond_alternatives : (tower_file text output : List ℕ) (areas : List (List ℕ))
-    → (make_outcome tower_file text output areas).answer ≡ Refused Alternatives → TooManyAlternatives tower_file text
+    → (make_outcome tower_file text output areas).answer ≡ Err Alternatives → TooManyAlternatives tower_file text
 unfolding One some_of
 beyond_alternatives tower_file text output areas e =
     of_table
     (refused_table tower_file text output areas Alternatives (λ f. never_both f refl) (λ f. let z : ◌≡◌ {A = ℕ} 0 1 = cc in omega arith) e)
   where
-    of_table : (it : Fit tower_file text) × (table_for it.tower it.book ≡ refuse Alternatives) → TooManyAlternatives tower_file text
+    of_table : (it : Fit tower_file text) × (table_for it.tower it.book ≡ Err Alternatives) → TooManyAlternatives tower_file text
     of_table (it, f) =
         let (few, wide) = wide_out it.tower it.book (makeable tower_file text it.tower it.book it.fit) f in
         record { tower = it.tower; book = it.book; fit = it.fit; few = few; wide = wide }
@@ -418,7 +414,7 @@ well_for tower_file text n file tower book fit it =
         (unfold FitTable in
         (laid_out_read tower (table_file (layout_of tower_file) tower.states tower.actions table) (file_laid_out (layout_of tower_file) tower.states tower.actions table fits)
         holds.for_states holds.for_actions
-        ∙ ap give (file_table (layout_of tower_file) tower.states tower.actions table fits)))
+        ∙ ap Ok (file_table (layout_of tower_file) tower.states tower.actions table fits)))
 
 pub makes_well : (tower_file text : List ℕ) (n : ℕ) (file : List ℕ) → MadeCall tower_file text n file → MadeWell tower_file text n file
 makes_well tower_file text n file call = of_fit (call_fit tower_file text n file call)

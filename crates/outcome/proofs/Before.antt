@@ -5,7 +5,8 @@ use mathlib.Core.Logic.{◌↔◌}
 use mathlib.Core.Bool.{false}
 use mathlib.Core.List.{List}
 use lib.ListN.{length}
-use Rattle.base.specs.Answers.{Answer, give, ◌then◌}
+use Rattle.base.specs.Answers.{Answer, ◌then◌}
+use Rattle.std.specs.Prelude.{Ok}
 use Rattle.base.proofs.Lists.{never_both, false_by}
 use Rattle.logic.specs.Tower.{Tower, layout_of}
 use Rattle.logic.specs.Book.{Book}
@@ -112,7 +113,7 @@ module _ (tower_file text : List ℕ) (tower : Tower) (book : Book) (fit : FitFi
   some_made_before = (table_for tower book, (for_files (table_for tower book)).0 refl)
 
   pub made_as_before : (o : Answer Table) → MadeBefore tower book o
-      → made_file tower_file text ≡ (o then λ table. give (table_file (layout_of tower_file) tower.states tower.actions table))
+      → made_file tower_file text ≡ (o then λ table. Ok (table_file (layout_of tower_file) tower.states tower.actions table))
   made_as_before o before = of_file tower_file text tower book fit o ((for_files o).1 before)
 
 module _ (tower_file text file : List ℕ) (tower : Tower) (book : Book) (table : Table) (fit : FitFiles tower_file text tower book)

@@ -5,7 +5,8 @@ use mathlib.Core.Logic.{◌⊎◌, inl, inr}
 use mathlib.Core.Bool.{true, false}
 use native.Mathlib.Omega.{arith}
 use lib.ListN.{length}
-use Rattle.base.specs.Answers.{Answer, refuse, give, ◌if◌else◌}
+use Rattle.base.specs.Answers.{Answer, ◌if◌else◌}
+use Rattle.std.specs.Prelude.{Err, Ok}
 use Rattle.base.proofs.Lists.{whether, never_both, false_by, true_by}
 use Rattle.base.proofs.Answers.{gives_not_refuses, if_on, if_refuses}
 use Rattle.base.specs.declared.Reason.{Reason}
@@ -41,7 +42,7 @@ module _ (tower : Tower) (book : Book) (table : Table) (known : Judgeable tower 
       Pairs if over_items tower book table else
       (Alternatives if over_alternatives (rows_tower tower table) book else
       (Broken found_if some_broken (rows_tower tower table) book else
-      give good_table))
+      Ok good_table))
 
   passed : RightBelow tower table (length table) → rows_judged tower table behind ≡ behind
   passed right = rows_pass tower table known.listed known.is_table right behind
@@ -113,7 +114,7 @@ module _ (tower : Tower) (book : Book) (table : Table) (known : Judgeable tower 
             }
 
         walked : over_items tower book table ≡ false → over_alternatives (rows_tower tower table) book ≡ false
-            → FirstReason tower book table (Broken found_if some_broken (rows_tower tower table) book else give good_table)
+            → FirstReason tower book table (Broken found_if some_broken (rows_tower tower table) book else Ok good_table)
         walked few narrow =
             whether (some_broken (rows_tower tower table) book)
             (λ broken.
@@ -125,7 +126,7 @@ module _ (tower : Tower) (book : Book) (table : Table) (known : Judgeable tower 
         tried : over_items tower book table ≡ false
             → FirstReason tower book table
             (Alternatives if over_alternatives (rows_tower tower table) book else
-            (Broken found_if some_broken (rows_tower tower table) book else give good_table))
+            (Broken found_if some_broken (rows_tower tower table) book else Ok good_table))
         tried few =
             whether (over_alternatives (rows_tower tower table) book)
             (λ wide.
@@ -163,14 +164,14 @@ module _ (tower : Tower) (book : Book) (table : Table) (known : Judgeable tower 
       passed right ∙ if_on Pairs _ (few_in right not_many) ∙ if_on Alternatives _ narrow ∙ found_on Broken _ (whole_in right narrow g.e)
 
   -- what is not good is not found to be good
-  found_not_good : {q : Reason} → give (not_good q) ≡ give good_table → Good tower book table
+  found_not_good : {q : Reason} → ◌≡◌ {A = Answer _} (Ok (not_good q)) (Ok good_table) → Good tower book table
   found_not_good e = let z : ◌≡◌ {A = ℕ} 0 1 = cc in absurd (omega arith)
 
   -- A table is accepted only if it is good by the logic.
-  pub accepted_good : judge tower book table ≡ give good_table → Good tower book table
+  pub accepted_good : judge tower book table ≡ Ok good_table → Good tower book table
   accepted_good e = go (judge tower book table) judged e
     where
-      go : (o : Answer Finding) → FirstReason tower book table o → o ≡ give good_table → Good tower book table
+      go : (o : Answer Finding) → FirstReason tower book table o → o ≡ Ok good_table → Good tower book table
       go o (by_rows q first) f = found_not_good f
       go o (too_many right many) f = gives_not_refuses f refl
       go o (too_wide right not_many wide) f = gives_not_refuses f refl
@@ -179,18 +180,18 @@ module _ (tower : Tower) (book : Book) (table : Table) (known : Judgeable tower 
 
   -- A good table is turned down only for the stated sizes.
   pub good_accepted : Good tower book table
-      → ((judge tower book table ≡ give good_table) × (Many → ⊥) × (Wide → ⊥))
-      ⊎ (((judge tower book table ≡ refuse Pairs) × Many) ⊎ ((judge tower book table ≡ refuse Alternatives) × Wide))
+      → ((judge tower book table ≡ Ok good_table) × (Many → ⊥) × (Wide → ⊥))
+      ⊎ (((judge tower book table ≡ Err Pairs) × Many) ⊎ ((judge tower book table ≡ Err Alternatives) × Wide))
   good_accepted g =
       whether (over_items tower book table)
-      (λ many. let more = many_out right many in inr (inl (judge_is (refuse Pairs) (too_many right more), more)))
+      (λ many. let more = many_out right many in inr (inl (judge_is (Err Pairs) (too_many right more), more)))
       (λ few.
       whether (over_alternatives (rows_tower tower table) book)
-      (λ full. let wide = wide_out right few full in inr (inr (judge_is (refuse Alternatives) (too_wide right (few_out right few) wide), wide)))
+      (λ full. let wide = wide_out right few full in inr (inr (judge_is (Err Alternatives) (too_wide right (few_out right few) wide), wide)))
       (λ narrow.
       let not_many = few_out right few in
       let not_wide = narrow_out right few narrow in
-      inl (judge_is (give good_table) (good g not_many not_wide), not_many, not_wide)))
+      inl (judge_is (Ok good_table) (good g not_many not_wide), not_many, not_wide)))
     where
       right : RightBelow tower table (length table)
       right = good_right g

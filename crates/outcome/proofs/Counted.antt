@@ -4,7 +4,7 @@ use Prim.Native.Nat.{ℕ}
 use mathlib.Core.Path.{◌≡◌, subst}
 use mathlib.Core.Logic.{◌↔◌}
 use mathlib.Core.Bool.{true, false}
-use mathlib.Core.Option.{Option, some}
+use Rattle.std.specs.Prelude.{Option, Some}
 use mathlib.Core.List.{List, [], ◌∷◌, ◌++◌, map, Memᴰ}
 use native.Mathlib.Omega.{arith}
 use borrow.Author.Tests.{ltb-true}
@@ -25,20 +25,20 @@ use Rattle.outcome.specs.Reached.{ReachedPair, ReachedItem, MoreThan, GivesOver}
 
 -- what moves lead to is reached by going to followers, if every move goes to one
 led_reached : {X : Type 0} (move : X → ℕ → Option X) (followers : X → List X)
-    → ((x y : X) (a : ℕ) → move x a ≡ some y → Memᴰ y (followers x)) → (x y z : X) (w : List ℕ) → Reached followers x y
-    → leads move y w ≡ some z → Reached followers x z
+    → ((x y : X) (a : ℕ) → move x a ≡ Some y → Memᴰ y (followers x)) → (x y z : X) (w : List ℕ) → Reached followers x y
+    → leads move y w ≡ Some z → Reached followers x z
 led_reached move followers goes x y z [] r e = subst (Reached followers x) (some_one (leads_nil move y) e) r
 led_reached move followers goes x y z (a ∷ w) r e =
     let (t, to, on) = leads_out move y z a w e in led_reached move followers goes x t z w (onward r (goes y t a to)) on
 
 -- what is reached by going to followers is led to by moves, if every follower is moved to
 reached_led : {X : Type 0} (move : X → ℕ → Option X) (followers : X → List X)
-    → ((x y : X) → Memᴰ y (followers x) → (a : ℕ) × (move x a ≡ some y)) → (x y : X) → Reached followers x y
-    → (w : List ℕ) × (leads move x w ≡ some y)
+    → ((x y : X) → Memᴰ y (followers x) → (a : ℕ) × (move x a ≡ Some y)) → (x y : X) → Reached followers x y
+    → (w : List ℕ) × (leads move x w ≡ Some y)
 reached_led move followers goes x y start = ([], leads_nil move x)
 reached_led move followers goes x y (onward {y = z} r m) = further (reached_led move followers goes x z r) (goes z y m)
   where
-    further : (w : List ℕ) × (leads move x w ≡ some z) → (a : ℕ) × (move z a ≡ some y) → (w : List ℕ) × (leads move x w ≡ some y)
+    further : (w : List ℕ) × (leads move x w ≡ Some z) → (a : ℕ) × (move z a ≡ Some y) → (w : List ℕ) × (leads move x w ≡ Some y)
     further (w, e) (a, f) = (w ++ (a ∷ []), snoc_in move x z y w a e f)
 
 -- ---- pairs

@@ -13,20 +13,15 @@ use mathlib.Core.Bool.{true}
 use mathlib.Core.List.{List}
 use lib.ListN.{length}
 use Rattle.base.specs.Bytes.{long_enough}
-use Rattle.base.specs.Answers.{book_said, make_said, verdict_said, follow_said, log_said, Answer, give, ◌then◌}
+use Rattle.base.specs.Answers.{book_said, make_said, verdict_said, follow_said, log_said, Answer, ◌then◌}
+use Rattle.std.specs.Prelude.{Ok}
 use Rattle.base.specs.declared.Reason.{Reason}
 use Rattle.base.specs.declared.Refusal.{Refusal}
 use Rattle.base.specs.declared.Refusal.TheVariants.{Pairs, NoTable, Area, Alternatives}
-use Rattle.base.specs.declared.BookAnswer.{BookAnswer}
-use Rattle.base.specs.declared.BookAnswer.TheVariants as Book
-use Rattle.base.specs.declared.MakeAnswer.{MakeAnswer}
-use Rattle.base.specs.declared.MakeAnswer.TheVariants.{Refused}
-use Rattle.base.specs.declared.Verdict.{Verdict}
-use Rattle.base.specs.declared.Verdict.TheVariants as Check
-use Rattle.base.specs.declared.FollowAnswer.{FollowAnswer}
-use Rattle.base.specs.declared.FollowAnswer.TheVariants as Follow
-use Rattle.base.specs.declared.LogAnswer.{LogAnswer}
-use Rattle.base.specs.declared.LogAnswer.TheVariants as Logged
+use Rattle.base.specs.Answers.{BookAnswer, FollowAnswer, LogAnswer, MakeAnswer, Verdict, book_of_size}
+use Rattle.std.specs.Prelude.{Err}
+use Rattle.base.specs.declared.Rejection.TheVariants as Rejected
+use Rattle.base.specs.declared.LogEnd.TheVariants as Ends
 use Rattle.logic.specs.Tower.{Tower, layout_of, most_marks}
 use Rattle.logic.specs.Book.{Book, nodes}
 use Rattle.logic.specs.Sides.{OneSided}
@@ -92,15 +87,15 @@ follows_exactly file row action x = (
 
 -- 15 is answered exactly if an area is too short, and then every area is as it was. In every other case every area is zero over its whole length.
 pub read_areas_right : (marks : ℕ) (text : List ℕ) (areas : List (List ℕ))
-    → AreasRight book_areas areas ((read_outcome marks text areas).answer ≡ Book.Refused Area) (read_outcome marks text areas).areas
+    → AreasRight book_areas areas ((read_outcome marks text areas).answer ≡ Err Area) (read_outcome marks text areas).areas
 read_areas_right marks text areas = Refusals.book_areas_right marks text areas
 
 pub make_areas_right : (tower_file text output : List ℕ) (areas : List (List ℕ))
-    → AreasRight make_areas areas ((make_outcome tower_file text output areas).answer ≡ Refused Area) (make_outcome tower_file text output areas).areas
+    → AreasRight make_areas areas ((make_outcome tower_file text output areas).answer ≡ Err Area) (make_outcome tower_file text output areas).areas
 make_areas_right tower_file text output areas = Refusals.make_areas_right tower_file text output areas
 
 pub check_areas_right : (tower_file text file : List ℕ) (areas : List (List ℕ))
-    → AreasRight check_areas areas ((check_outcome tower_file text file areas).answer ≡ Check.Refused Area) (check_outcome tower_file text file areas).areas
+    → AreasRight check_areas areas ((check_outcome tower_file text file areas).answer ≡ Err (Rejected.Refused Area)) (check_outcome tower_file text file areas).areas
 check_areas_right tower_file text file areas = Refusals.check_areas_right tower_file text file areas
 
 -- No entry refuses with a number that the paper does not list for it.
@@ -121,8 +116,8 @@ follow_refuses file row action = Refusals.follow_refuses file row action
 -- 'if it is fit and within the stated sizes, the call answers.'
 
 -- the book reader: the numbers of lines and nodes
-pub reads : (marks : ℕ) (text : List ℕ) (areas : List (List ℕ)) (book : Book) → marks ≤ most_marks → read_book marks text ≡ give book
-    → long_enough book_areas areas ≡ true → (read_outcome marks text areas).answer ≡ Book.Read (length book) (length (nodes book))
+pub reads : (marks : ℕ) (text : List ℕ) (areas : List (List ℕ)) (book : Book) → marks ≤ most_marks → read_book marks text ≡ Ok book
+    → long_enough book_areas areas ≡ true → (read_outcome marks text areas).answer ≡ book_of_size (length book) (length (nodes book))
 reads marks text areas book few e enough = Answering.read_only marks text areas _ (read_given enough few book e)
 
 -- the maker: with pairs that count no more than 1,000, of which none gives over 16 alternatives, and some good table it makes one, and says 16
@@ -137,14 +132,14 @@ makes tower_file text tower book fit few narrow table good = Answering.makes tow
 pub checks : (tower_file text file : List ℕ) (areas : List (List ℕ)) (tower : Tower) (book : Book) (table : Table)
     → FitFiles tower_file text tower book → FitTable tower file table → long_enough check_areas areas ≡ true
     → (MoreThan most_pairs (ReachedItem tower book table) → ⊥) → (GivesOver (rows_tower tower table) book → ⊥)
-    → ((check_outcome tower_file text file areas).answer ≡ Check.Good)
-    ⊎ ((why : Reason) × ((check_outcome tower_file text file areas).answer ≡ Check.NotGood why))
+    → ((check_outcome tower_file text file areas).answer ≡ Ok tt)
+    ⊎ ((why : Reason) × ((check_outcome tower_file text file areas).answer ≡ Err (Rejected.NotGood why)))
 checks tower_file text file areas tower book table fit laid enough few narrow =
     Answering.checks tower_file text file areas tower book table fit laid enough few narrow
 
 -- the follower: it answers row s exactly if the file is laid out, row and action lie inside, and the table allows that action there with
 -- target row s
-pub follows : (file : List ℕ) (row action s : ℕ) → (follow_outcome file row action ≡ Follow.Row s) ↔ FollowsTo file row action s
+pub follows : (file : List ℕ) (row action s : ℕ) → (follow_outcome file row action ≡ Ok s) ↔ FollowsTo file row action s
 follows file row action s = (Following.follows_out file row action s, Following.follows_in file row action s)
 
 -- and a chain of its answers from row 0 on is a run that the table allows, each such run being a chain
@@ -155,7 +150,7 @@ follows_runs file laid w = Following.chain_iff file laid w
 -- 'A refusal changes no byte of the output,' The maker is the only entry with an output.
 
 pub refusal_keeps_output : (tower_file text output : List ℕ) (areas : List (List ℕ)) (r : Refusal)
-    → (make_outcome tower_file text output areas).answer ≡ Refused r → (make_outcome tower_file text output areas).output ≡ output
+    → (make_outcome tower_file text output areas).answer ≡ Err r → (make_outcome tower_file text output areas).output ≡ output
 refusal_keeps_output tower_file text output areas r e = Refusals.make_keeps_output tower_file text output areas r e
 
 -- 'and no entry relies on its caller to have tested anything.' No entry's contract has a `requires`. Nor does an entry rely on what areas and
@@ -184,7 +179,7 @@ same_made tower_file text n m file other_file call other_call =
 
 -- ---- 2. 'The checking end accepts a table, whoever made it, only if it is good by the metric temporal logic of the paper,'
 
-pub accepts_only_good : (tower_file text file : List ℕ) (areas : List (List ℕ)) → (check_outcome tower_file text file areas).answer ≡ Check.Good
+pub accepts_only_good : (tower_file text file : List ℕ) (areas : List (List ℕ)) → (check_outcome tower_file text file areas).answer ≡ Ok tt
     → HoldsGood tower_file text file
 accepts_only_good tower_file text file areas e = Answering.accepted_holds tower_file text file (accepted_call tower_file text file areas e)
 
@@ -192,10 +187,10 @@ accepts_only_good tower_file text file areas e = Answering.accepted_holds tower_
 
 pub good_or_size : (tower_file text file : List ℕ) (areas : List (List ℕ)) → long_enough check_areas areas ≡ true
     → (holds : HoldsGood tower_file text file)
-    → ((check_outcome tower_file text file areas).answer ≡ Check.Good)
-    ⊎ ((((check_outcome tower_file text file areas).answer ≡ Check.Refused Pairs)
+    → ((check_outcome tower_file text file areas).answer ≡ Ok tt)
+    ⊎ ((((check_outcome tower_file text file areas).answer ≡ Err (Rejected.Refused Pairs))
     × MoreThan most_pairs (ReachedItem holds.tower holds.book holds.table))
-    ⊎ (((check_outcome tower_file text file areas).answer ≡ Check.Refused Alternatives)
+    ⊎ (((check_outcome tower_file text file areas).answer ≡ Err (Rejected.Refused Alternatives))
     × GivesOver (rows_tower holds.tower holds.table) holds.book))
 good_or_size tower_file text file areas enough holds = Answering.good_or_size tower_file text file areas enough holds
 
@@ -210,34 +205,34 @@ checker_says tower_file text file areas tower book table fit laid enough o first
 -- 'The making end refuses for want of a table only if no good table of any length exists,'
 
 pub none_exists : (tower_file text output : List ℕ) (areas : List (List ℕ))
-    → (make_outcome tower_file text output areas).answer ≡ Refused NoTable → NoneGood tower_file text
+    → (make_outcome tower_file text output areas).answer ≡ Err NoTable → NoneGood tower_file text
 none_exists tower_file text output areas e = Answering.none_exists tower_file text output areas e
 
 -- 'and for size only beyond the 1,000 pairs of our paper,' or with 20 beyond the 16 alternatives of 02, item 3.
 
 pub beyond_size : (tower_file text output : List ℕ) (areas : List (List ℕ))
-    → (make_outcome tower_file text output areas).answer ≡ Refused Pairs → TooManyPairs tower_file text
+    → (make_outcome tower_file text output areas).answer ≡ Err Pairs → TooManyPairs tower_file text
 beyond_size tower_file text output areas e = Answering.beyond_size tower_file text output areas e
 
 pub beyond_alternatives : (tower_file text output : List ℕ) (areas : List (List ℕ))
-    → (make_outcome tower_file text output areas).answer ≡ Refused Alternatives → TooManyAlternatives tower_file text
+    → (make_outcome tower_file text output areas).answer ≡ Err Alternatives → TooManyAlternatives tower_file text
 beyond_alternatives tower_file text output areas e = Answering.beyond_alternatives tower_file text output areas e
 
 -- All three exactly: with areas that are long enough, each is said wherever its condition holds and nothing before it does.
 
 pub says_beyond_size : (tower_file text output : List ℕ) (areas : List (List ℕ)) → long_enough make_areas areas ≡ true
-    → TooManyPairs tower_file text → (make_outcome tower_file text output areas).answer ≡ Refused Pairs
+    → TooManyPairs tower_file text → (make_outcome tower_file text output areas).answer ≡ Err Pairs
 says_beyond_size tower_file text output areas enough over =
     Answering.make_only tower_file text output areas _ (make_pairs enough over.tower over.book over.fit over.many)
 
 pub says_beyond_alternatives : (tower_file text output : List ℕ) (areas : List (List ℕ)) → long_enough make_areas areas ≡ true
-    → TooManyAlternatives tower_file text → (make_outcome tower_file text output areas).answer ≡ Refused Alternatives
+    → TooManyAlternatives tower_file text → (make_outcome tower_file text output areas).answer ≡ Err Alternatives
 says_beyond_alternatives tower_file text output areas enough over =
     Answering.make_only tower_file text output areas _ (make_wide enough over.tower over.book over.fit over.few over.wide)
 
 pub says_none_exists : (tower_file text output : List ℕ) (areas : List (List ℕ)) → long_enough make_areas areas ≡ true
     → (lost : NoneGood tower_file text) → (MoreThan most_pairs (ReachedPair lost.tower lost.book) → ⊥)
-    → (GivesOver lost.tower lost.book → ⊥) → (make_outcome tower_file text output areas).answer ≡ Refused NoTable
+    → (GivesOver lost.tower lost.book → ⊥) → (make_outcome tower_file text output areas).answer ≡ Err NoTable
 says_none_exists tower_file text output areas enough lost few narrow =
     Answering.make_only tower_file text output areas _ (make_none enough lost.tower lost.book lost.fit few narrow lost.no_table)
 
@@ -288,34 +283,34 @@ log_refuses tower_file file log = Refusals.log_refuses tower_file file log
 -- previous action's length (sums never wrap),' The lines before it are a run that the table allows, with right ticks, and with it they are none.
 -- 'An action outside the table counts as not allowed.' No run has one.
 pub named_line : (tower_file file log : List ℕ) (k : ℕ)
-    → (log_outcome tower_file file log ≡ Logged.Line k) ↔ NamedLine tower_file file log k
+    → (log_outcome tower_file file log ≡ Ok (Ends.Line k)) ↔ NamedLine tower_file file log k
 named_line tower_file file log k = Logs.named_line tower_file file log k
 
 -- 'or the final row. The first tick is free.'
-pub final_row : (tower_file file log : List ℕ) (r : ℕ) → (log_outcome tower_file file log ≡ Logged.Row r) ↔ FinalRow tower_file file log r
+pub final_row : (tower_file file log : List ℕ) (r : ℕ) → (log_outcome tower_file file log ≡ Ok (Ends.Row r)) ↔ FinalRow tower_file file log r
 final_row tower_file file log r = Logs.final_row tower_file file log r
 
 -- Along a table that was accepted or made, a log that fits breaks no rule of the book, nor does any beginning of it; and where a line does not fit,
 -- the lines before it broke none.
 pub accepted_log_unbroken : (tower_file text file log : List ℕ) (areas : List (List ℕ)) (r : ℕ)
-    → (check_outcome tower_file text file areas).answer ≡ Check.Good → log_outcome tower_file file log ≡ Logged.Row r
+    → (check_outcome tower_file text file areas).answer ≡ Ok tt → log_outcome tower_file file log ≡ Ok (Ends.Row r)
     → (n : ℕ) → LogUnbroken tower_file text log n
 accepted_log_unbroken tower_file text file log areas r accepted e n =
     Logs.fits_unbroken tower_file text file log (accepts_only_good tower_file text file areas accepted) r e n
 
 pub accepted_log_unbroken_before : (tower_file text file log : List ℕ) (areas : List (List ℕ)) (k : ℕ)
-    → (check_outcome tower_file text file areas).answer ≡ Check.Good → log_outcome tower_file file log ≡ Logged.Line k
+    → (check_outcome tower_file text file areas).answer ≡ Ok tt → log_outcome tower_file file log ≡ Ok (Ends.Line k)
     → LogUnbroken tower_file text log k
 accepted_log_unbroken_before tower_file text file log areas k accepted e =
     Logs.before_unbroken tower_file text file log (accepts_only_good tower_file text file areas accepted) k e
 
 pub made_log_unbroken : (tower_file text : List ℕ) (m : ℕ) (file log : List ℕ) (r : ℕ) → MadeCall tower_file text m file
-    → log_outcome tower_file file log ≡ Logged.Row r → (n : ℕ) → LogUnbroken tower_file text log n
+    → log_outcome tower_file file log ≡ Ok (Ends.Row r) → (n : ℕ) → LogUnbroken tower_file text log n
 made_log_unbroken tower_file text m file log r call e n =
     Logs.fits_unbroken tower_file text file log (Answering.made_holds tower_file text m file call) r e n
 
 pub made_log_unbroken_before : (tower_file text : List ℕ) (m : ℕ) (file log : List ℕ) (k : ℕ) → MadeCall tower_file text m file
-    → log_outcome tower_file file log ≡ Logged.Line k → LogUnbroken tower_file text log k
+    → log_outcome tower_file file log ≡ Ok (Ends.Line k) → LogUnbroken tower_file text log k
 made_log_unbroken_before tower_file text m file log k call e =
     Logs.before_unbroken tower_file text file log (Answering.made_holds tower_file text m file call) k e
 
@@ -330,7 +325,7 @@ some_made_before tower_file text tower book fit sided = Before.some_made_before 
 
 pub made_as_before : (tower_file text : List ℕ) (tower : Tower) (book : Book) → FitFiles tower_file text tower book → OneSided book
     → (o : Answer Table) → MadeBefore tower book o
-    → made_file tower_file text ≡ (o then λ table. give (table_file (layout_of tower_file) tower.states tower.actions table))
+    → made_file tower_file text ≡ (o then λ table. Ok (table_file (layout_of tower_file) tower.states tower.actions table))
 made_as_before tower_file text tower book fit sided o before = Before.made_as_before tower_file text tower book fit sided o before
 
 -- So it is with what the checker says.

@@ -12,12 +12,12 @@ use lib.Dec.{ltb}
 use borrow.Author.Tests.{ltb-true, lt-ltb, le-ltb}
 use Rattle.base.specs.Lists.{some_of}
 use Rattle.base.specs.Bytes.{long_enough}
-use Rattle.base.specs.Answers.{Answer, refuse, give, ◌then◌}
+use Rattle.base.specs.Answers.{Answer, ◌then◌}
+use Rattle.std.specs.Prelude.{Err, Ok}
 use Rattle.base.proofs.Lists.{whether, never_both}
 use Rattle.base.proofs.Answers.{gives_not_refuses, if_on, if_refuses, then_gives, then_on, then_stays}
 use Rattle.base.specs.declared.Refusal.{Refusal}
 use Rattle.base.specs.declared.Refusal.TheVariants.{Area, Output}
-use Rattle.base.specs.declared.MakeAnswer.TheVariants as Make
 use Rattle.logic.specs.Tower.{Tower, layout_of}
 use Rattle.logic.specs.Book.{Book}
 use Rattle.logic.specs.Tables.{Table, IsTable, IsMade}
@@ -62,7 +62,7 @@ judgeable tower_file text file tower book table fit laid =
 -- ---- what a call shows
 
 -- files from which a table file is made are fit
-made_fit : (tower_file text file : List ℕ) → made_file tower_file text ≡ give file → Fit tower_file text
+made_fit : (tower_file text file : List ℕ) → made_file tower_file text ≡ Ok file → Fit tower_file text
 unfolding made_file
 made_fit tower_file text file e =
     let (tower, a, e1) = then_gives (read_tower tower_file) _ e in
@@ -74,10 +74,10 @@ pub call_fit : (tower_file text : List ℕ) (n : ℕ) (file : List ℕ) → Made
 call_fit tower_file text n file call = made_fit tower_file text file (made_call tower_file text n file call).0
 
 -- one tower is in a file
-pub one_tower : (tower_file : List ℕ) (tower other : Tower) → read_tower tower_file ≡ give tower → read_tower tower_file ≡ give other → tower ≡ other
+pub one_tower : (tower_file : List ℕ) (tower other : Tower) → read_tower tower_file ≡ Ok tower → read_tower tower_file ≡ Ok other → tower ≡ other
 one_tower tower_file tower other e f = give_one (sym e ∙ f)
   where
-    give_one : give tower ≡ give other → tower ≡ other
+    give_one : ◌≡◌ {A = Answer _} (Ok tower) (Ok other) → tower ≡ other
     give_one g = cc
 
 -- the numbers that are about the files
@@ -86,40 +86,40 @@ of_files = 1 ∷ 2 ∷ 3 ∷ 4 ∷ 5 ∷ 6 ∷ 7 ∷ 8 ∷ 9 ∷ 10 ∷ 15 ∷ [
 
 -- what is answered as a refusal was refused
 written_refused : (o : Answer (List ℕ)) (output : List ℕ) (areas : List (List ℕ)) (r : Refusal)
-    → (written o output areas).answer ≡ Make.Refused r → o ≡ refuse r
+    → (written o output areas).answer ≡ Err r → o ≡ Err r
 unfolding written
-written_refused (refuse q) output areas r e = let f : q ≡ r = cc in ap refuse f
-written_refused (give file) output areas r e = let z : ◌≡◌ {A = ℕ} 0 1 = cc in absurd (omega arith)
+written_refused (Err q) output areas r e = let f : q ≡ r = cc in ap Err f
+written_refused (Ok file) output areas r e = let z : ◌≡◌ {A = ℕ} 0 1 = cc in absurd (omega arith)
 
-refuse_one : {q r : Refusal} → ◌≡◌ {A = Answer (List ℕ)} (refuse q) (refuse r) → q ≡ r
+refuse_one : {q r : Refusal} → ◌≡◌ {A = Answer (List ℕ)} (Err q) (Err r) → q ≡ r
 refuse_one e = cc
 
 -- a refusal with another number comes from files that are fit
 chain_fit : (tower_file text : List ℕ) (room : ℕ) (r : Refusal) → (One of_files r → ⊥)
-    → (made_file tower_file text then λ file. fitting room file) ≡ refuse r → Fit tower_file text
+    → (made_file tower_file text then λ file. fitting room file) ≡ Err r → Fit tower_file text
 unfolding One some_of made_file
 chain_fit tower_file text room r not_of_files e = by_tower (read_tower tower_file) refl
   where
-    bad_tower : (q : Refusal) → read_tower tower_file ≡ refuse q → q ≡ r
+    bad_tower : (q : Refusal) → read_tower tower_file ≡ Err q → q ≡ r
     bad_tower q f = refuse_one (sym (then_stays _ (then_stays _ f)) ∙ e)
 
-    bad_book : (tower : Tower) (q : Refusal) → read_tower tower_file ≡ give tower → read_book tower.marks text ≡ refuse q → q ≡ r
+    bad_book : (tower : Tower) (q : Refusal) → read_tower tower_file ≡ Ok tower → read_book tower.marks text ≡ Err q → q ≡ r
     bad_book tower q f g = refuse_one (sym (then_stays _ (then_on _ f ∙ then_stays _ g)) ∙ e)
 
-    by_book : (tower : Tower) → read_tower tower_file ≡ give tower → (o : Answer Book) → read_book tower.marks text ≡ o → Fit tower_file text
-    by_book tower f (refuse q) g =
+    by_book : (tower : Tower) → read_tower tower_file ≡ Ok tower → (o : Answer Book) → read_book tower.marks text ≡ o → Fit tower_file text
+    by_book tower f (Err q) g =
         absurd (not_of_files (subst (One of_files) (bad_book tower q f g)
         ((book_only (One of_files) (λ l. refl) (λ l. refl) (λ l. refl) (λ l. refl) (λ l. refl) tower.marks text).only q g)))
-    by_book tower f (give book) g = record { tower = tower; book = book; fit = record { tower_read = f; book_read = g } }
+    by_book tower f (Ok book) g = record { tower = tower; book = book; fit = record { tower_read = f; book_read = g } }
 
     by_tower : (o : Answer Tower) → read_tower tower_file ≡ o → Fit tower_file text
-    by_tower (refuse q) f =
+    by_tower (Err q) f =
         absurd (not_of_files (subst (One of_files) (bad_tower q f) ((tower_only (One of_files) refl refl refl refl refl tower_file).only q f)))
-    by_tower (give tower) f = by_book tower f (read_book tower.marks text) refl
+    by_tower (Ok tower) f = by_book tower f (read_book tower.marks text) refl
 
 -- From a refusal whose number is not about the files, such as 11, 20 and 12.
 pub refused_fit : (tower_file text output : List ℕ) (areas : List (List ℕ)) (r : Refusal) → (One of_files r → ⊥)
-    → (make_outcome tower_file text output areas).answer ≡ Make.Refused r → Fit tower_file text
+    → (make_outcome tower_file text output areas).answer ≡ Err r → Fit tower_file text
 unfolding One some_of
 refused_fit tower_file text output areas r not_of_files e =
     whether (long_enough make_areas areas)
@@ -127,7 +127,7 @@ refused_fit tower_file text output areas r not_of_files e =
     chain_fit tower_file text (length output) r not_of_files
     (written_refused _ output [] r (sym (make_enough tower_file text output areas enough).0 ∙ e)))
     (λ short.
-    let f : Make.Refused Area ≡ Make.Refused r = sym (make_short tower_file text output areas short).0 ∙ e in
+    let f : Err Area ≡ Err r = sym (make_short tower_file text output areas short).0 ∙ e in
     let g : Area ≡ r = cc in
     absurd (not_of_files (subst (One of_files) g refl)))
 
@@ -142,13 +142,13 @@ pub record CallWrote (tower_file : List ℕ) (n : ℕ) (file : List ℕ) (tower 
   pub size : length file ≡ n
 
 -- a table is given only where there are not too many pairs
-table_few : (tower : Tower) (book : Book) → Makeable tower book → (table : Table) → table_for tower book ≡ give table
+table_few : (tower : Tower) (book : Book) → Makeable tower book → (table : Table) → table_for tower book ≡ Ok table
     → MoreThan most_pairs (ReachedPair tower book) → ⊥
 table_few tower book able table is many =
     never_both ((over_pairs_iff tower book able.listed).1 many) (table_made tower book able table is).few
 
 -- and none of them gives over 16 alternatives
-table_narrow : (tower : Tower) (book : Book) → Makeable tower book → (table : Table) → table_for tower book ≡ give table → GivesOver tower book → ⊥
+table_narrow : (tower : Tower) (book : Book) → Makeable tower book → (table : Table) → table_for tower book ≡ Ok table → GivesOver tower book → ⊥
 table_narrow tower book able table is wide =
     let made = table_made tower book able table is in
     never_both ((over_alternatives_iff tower book able.listed made.few).1 wide) made.narrow
@@ -173,66 +173,66 @@ wrote tower_file text file n tower book fit call =
 -- how a file that is there is written: where it fits, and 16 where it does not
 module _ (file output : List ℕ) where
   fits_in : length file ≤ length output
-      → ((written (fitting (length output) file) output []).answer ≡ Make.Made (length file))
+      → ((written (fitting (length output) file) output []).answer ≡ Ok (length file))
       × ((written (fitting (length output) file) output []).output ≡ file ++ drop (length file) output)
   unfolding written fitting
   fits_in le =
-      let e = if_on Output (give file) (le-ltb (length output) (length file) le) in
+      let e = if_on Output (Ok file) (le-ltb (length output) (length file) le) in
       let front : sets output 0 file ≡ file ++ drop (length file) output =
       sets-eq file output 0 (omega arith) ∙ ap (λ k. file ++ drop k output) (zero-add (length file)) in
       (ap (λ o. (written o output []).answer) e, ap (λ o. (written o output []).output) e ∙ front)
 
-  no_room : ((written (fitting (length output) file) output []).answer ≡ Make.Refused Output) ↔ (length output < length file)
+  no_room : ((written (fitting (length output) file) output []).answer ≡ Err Output) ↔ (length output < length file)
   unfolding written fitting
   no_room = (
     λ e.
         whether (ltb (length output) (length file)) (λ short. ltb-true (length output) (length file) short)
-        (λ room. gives_not_refuses refl (sym (if_on Output (give file) room) ∙ written_refused _ output [] Output e)),
-    λ lt. ap (λ o. (written o output []).answer) (if_refuses Output (give file) (lt-ltb (length output) (length file) lt)),
+        (λ room. gives_not_refuses refl (sym (if_on Output (Ok file) room) ∙ written_refused _ output [] Output e)),
+    λ lt. ap (λ o. (written o output []).answer) (if_refuses Output (Ok file) (lt-ltb (length output) (length file) lt)),
   )
 
 -- a file that is made and fits is answered by its length
 pub file_answered : (tower_file text output : List ℕ) (areas : List (List ℕ)) (file : List ℕ) → long_enough make_areas areas ≡ true
-    → made_file tower_file text ≡ give file → length file ≤ length output
-    → (make_outcome tower_file text output areas).answer ≡ Make.Made (length file)
+    → made_file tower_file text ≡ Ok file → length file ≤ length output
+    → (make_outcome tower_file text output areas).answer ≡ Ok (length file)
 file_answered tower_file text output areas file enough e le =
     (make_enough tower_file text output areas enough).0
     ∙ ap (λ o. (written o output []).answer) (then_on (λ f. fitting (length output) f) e) ∙ (fits_in file output le).0
 
 pub file_no_room : (tower_file text output : List ℕ) (areas : List (List ℕ)) (file : List ℕ) → long_enough make_areas areas ≡ true
-    → made_file tower_file text ≡ give file → length output < length file
-    → (make_outcome tower_file text output areas).answer ≡ Make.Refused Output
+    → made_file tower_file text ≡ Ok file → length output < length file
+    → (make_outcome tower_file text output areas).answer ≡ Err Output
 file_no_room tower_file text output areas file enough e lt =
     (make_enough tower_file text output areas enough).0
     ∙ ap (λ o. (written o output []).answer) (then_on (λ f. fitting (length output) f) e) ∙ (no_room file output).1 lt
 
 -- a table for the tower and the book of fit files is the answer
 module _ (tower_file text : List ℕ) (tower : Tower) (book : Book) (fit : FitFiles tower_file text tower book) (table : Table)
-    (gives : table_for tower book ≡ give table) (output : List ℕ) (areas : List (List ℕ)) (enough : long_enough make_areas areas ≡ true) where
+    (gives : table_for tower book ≡ Ok table) (output : List ℕ) (areas : List (List ℕ)) (enough : long_enough make_areas areas ≡ true) where
   abbrev its_bytes : List ℕ
   its_bytes = table_file (layout_of tower_file) tower.states tower.actions table
 
   chain : (made_file tower_file text then λ f. fitting (length output) f) ≡ fitting (length output) its_bytes
-  chain = then_on _ (of_file tower_file text tower book fit (give table) gives ∙ then_on _ refl)
+  chain = then_on _ (of_file tower_file text tower book fit (Ok table) gives ∙ then_on _ refl)
 
   said : (make_outcome tower_file text output areas).answer ≡ (written (fitting (length output) its_bytes) output []).answer
   said = (make_enough tower_file text output areas enough).0 ∙ ap (λ o. (written o output []).answer) chain
 
-  pub table_answered : length its_bytes ≤ length output → (make_outcome tower_file text output areas).answer ≡ Make.Made (length its_bytes)
+  pub table_answered : length its_bytes ≤ length output → (make_outcome tower_file text output areas).answer ≡ Ok (length its_bytes)
   table_answered le = said ∙ (fits_in its_bytes output le).0
 
   table_written : length its_bytes ≤ length output → (make_outcome tower_file text output areas).output ≡ its_bytes ++ drop (length its_bytes) output
   table_written le =
       make_output tower_file text output areas enough ∙ ap (λ o. (written o output []).output) chain ∙ (fits_in its_bytes output le).1
 
-  pub table_no_room : length output < length its_bytes → (make_outcome tower_file text output areas).answer ≡ Make.Refused Output
+  pub table_no_room : length output < length its_bytes → (make_outcome tower_file text output areas).answer ≡ Err Output
   table_no_room lt = said ∙ (no_room its_bytes output).1 lt
 
-  table_room : (make_outcome tower_file text output areas).answer ≡ Make.Refused Output → length output < length its_bytes
+  table_room : (make_outcome tower_file text output areas).answer ≡ Err Output → length output < length its_bytes
   table_room e = (no_room its_bytes output).0 (sym said ∙ e)
 
 pub makes_table : (tower_file text : List ℕ) (tower : Tower) (book : Book) → FitFiles tower_file text tower book
-    → (table : Table) → IsMade tower book table → table_for tower book ≡ give table → MakesTable tower_file text tower book
+    → (table : Table) → IsMade tower book table → table_for tower book ≡ Ok table → MakesTable tower_file text tower book
 makes_table tower_file text tower book fit table is gives =
     record {
       table = table;

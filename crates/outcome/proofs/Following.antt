@@ -3,16 +3,16 @@ use Prim.Native.Nat.{ℕ, ◌≤◌, ◌<◌}
 use mathlib.Core.Path.{◌≡◌, refl, sym, ◌∙◌, ap, subst}
 use mathlib.Core.Logic.{◌↔◌, ◌⊎◌, inl, inr}
 use mathlib.Core.Bool.{true, false, ◌||◌, not}
-use mathlib.Core.Option.{Option, none, some}
+use Rattle.std.specs.Prelude.{Option, None, Some}
 use mathlib.Core.List.{List, [], ◌∷◌}
 use native.Mathlib.Omega.{arith}
 use lib.ListN.{length}
 use lib.Dec.{leb}
 use borrow.Author.Tests.{not-false, leb-true, leb-false, le-leb, lt-leb}
-use Rattle.base.specs.Answers.{Answer, refuse, give}
+use Rattle.base.specs.Answers.{Answer}
+use Rattle.std.specs.Prelude.{Err, Ok}
 use Rattle.base.specs.declared.Refusal.TheVariants.{Layout, Outside, NotAllowed}
-use Rattle.base.specs.declared.FollowAnswer.{FollowAnswer}
-use Rattle.base.specs.declared.FollowAnswer.TheVariants.{Row, Refused}
+use Rattle.base.specs.Answers.{FollowAnswer}
 use Rattle.base.proofs.Lists.{whether, whether_there, or_fails_left, or_fails_right, or_neither, or_left, or_right, not_in, some_one}
 use Rattle.base.proofs.Answers.{gives_not_refuses, if_gives, if_on, if_refuses}
 use Rattle.logic.specs.Tables.{move, AllowsFrom, Allows}
@@ -28,21 +28,21 @@ use Rattle.outcome.specs.RightAnswer.{RightFollow, follow_layout, follow_outside
 
 -- ---- one answer
 
-answer_row : (o : Answer ℕ) (s : ℕ) → follow_answer o ≡ Row s → o ≡ give s
+answer_row : (o : Answer ℕ) (s : ℕ) → follow_answer o ≡ Ok s → o ≡ Ok s
 unfolding follow_answer
-answer_row (refuse r) s e = let z : ◌≡◌ {A = ℕ} 0 1 = cc in absurd (omega arith)
-answer_row (give row) s e = let f : row ≡ s = cc in ap give f
+answer_row (Err r) s e = let z : ◌≡◌ {A = ℕ} 0 1 = cc in absurd (omega arith)
+answer_row (Ok row) s e = let f : row ≡ s = cc in ap Ok f
 
-stepped_row : (o : Option ℕ) (s : ℕ) → stepped o ≡ give s → o ≡ some s
+stepped_row : (o : Option ℕ) (s : ℕ) → stepped o ≡ Ok s → o ≡ Some s
 unfolding stepped
-stepped_row none s e = gives_not_refuses e refl
-stepped_row (some row) s e = let f : row ≡ s = cc in ap some f
+stepped_row None s e = gives_not_refuses e refl
+stepped_row (Some row) s e = let f : row ≡ s = cc in ap Some f
 
 module _ (file : List ℕ) (row action : ℕ) where
   outside : leb (rows_of file) row ≡ false → leb (table_actions file) action ≡ false → (leb (rows_of file) row || leb (table_actions file) action) ≡ false
   outside a b = or_neither a b
 
-  pub follows_out : (s : ℕ) → follow_outcome file row action ≡ Row s → FollowsTo file row action s
+  pub follows_out : (s : ℕ) → follow_outcome file row action ≡ Ok s → FollowsTo file row action s
   unfolding follow_outcome row_after
   follows_out s e =
       let (a, e1) = if_gives Layout (not (laid_out file)) _ (answer_row _ s e) in
@@ -63,25 +63,25 @@ module _ (file : List ℕ) (row action : ℕ) where
       (if_on Layout _ (ap not laid)
       ∙ if_on Outside _ (outside (lt-leb (rows_of file) row r) (lt-leb (table_actions file) action a)))
 
-  pub follows_in : (s : ℕ) → FollowsTo file row action s → follow_outcome file row action ≡ Row s
+  pub follows_in : (s : ℕ) → FollowsTo file row action s → follow_outcome file row action ≡ Ok s
   unfolding follow_answer stepped
   follows_in s to =
       inside to.laid to.row_inside to.action_inside ∙ ap (λ o. follow_answer (stepped o)) to.moves
 
   -- the three refusals
-  pub says_layout : laid_out file ≡ false → follow_outcome file row action ≡ Refused Layout
+  pub says_layout : laid_out file ≡ false → follow_outcome file row action ≡ Err Layout
   unfolding follow_outcome row_after follow_answer
   says_layout e = ap follow_answer (if_refuses Layout _ (not_in e))
 
-  pub says_outside : laid_out file ≡ true → (rows_of file ≤ row) ⊎ (table_actions file ≤ action) → follow_outcome file row action ≡ Refused Outside
+  pub says_outside : laid_out file ≡ true → (rows_of file ≤ row) ⊎ (table_actions file ≤ action) → follow_outcome file row action ≡ Err Outside
   unfolding follow_outcome row_after follow_answer
   says_outside laid (inl r) =
       ap follow_answer (if_on Layout _ (ap not laid) ∙ if_refuses Outside _ (or_left (leb (table_actions file) action) (le-leb (rows_of file) row r)))
   says_outside laid (inr a) =
       ap follow_answer (if_on Layout _ (ap not laid) ∙ if_refuses Outside _ (or_right (leb (rows_of file) row) (le-leb (table_actions file) action a)))
 
-  pub says_not_allowed : laid_out file ≡ true → row < rows_of file → action < table_actions file → move (table_of file) row action ≡ none
-      → follow_outcome file row action ≡ Refused NotAllowed
+  pub says_not_allowed : laid_out file ≡ true → row < rows_of file → action < table_actions file → move (table_of file) row action ≡ None
+      → follow_outcome file row action ≡ Err NotAllowed
   unfolding follow_answer stepped
   says_not_allowed laid r a e = inside laid r a ∙ ap (λ o. follow_answer (stepped o)) e
 
@@ -120,12 +120,12 @@ module _ (file : List ℕ) (laid : laid_out file ≡ true) where
   fits : Fits (table_layout file) (table_states file) (table_actions file) (table_of file)
   fits = laid_out_fits file laid
 
-  chain_leads : (w : List ℕ) (r s : ℕ) → Chain file r w s → leads (move (table_of file)) r w ≡ some s
+  chain_leads : (w : List ℕ) (r s : ℕ) → Chain file r w s → leads (move (table_of file)) r w ≡ Some s
   unfolding Chain
-  chain_leads [] r s e = leads_nil (move (table_of file)) r ∙ ap some e
+  chain_leads [] r s e = leads_nil (move (table_of file)) r ∙ ap Some e
   chain_leads (a ∷ w) r s (q, e, rest) = leads_in (move (table_of file)) r q s a w (follows_out file r a q e).moves (chain_leads w q s rest)
 
-  leads_chain : (w : List ℕ) (r s : ℕ) → r < length (table_of file) → leads (move (table_of file)) r w ≡ some s → Chain file r w s
+  leads_chain : (w : List ℕ) (r s : ℕ) → r < length (table_of file) → leads (move (table_of file)) r w ≡ Some s → Chain file r w s
   unfolding Chain
   leads_chain [] r s lt e = some_one (leads_nil (move (table_of file)) r) e
   leads_chain (a ∷ w) r s lt e =

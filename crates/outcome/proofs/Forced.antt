@@ -4,7 +4,7 @@ use Prim.Native.Nat.{ℕ}
 use mathlib.Core.Path.{◌≡◌, refl}
 use mathlib.Core.List.{List, [], ◌∷◌}
 use Rattle.base.specs.Text.{ascii}
-use Rattle.base.specs.Answers.{give}
+use Rattle.std.specs.Prelude.{Ok}
 use Rattle.outcome.specs.Make.{made_file}
 use Rattle.outcome.proofs.ElevenOutcomes.{opened}
 
@@ -20,6 +20,6 @@ forced_tower =
 
 -- So the made table has the one row of state 0, with action 0 alone.
 forced_removed : made_file forced_tower (ascii "always !p0\n")
-    ≡ give (1 ∷ 0 ∷ 1 ∷ 0 ∷ 12 ∷ 0 ∷ 16 ∷ 0 ∷ 3 ∷ 0 ∷ 3 ∷ 0 ∷ 0 ∷ 1 ∷ 0 ∷ 0 ∷ 0 ∷ 0 ∷ 0 ∷ [])
+    ≡ Ok (1 ∷ 0 ∷ 1 ∷ 0 ∷ 12 ∷ 0 ∷ 16 ∷ 0 ∷ 3 ∷ 0 ∷ 3 ∷ 0 ∷ 0 ∷ 1 ∷ 0 ∷ 0 ∷ 0 ∷ 0 ∷ 0 ∷ [])
 unfolding opened forced_tower
 forced_removed = refl

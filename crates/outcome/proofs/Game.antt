@@ -3,7 +3,7 @@
 use Prim.Native.Nat.{ℕ, zero, suc, ◌<◌}
 use mathlib.Core.Path.{◌≡◌, refl, sym, ◌∙◌, ap, ap₂, fun_ext}
 use mathlib.Core.Bool.{Bool, true, false, ◌&&◌, ◌||◌, not}
-use mathlib.Core.Option.{Option, none, some}
+use Rattle.std.specs.Prelude.{Option, None, Some}
 use mathlib.Core.List.{List, [], ◌∷◌, ◌++◌, Memᴰ}
 use lib.ListN.{length}
 use Rattle.base.specs.Lists.{every, some_of, below, is_there, there_with}
@@ -26,17 +26,17 @@ use Rattle.outcome.specs.Game.{forced_right, can_go, fine, safe_through, last_re
 module _ (tower : Tower) (book : Book) where
   -- where a list of actions leads over unbroken steps
   abbrev pub Met : List ℕ → Pair → Type 0
-  Met w v = leads (pair_step tower book) (first_pair tower book) w ≡ some v
+  Met w v = leads (pair_step tower book) (first_pair tower book) w ≡ Some v
 
   -- what the theorem of progression gives of a tower and a book
   pub record Exact : Type 0 where
     pub steps : (w : List ℕ) → IsRun tower w → Unbroken tower book w → (v : Pair) × Met w v
-    pub state : (w : List ℕ) (v : Pair) → Met w v → leads tower.target tower.start w ≡ some v.state
+    pub state : (w : List ℕ) (v : Pair) → Met w v → leads tower.target tower.start w ≡ Some v.state
 
 module _ (tower : Tower) (book : Book) (listed : Listed tower) (exact : Exact tower book) (table : Table) (good : Good tower book table) where
   -- a row and a pair that one allowed run leads to
   pub record Together (w : List ℕ) (r : ℕ) (v : Pair) : Type 0 where
-    pub row : leads (move table) 0 w ≡ some r
+    pub row : leads (move table) 0 w ≡ Some r
     pub pair : Met tower book w v
 
   module _ (w : List ℕ) (r : ℕ) (v : Pair) (at : Together w r v) where
@@ -47,15 +47,15 @@ module _ (tower : Tower) (book : Book) (listed : Listed tower) (exact : Exact to
     same_state = some_one (good_arrives tower book table good w r at.row).state (exact.state w v at.pair)
 
     -- an allowed action leads on in both
-    pub onward : (a s : ℕ) → move table r a ≡ some s → (u : Pair) × (pair_step tower book v a ≡ some u) × Together (w ++ (a ∷ [])) s u
+    pub onward : (a s : ℕ) → move table r a ≡ Some s → (u : Pair) × (pair_step tower book v a ≡ Some u) × Together (w ++ (a ∷ [])) s u
     unfolding Allows AllowsFrom NoneBroken
     onward a s e =
-        let row : leads (move table) 0 (w ++ (a ∷ [])) ≡ some s = snoc_in (move table) 0 r s w a at.row e in
+        let row : leads (move table) 0 (w ++ (a ∷ [])) ≡ Some s = snoc_in (move table) 0 r s w a at.row e in
         let next = exact.steps (w ++ (a ∷ [])) (good_run tower book table good (w ++ (a ∷ [])) (s, row)) (good.e (w ++ (a ∷ [])) (s, row)) in
         step next.0 next.1 row
       where
-        step : (u : Pair) → Met tower book (w ++ (a ∷ [])) u → leads (move table) 0 (w ++ (a ∷ [])) ≡ some s
-            → (u : Pair) × (pair_step tower book v a ≡ some u) × Together (w ++ (a ∷ [])) s u
+        step : (u : Pair) → Met tower book (w ++ (a ∷ [])) u → leads (move table) 0 (w ++ (a ∷ [])) ≡ Some s
+            → (u : Pair) × (pair_step tower book v a ≡ Some u) × Together (w ++ (a ∷ [])) s u
         step u met row =
             let out = snoc_out (pair_step tower book) (first_pair tower book) u w a met in
             (u, ap (λ z. pair_step tower book z a) (some_one at.pair out.1) ∙ out.2, record { row = row; pair = met })
@@ -101,7 +101,7 @@ module _ (tower : Tower) (book : Book) (listed : Listed tower) (exact : Exact to
 
 module _ (tower : Tower) (book : Book) (listed : Listed tower) (few : over_pairs tower book ≡ false) where
   -- the steps of a pair that is met are met
-  pub met_step : (v : Pair) (a : ℕ) (w : Pair) → Memᴰ v (pairs tower book) → pair_step tower book v a ≡ some w → Memᴰ w (pairs tower book)
+  pub met_step : (v : Pair) (a : ℕ) (w : Pair) → Memᴰ v (pairs tower book) → pair_step tower book v a ≡ Some w → Memᴰ w (pairs tower book)
   unfolding pairs pair_followers
   met_step v a w m e =
       search_finds same_pair (pair_followers tower book) pair_weight most_pairs (first_pair tower book) same_pair_eq same_pair_refl
@@ -111,7 +111,7 @@ module _ (tower : Tower) (book : Book) (listed : Listed tower) (few : over_pairs
       (present_map_in (pair_step tower book v) (below tower.actions) (below_mem tower.actions a (pair_step_listed tower book listed v w a e)) e))
 
   -- a pair is fine among the staying, whichever of two tests that agree on its steps says what stays
-  fine_along : (staying other : Pair → Bool) (v : Pair) → ((a : ℕ) (w : Pair) → pair_step tower book v a ≡ some w → staying w ≡ other w)
+  fine_along : (staying other : Pair → Bool) (v : Pair) → ((a : ℕ) (w : Pair) → pair_step tower book v a ≡ Some w → staying w ≡ other w)
       → fine tower book staying v ≡ fine tower book other v
   unfolding fine
   fine_along staying other v same =
@@ -120,8 +120,8 @@ module _ (tower : Tower) (book : Book) (listed : Listed tower) (few : over_pairs
       (ap (λ test. some_of test (below tower.actions)) (fun_ext λ a. going_along a))
     where
       step_along : (a : ℕ) (o : Option Pair) → pair_step tower book v a ≡ o → there_with staying o ≡ there_with other o
-      step_along a none e = unfold there_with in refl
-      step_along a (some w) e = unfold there_with in same a w e
+      step_along a None e = unfold there_with in refl
+      step_along a (Some w) e = unfold there_with in same a w e
 
       forced_along : (a : ℕ) → forced_right tower book staying v a ≡ forced_right tower book other v a
       forced_along a =

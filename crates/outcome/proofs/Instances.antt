@@ -3,7 +3,7 @@
 use Prim.Native.Nat.{ℕ}
 use mathlib.Core.Path.{◌≡◌, refl, ◌∙◌, ap}
 use mathlib.Core.Bool.{true, false}
-use mathlib.Core.Option.{some}
+use Rattle.std.specs.Prelude.{Some}
 use mathlib.Core.List.{List, [], ◌∷◌, map}
 use native.Mathlib.Omega.{arith}
 use lib.ListN.{length, replicate, length-replicate}
@@ -12,7 +12,7 @@ use borrow.Author.Tests.{le-leb}
 use Rattle.base.specs.Bytes.{long_enough, cleared}
 use Rattle.base.proofs.Lists.{and_both}
 use Rattle.base.specs.Text.{ascii}
-use Rattle.base.specs.Answers.{give, refuse}
+use Rattle.std.specs.Prelude.{Err, Ok}
 use Rattle.base.specs.declared.Refusal.TheVariants.{NoTable}
 use Rattle.logic.specs.Tower.{Tower}
 use Rattle.logic.specs.Book.{constant, at_start, Book}
@@ -35,7 +35,7 @@ use Rattle.outcome.proofs.Demands.{makes, makes_well}
 use Rattle.outcome.proofs.Answering.{accepted_holds}
 
 -- the checker's definition accepts table 1 under book 1
-accepted_1 : checked_file small_tower (ascii book_1) table_1 ≡ give good_table
+accepted_1 : checked_file small_tower (ascii book_1) table_1 ≡ Ok good_table
 unfolding opened table_1
 accepted_1 = refl
 
@@ -73,7 +73,7 @@ made_call_exists =
           table_1 (omega arith) file_1;
     }
   where
-    ends : made sixty (zero_areas make_areas) book_1 ≡ written (give table_1) sixty (cleared (zero_areas make_areas))
+    ends : made sixty (zero_areas make_areas) book_1 ≡ written (Ok table_1) sixty (cleared (zero_areas make_areas))
     ends =
         ends_made sixty (zero_areas make_areas) (zero_areas check_areas) (omega arith) (areas_enough make_areas) (areas_enough check_areas) book_1
         table_1 (omega arith) file_1
@@ -113,10 +113,10 @@ start_false_none tower table good =
     let (a, (s, allowed), on) = good.d 0 good.is_table.some_row in
     start_false_breaks tower a (good.e (a ∷ []) (s, allowed_run a s allowed))
   where
-    allowed_run : (a s : ℕ) → Tables.move table 0 a ≡ some s → leads (Tables.move table) 0 (a ∷ []) ≡ some s
+    allowed_run : (a s : ℕ) → Tables.move table 0 a ≡ Some s → leads (Tables.move table) 0 (a ∷ []) ≡ Some s
     allowed_run a s e = leads_one (Tables.move table) 0 a ∙ e
 
 -- and the maker's definition says 12 for it
-start_false_refused : made_file small_tower (ascii "start F\n") ≡ refuse NoTable
+start_false_refused : made_file small_tower (ascii "start F\n") ≡ Err NoTable
 unfolding opened
 start_false_refused = refl

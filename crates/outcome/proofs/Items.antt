@@ -2,7 +2,7 @@
 use Prim.Native.Nat.{ℕ, ◌≤◌, ◌<◌}
 use mathlib.Core.Path.{◌≡◌, refl, sym, ◌∙◌, ap, subst}
 use mathlib.Core.Bool.{true, false, not}
-use mathlib.Core.Option.{none, some}
+use Rattle.std.specs.Prelude.{None, Some}
 use mathlib.Core.List.{List, [], ◌∷◌, ◌++◌}
 use lib.ListN.{length, get_or-eq_default}
 use lib.Dec.{ltb}
@@ -28,12 +28,12 @@ use Rattle.outcome.specs.Reached.{ReachedPair, ReachedItem}
 use Rattle.outcome.proofs.Counted.{pairs_reached, pairs_all}
 
 -- Only a row of the table has allowed actions.
-pub move_inside : (table : Table) (r a s : ℕ) → move table r a ≡ some s → r < length table
+pub move_inside : (table : Table) (r a s : ℕ) → move table r a ≡ Some s → r < length table
 move_inside table r a s e =
     whether (ltb r (length table)) (λ here. ltb-true r (length table) here)
     (λ past. none-some (outside (ltb-false r (length table) past)) e)
   where
-    outside : length table ≤ r → move table r a ≡ none
+    outside : length table ≤ r → move table r a ≡ None
     outside h = unfold move row_at step_to in (rw (get_or-eq_default table (record { state = 0; steps = [] }) h) refl)
 
 -- Where a table follows a tower, what it allows is one of the tower's actions.
@@ -59,15 +59,15 @@ module _ (tower : Tower) (book : Book) (table : Table) where
       (tower.step_length (row_at table v.state).state a) book v.pending
 
   -- A step of a row with what is pending is by an allowed action, and what is pending progresses as the row's state is left.
-  item_step_out : (v w : Pair) (a : ℕ) → pair_step rows book v a ≡ some w
-      → (move table v.state a ≡ some w.state)
+  item_step_out : (v w : Pair) (a : ℕ) → pair_step rows book v a ≡ Some w
+      → (move table v.state a ≡ Some w.state)
       × (alternatives_by tower book (pair_of v.state v.pending) a ≡ these w.pending) × Standing w
   unfolding rows_tower
   item_step_out v w a e = let (to, next, stands) = pair_step_out rows book v w a e in (to, sym (item_by v a) ∙ next, stands)
 
   -- From a row that is not over_full it is a step where alternatives are left.
-  item_step_in : (v w : Pair) (a : ℕ) → over_full rows book v ≡ false → move table v.state a ≡ some w.state
-      → alternatives_by tower book (pair_of v.state v.pending) a ≡ these w.pending → Standing w → pair_step rows book v a ≡ some w
+  item_step_in : (v w : Pair) (a : ℕ) → over_full rows book v ≡ false → move table v.state a ≡ Some w.state
+      → alternatives_by tower book (pair_of v.state v.pending) a ≡ these w.pending → Standing w → pair_step rows book v a ≡ Some w
   unfolding rows_tower
   item_step_in v w a spare to next stands =
       pair_step_spare rows book v a spare ∙ tried_step_in rows book v w a to (item_by v a ∙ next) stands
@@ -75,18 +75,18 @@ module _ (tower : Tower) (book : Book) (table : Table) where
   -- One that is reached lies at the end of a run that the table allows and that goes over unbroken steps.
   pub record RunTo (v : Pair) : Type 0 where
     pub run : List ℕ
-    pub row : leads (move table) 0 run ≡ some v.state
-    pub pair : leads (tried_step tower book) (first_pair tower book) run ≡ some (pair_of v.state v.pending)
+    pub row : leads (move table) 0 run ≡ Some v.state
+    pub pair : leads (tried_step tower book) (first_pair tower book) run ≡ Some (pair_of v.state v.pending)
 
   module _ (follows : FollowsRuns tower table) where
     -- An allowed action is enabled in the row's state.
-    pub item_enabled : (r a s : ℕ) → move table r a ≡ some s → tower.target (row_at table r).state a ≡ some (row_at table s).state
+    pub item_enabled : (r a s : ℕ) → move table r a ≡ Some s → tower.target (row_at table r).state a ≡ Some (row_at table s).state
     unfolding StepsRight
     item_enabled r a s to = follows.steps r (move_inside table r a s to) a s to
 
     -- It is a step that is tried from its pair.
-    pub item_pair : (v w : Pair) (a : ℕ) → pair_step rows book v a ≡ some w
-        → tried_step tower book (pair_of v.state v.pending) a ≡ some (pair_of w.state w.pending)
+    pub item_pair : (v w : Pair) (a : ℕ) → pair_step rows book v a ≡ Some w
+        → tried_step tower book (pair_of v.state v.pending) a ≡ Some (pair_of w.state w.pending)
     item_pair v w a e =
         let (to, next, stands) = item_step_out v w a e in
         tried_step_in tower book (pair_of v.state v.pending) (pair_of w.state w.pending) a
@@ -96,7 +96,7 @@ module _ (tower : Tower) (book : Book) (table : Table) where
 
     module _ (listed : Listed rows) (few : over_items tower book table ≡ false) (whole : some_broken rows book ≡ false) where
       -- an allowed action makes an unbroken step from all that are reached: they are looked at, since they are not too many
-      unbroken : (v : Pair) (a t : ℕ) → ReachedPair rows book v → move table v.state a ≡ some t
+      unbroken : (v : Pair) (a t : ℕ) → ReachedPair rows book v → move table v.state a ≡ Some t
           → is_there (pair_step rows book v a) ≡ true
       unfolding some_broken breaks broken_step rows_tower Listed over_items
       unbroken v a t reached to =
@@ -106,23 +106,23 @@ module _ (tower : Tower) (book : Book) (table : Table) where
           true_by (is_there (pair_step rows book v a)) (λ gone. never_both (and_both (is_there_in to) (not_in gone)) here)
 
       -- from a row with what is pending that is reached, every run that the table allows goes on over unbroken steps
-      walks : (w : List ℕ) (v : Pair) (s : ℕ) → ReachedPair rows book v → leads (move table) v.state w ≡ some s
-          → (u : Pair) × (leads (tried_step tower book) (pair_of v.state v.pending) w ≡ some u)
+      walks : (w : List ℕ) (v : Pair) (s : ℕ) → ReachedPair rows book v → leads (move table) v.state w ≡ Some s
+          → (u : Pair) × (leads (tried_step tower book) (pair_of v.state v.pending) w ≡ Some u)
       walks [] v s reached e = (pair_of v.state v.pending, leads_nil (tried_step tower book) (pair_of v.state v.pending))
       walks (a ∷ w) v s reached e =
           let (t, to, on) = leads_out (move table) v.state s a w e in
           let (z, step) = is_there_out (pair_step rows book v a) (unbroken v a t reached to) in
           let same : t ≡ z.state = some_one to (item_step_out v z a step).0 in
-          let (u, rest) = walks w z s (further v a z reached step) (subst (λ y. leads (move table) y w ≡ some s) same on) in
+          let (u, rest) = walks w z s (further v a z reached step) (subst (λ y. leads (move table) y w ≡ Some s) same on) in
           (u, leads_in (tried_step tower book) (pair_of v.state v.pending) (pair_of z.state z.pending) u a w (item_pair v z a step) rest)
         where
-          further : (v : Pair) (a : ℕ) (z : Pair) → ReachedPair rows book v → pair_step rows book v a ≡ some z → ReachedPair rows book z
+          further : (v : Pair) (a : ℕ) (z : Pair) → ReachedPair rows book v → pair_step rows book v a ≡ Some z → ReachedPair rows book z
           further v a z reached step =
               unfold ReachedPair in
               (reached.0 ++ (a ∷ []), snoc_in (pair_step rows book) (first_pair rows book) v z reached.0 a reached.1 step)
 
       -- from row 0 on, every allowed run goes on over unbroken steps
-      pub all_walked : (w : List ℕ) → Allows table w → (v : Pair) × (leads (tried_step tower book) (first_pair tower book) w ≡ some v)
+      pub all_walked : (w : List ℕ) → Allows table w → (v : Pair) × (leads (tried_step tower book) (first_pair tower book) w ≡ Some v)
       unfolding Allows AllowsFrom first_pair GoodStart rows_tower ReachedPair
       all_walked w (s, e) =
           let (v, on) = walks w (first_pair rows book) s ([], leads_nil (pair_step rows book) (first_pair rows book)) e in
@@ -131,11 +131,11 @@ module _ (tower : Tower) (book : Book) (table : Table) where
     -- ---- a broken step is found, so some allowed run is broken
 
     -- Where rows with what is pending lead, so do their pairs.
-    pub pairs_lead : (v u : Pair) (w : List ℕ) → leads (pair_step rows book) v w ≡ some u
-        → leads (tried_step tower book) (pair_of v.state v.pending) w ≡ some (pair_of u.state u.pending)
+    pub pairs_lead : (v u : Pair) (w : List ℕ) → leads (pair_step rows book) v w ≡ Some u
+        → leads (tried_step tower book) (pair_of v.state v.pending) w ≡ Some (pair_of u.state u.pending)
     pairs_lead v u [] e =
         leads_nil (tried_step tower book) (pair_of v.state v.pending)
-        ∙ ap (λ z. some (pair_of z.state z.pending)) (some_one (leads_nil (pair_step rows book) v) e)
+        ∙ ap (λ z. Some (pair_of z.state z.pending)) (some_one (leads_nil (pair_step rows book) v) e)
     pairs_lead v u (a ∷ w) e =
         let (z, step, rest) = leads_out (pair_step rows book) v u a w e in
         leads_in (tried_step tower book) (pair_of v.state v.pending) (pair_of z.state z.pending) (pair_of u.state u.pending) a w
@@ -153,8 +153,8 @@ module _ (tower : Tower) (book : Book) (table : Table) where
         }
 
     -- From a row that is not over_full an allowed action makes a step that leads on, if what is pending there meets it.
-    pub meets_steps : FitBook book → Listed rows → (v : Pair) (a t : ℕ) → over_full rows book v ≡ false → move table v.state a ≡ some t
-        → FulfilsOne tower book (row_at table v.state).state v.pending (a ∷ []) → (w : Pair) × (pair_step rows book v a ≡ some w)
+    pub meets_steps : FitBook book → Listed rows → (v : Pair) (a t : ℕ) → over_full rows book v ≡ false → move table v.state a ≡ Some t
+        → FulfilsOne tower book (row_at table v.state).state v.pending (a ∷ []) → (w : Pair) × (pair_step rows book v a ≡ Some w)
     unfolding rows_tower
     meets_steps fit listed v a t spare to meets =
         let (u, led) =
@@ -168,18 +168,18 @@ module _ (tower : Tower) (book : Book) (table : Table) where
               (record { first = stands.first; others = stands.others; are = stands.are }),
         )
 
-    module _ (fit : FitBook book) (listed : Listed rows) (none : NoneBroken tower book table) where
+    module _ (fit : FitBook book) (listed : Listed rows) (None : NoneBroken tower book table) where
       -- behind a run to a row with what is pending, what is pending there meets every allowed action
-      meets_allowed : (v : Pair) (a t : ℕ) → RunTo v → move table v.state a ≡ some t
+      meets_allowed : (v : Pair) (a t : ℕ) → RunTo v → move table v.state a ≡ Some t
           → FulfilsOne tower book (row_at table v.state).state v.pending (a ∷ [])
       unfolding NoneBroken Allows AllowsFrom first_pair
       meets_allowed v a t before to =
           (meets_on tower book fit (first_pair tower book) (pair_of v.state v.pending) before.run (a ∷ []) before.pair).0
           ((unbroken_first tower book fit (before.run ++ (a ∷ []))).0
-          (none (before.run ++ (a ∷ [])) (t, snoc_in (move table) 0 v.state t before.run a before.row to)))
+          (None (before.run ++ (a ∷ [])) (t, snoc_in (move table) 0 v.state t before.run a before.row to)))
 
       -- so an allowed action makes an unbroken step from a row that is not over_full
-      step_whole : (v : Pair) (a t : ℕ) → over_full rows book v ≡ false → RunTo v → move table v.state a ≡ some t
+      step_whole : (v : Pair) (a t : ℕ) → over_full rows book v ≡ false → RunTo v → move table v.state a ≡ Some t
           → is_there (pair_step rows book v a) ≡ true
       step_whole v a t spare before to = let (w, e) = meets_steps fit listed v a t spare to (meets_allowed v a t before to) in is_there_in e
 

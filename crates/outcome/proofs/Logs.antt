@@ -4,19 +4,23 @@ use Prim.Native.Nat.{ℕ, zero, suc, ◌+◌, ◌<◌}
 use mathlib.Core.Path.{◌≡◌, refl, sym, ◌∙◌, ap, subst}
 use mathlib.Core.Logic.{◌↔◌, ◌⊎◌, inl, inr}
 use mathlib.Core.Bool.{true}
-use mathlib.Core.Option.{none, some, bind, bind-eq-some_iff}
+use Rattle.std.specs.Prelude.{None, Some}
+use Rattle.base.specs.Options.{bind}
+use Rattle.base.proofs.Options.{bind-eq-some_iff}
 use mathlib.Core.List.{List, [], ◌∷◌, ◌++◌, map, map-append}
 use native.Mathlib.Omega.{arith}
 use lib.ListN.{length, take, drop, take-append-drop}
 use Rattle.base.specs.Lists.{only_if}
-use Rattle.base.specs.Answers.{Answer, refuse, give}
+use Rattle.base.specs.Answers.{Answer}
+use Rattle.std.specs.Prelude.{Err, Ok}
 use Rattle.base.proofs.Lists.{whether_there, none-some, some_one, only_if_out, only_if_in}
 use Rattle.base.proofs.Answers.{then_on, then_stays}
 use Rattle.base.specs.declared.Reason.{Reason}
 use Rattle.base.specs.declared.Refusal.{Refusal}
 use Rattle.base.specs.declared.Refusal.TheVariants.{Layout, Log}
-use Rattle.base.specs.declared.LogAnswer.{LogAnswer}
-use Rattle.base.specs.declared.LogAnswer.TheVariants as Logged
+use Rattle.base.specs.Answers.{LogAnswer}
+use Rattle.base.specs.declared.Rejection.TheVariants as Rejected
+use Rattle.base.specs.declared.LogEnd.TheVariants as Ends
 use Rattle.logic.specs.Time.{plus, same_ticks, position, after}
 use Rattle.logic.specs.Tower.{Tower}
 use Rattle.logic.specs.Runs.{leads, Moment, Trace, trace_from, trace, moment, Judged, duration}
@@ -37,11 +41,9 @@ use Rattle.outcome.specs.Log.{on_time, next_place, fits_or_fails, next_course, c
 use Rattle.outcome.specs.LoggedRun.{logged_actions, line_of, LoggedRun, FirstMisfit}
 use Rattle.outcome.specs.RightAnswer.{SoundTable, RightLogged, log_tower, log_layout, log_reason, log_form, log_misfit, log_fits}
 use Rattle.outcome.specs.Shown.{HoldsGood, FinalRow, NamedLine, LogUnbroken}
-use Rattle.outcome.specs.declared.Due.{Due}
-use Rattle.outcome.specs.declared.Due.TheVariants.{Free, At}
+use Rattle.outcome.specs.Log.{Course, misfits}
+use Rattle.std.specs.Prelude.{Option}
 use Rattle.outcome.specs.declared.LogPlace.{LogPlace}
-use Rattle.outcome.specs.declared.Course.{Course}
-use Rattle.outcome.specs.declared.Course.TheVariants.{Fits, Fails}
 use Rattle.outcome.proofs.Items.{move_inside}
 use Rattle.outcome.proofs.RowReasons.{rows_decided, rows_say, rows_pass}
 use Rattle.outcome.proofs.Refusals.{table_only, lines_only}
@@ -85,7 +87,7 @@ module _ (tower : Tower) (table : Table) (right : RightBelow tower table (length
 
   -- The lines are a run from here on, which ends in row r; the first tick is the one that is due, and the others are right.
   record LogFrom (here : LogPlace) (strokes : List Stroke) (r : ℕ) : Type 0 where
-    run : leads (move table) here.row (logged_actions strokes) ≡ some r
+    run : leads (move table) here.row (logged_actions strokes) ≡ Some r
     first : Judged (trace_of here strokes) (position 0) → on_time here.due (line_of strokes (position 0)).tick ≡ true
     times : Timed tower (trace_of here strokes) strokes
 
@@ -97,35 +99,35 @@ module _ (tower : Tower) (table : Table) (right : RightBelow tower table (length
 
   -- where line s leads that goes to this row
   abbrev led : LogPlace → Stroke → ℕ → LogPlace
-  led here s row = record { row = row; due = At (plus s.tick (tower.step_length (row_at table here.row).state s.action)) }
+  led here s row = record { row = row; due = Some (plus s.tick (tower.step_length (row_at table here.row).state s.action)) }
 
   -- the action of line s with the state that it leaves
   abbrev left_by : LogPlace → Stroke → Moment
   left_by here s = record { state = (row_at table here.row).state; action = s.action }
 
-  next_in : (here : LogPlace) (s : Stroke) (row : ℕ) → move table here.row s.action ≡ some row → on_time here.due s.tick ≡ true
-      → next_place tower table here s ≡ some (led here s row)
+  next_in : (here : LogPlace) (s : Stroke) (row : ℕ) → move table here.row s.action ≡ Some row → on_time here.due s.tick ≡ true
+      → next_place tower table here s ≡ Some (led here s row)
   unfolding next_place bind
   next_in here s row e timely =
-      ap (λ o. bind o (λ row. some (led here s row))) (only_if_in (λ row. on_time here.due s.tick) e timely)
+      ap (λ o. bind o (λ row. Some (led here s row))) (only_if_in (λ row. on_time here.due s.tick) e timely)
 
-  next_out : (here : LogPlace) (s : Stroke) (next : LogPlace) → next_place tower table here s ≡ some next
-      → (row : ℕ) × (move table here.row s.action ≡ some row) × (on_time here.due s.tick ≡ true) × (led here s row ≡ next)
+  next_out : (here : LogPlace) (s : Stroke) (next : LogPlace) → next_place tower table here s ≡ Some next
+      → (row : ℕ) × (move table here.row s.action ≡ Some row) × (on_time here.due s.tick ≡ true) × (led here s row ≡ next)
   unfolding next_place
   next_out here s next e =
       let (row, f, g) =
-      (bind-eq-some_iff (only_if (λ row. on_time here.due s.tick) (move table here.row s.action)) (λ row. some (led here s row))).0 e in
+      (bind-eq-some_iff (only_if (λ row. on_time here.due s.tick) (move table here.row s.action)) (λ row. Some (led here s row))).0 e in
       let (h, timely) = only_if_out (λ row. on_time here.due s.tick) (move table here.row s.action) f in
       (row, h, timely, some_one refl g)
 
   module _ (here : LogPlace) (s : Stroke) (strokes : List Stroke) where
     -- the row that an allowed action leads to has the state that the tower reaches
-    trace_next : (row : ℕ) → move table here.row s.action ≡ some row
+    trace_next : (row : ℕ) → move table here.row s.action ≡ Some row
         → trace_of here (s ∷ strokes) ≡ left_by here s ∷ trace_of (led here s row) strokes
     unfolding trace_from logged_actions StepsRight
     trace_next row e = rw ((right.rows here.row (move_inside table here.row s.action row e)).c s.action row e)
 
-    from_in : (row r : ℕ) → move table here.row s.action ≡ some row → on_time here.due s.tick ≡ true
+    from_in : (row r : ℕ) → move table here.row s.action ≡ Some row → on_time here.due s.tick ≡ true
         → LogFrom (led here s row) strokes r → LogFrom here (s ∷ strokes) r
     unfolding logged_actions line_of on_time duration
     from_in row r e timely rest =
@@ -139,7 +141,7 @@ module _ (tower : Tower) (table : Table) (right : RightBelow tower table (length
         }
 
     from_out : (r : ℕ) → LogFrom here (s ∷ strokes) r
-        → (row : ℕ) × (move table here.row s.action ≡ some row) × (on_time here.due s.tick ≡ true) × LogFrom (led here s row) strokes r
+        → (row : ℕ) × (move table here.row s.action ≡ Some row) × (on_time here.due s.tick ≡ true) × LogFrom (led here s row) strokes r
     unfolding logged_actions line_of on_time duration Judged trace_from
     from_out r from =
         let (row, e, more) = leads_out (move table) here.row r s.action (logged_actions strokes) from.run in
@@ -153,17 +155,17 @@ module _ (tower : Tower) (table : Table) (right : RightBelow tower table (length
         )
 
     -- what the lines come to where the first fits, and where it does not
-    course_on : (line : Position) (next : LogPlace) → next_place tower table here s ≡ some next
-        → course_along tower table line (Fits here) (s ∷ strokes) ≡ course_along tower table (after line) (Fits next) strokes
+    course_on : (line : Position) (next : LogPlace) → next_place tower table here s ≡ Some next
+        → course_along tower table line (Ok here) (s ∷ strokes) ≡ course_along tower table (after line) (Ok next) strokes
     unfolding course_along next_course fits_or_fails
     course_on line next e = ap (λ o. course_along tower table (after line) (fits_or_fails line here s o) strokes) e
 
-    course_fails : (line : Position) → next_place tower table here s ≡ none → course_along tower table line (Fits here) (s ∷ strokes) ≡ Fails line here s
+    course_fails : (line : Position) → next_place tower table here s ≡ None → course_along tower table line (Ok here) (s ∷ strokes) ≡ misfits line here s
     unfolding course_along next_course fits_or_fails
     course_fails line e =
         ap (λ o. course_along tower table (after line) (fits_or_fails line here s o) strokes) e ∙ stays strokes (after line)
       where
-        stays : (rest : List Stroke) (at : Position) → course_along tower table at (Fails line here s) rest ≡ Fails line here s
+        stays : (rest : List Stroke) (at : Position) → course_along tower table at (misfits line here s) rest ≡ misfits line here s
         stays [] at = refl
         stays (t ∷ rest) at = stays rest (after at)
 
@@ -174,14 +176,14 @@ module _ (tower : Tower) (table : Table) (right : RightBelow tower table (length
       record { run = leads_nil (move table) here.row; first = λ judged. absurd (omega arith); times = λ i judged. absurd (omega arith) }
 
   -- behind a line that leads to this row, the others are such a run from there on
-  from_behind : (here : LogPlace) (s : Stroke) (strokes : List Stroke) (row r : ℕ) → move table here.row s.action ≡ some row
+  from_behind : (here : LogPlace) (s : Stroke) (strokes : List Stroke) (row r : ℕ) → move table here.row s.action ≡ Some row
       → LogFrom here (s ∷ strokes) r → LogFrom (led here s row) strokes r
   from_behind here s strokes row r e from =
       let (q, f, timely, rest) = from_out here s strokes r from in subst (λ z. LogFrom (led here s z) strokes r) (some_one f e) rest
 
   module _ (here : LogPlace) (s : Stroke) (strokes : List Stroke) where
     -- a first line that leads nowhere is the misfit
-    misfit_here : next_place tower table here s ≡ none ↔ MisfitFrom here (s ∷ strokes) 0
+    misfit_here : next_place tower table here s ≡ None ↔ MisfitFrom here (s ∷ strokes) 0
     misfit_here = (
       λ e. record {
         inside = omega arith;
@@ -194,7 +196,7 @@ module _ (tower : Tower) (table : Table) (right : RightBelow tower table (length
     )
 
     -- and behind one that leads on the misfit is the one from there on
-    misfit_behind : (row k : ℕ) → move table here.row s.action ≡ some row → on_time here.due s.tick ≡ true
+    misfit_behind : (row k : ℕ) → move table here.row s.action ≡ Some row → on_time here.due s.tick ≡ true
         → MisfitFrom (led here s row) strokes k ↔ MisfitFrom here (s ∷ strokes) (suc k)
     misfit_behind row k e timely = (
       λ misfit. record {
@@ -211,16 +213,16 @@ module _ (tower : Tower) (table : Table) (right : RightBelow tower table (length
 
   -- what lines from here on, of which the first has this number, are to come to
   abbrev Comes : LogPlace → ℕ → List Stroke → Course → Type 0
-  Comes here line strokes (Fits place) = LogFrom here strokes place.row
-  Comes here line strokes (Fails n place s) = (k : ℕ) × (n.0 ≡ line + k) × MisfitFrom here strokes k
+  Comes here line strokes (Ok place) = LogFrom here strokes place.row
+  Comes here line strokes (Err misfit) = (k : ℕ) × (misfit.line.0 ≡ line + k) × MisfitFrom here strokes k
 
-  comes_behind : (here : LogPlace) (s : Stroke) (strokes : List Stroke) (row line : ℕ) → move table here.row s.action ≡ some row
+  comes_behind : (here : LogPlace) (s : Stroke) (strokes : List Stroke) (row line : ℕ) → move table here.row s.action ≡ Some row
       → on_time here.due s.tick ≡ true → (c : Course) → Comes (led here s row) (suc line) strokes c → Comes here line (s ∷ strokes) c
-  comes_behind here s strokes row line e timely (Fits place) from = from_in here s strokes row place.row e timely from
-  comes_behind here s strokes row line e timely (Fails n place t) (k, f, misfit) =
+  comes_behind here s strokes row line e timely (Ok place) from = from_in here s strokes row place.row e timely from
+  comes_behind here s strokes row line e timely (Err first) (k, f, misfit) =
       (suc k, omega arith, (misfit_behind here s strokes row k e timely).0 misfit)
 
-  comes : (strokes : List Stroke) (line : Position) (here : LogPlace) → Comes here line.0 strokes (course_along tower table line (Fits here) strokes)
+  comes : (strokes : List Stroke) (line : Position) (here : LogPlace) → Comes here line.0 strokes (course_along tower table line (Ok here) strokes)
   unfolding course_along after
   comes [] line here = from_nil here
   comes (s ∷ strokes) line here =
@@ -229,32 +231,32 @@ module _ (tower : Tower) (table : Table) (right : RightBelow tower table (length
       subst (Comes here line.0 (s ∷ strokes)) (sym (course_fails here s strokes line e)) (0, omega arith, (misfit_here here s strokes).0 e))
       (λ next e. on next e (comes strokes (after line) next))
     where
-      on : (next : LogPlace) → next_place tower table here s ≡ some next
-          → Comes next (suc line.0) strokes (course_along tower table (after line) (Fits next) strokes)
-          → Comes here line.0 (s ∷ strokes) (course_along tower table line (Fits here) (s ∷ strokes))
+      on : (next : LogPlace) → next_place tower table here s ≡ Some next
+          → Comes next (suc line.0) strokes (course_along tower table (after line) (Ok next) strokes)
+          → Comes here line.0 (s ∷ strokes) (course_along tower table line (Ok here) (s ∷ strokes))
       on next e behind =
           let (row, f, timely, same) = next_out here s next e in
           subst (Comes here line.0 (s ∷ strokes)) (sym (course_on here s strokes line next e))
-          (comes_behind here s strokes row line.0 f timely (course_along tower table (after line) (Fits next) strokes)
-          (subst (λ z. Comes z (suc line.0) strokes (course_along tower table (after line) (Fits next) strokes)) (sym same) behind))
+          (comes_behind here s strokes row line.0 f timely (course_along tower table (after line) (Ok next) strokes)
+          (subst (λ z. Comes z (suc line.0) strokes (course_along tower table (after line) (Ok next) strokes)) (sym same) behind))
 
   -- and lines that are such a run, or have such a misfit, do come to that
   fits_so : (strokes : List Stroke) (line : Position) (here : LogPlace) (r : ℕ) → LogFrom here strokes r
-      → (due : Due) × (course_along tower table line (Fits here) strokes ≡ Fits (record { row = r; due = due }))
+      → (due : Option Tick) × (course_along tower table line (Ok here) strokes ≡ Ok (record { row = r; due = due }))
   unfolding course_along logged_actions
   fits_so [] line here r from =
-      (here.due, ap (λ q. Fits (record { row = q; due = here.due })) (some_one (leads_nil (move table) here.row) from.run))
+      (here.due, ap (λ q. Ok (record { row = q; due = here.due })) (some_one (leads_nil (move table) here.row) from.run))
   fits_so (s ∷ strokes) line here r from =
       let (row, e, timely, rest) = from_out here s strokes r from in
       let (due, f) = fits_so strokes (after line) (led here s row) r rest in
       (due, course_on here s strokes line (led here s row) (next_in here s row e timely) ∙ f)
 
   fails_so : (strokes : List Stroke) (k : ℕ) (line n : Position) (here : LogPlace) → n.0 ≡ line.0 + k → MisfitFrom here strokes k
-      → (place : LogPlace) × ((s : Stroke) × (course_along tower table line (Fits here) strokes ≡ Fails n place s))
+      → (place : LogPlace) × ((s : Stroke) × (course_along tower table line (Ok here) strokes ≡ misfits n place s))
   unfolding after
   fails_so [] k line n here e misfit = absurd (omega (arith, misfit.inside))
   fails_so (s ∷ strokes) zero line n here e misfit =
-      (here, (s, course_fails here s strokes line ((misfit_here here s strokes).1 misfit) ∙ ap (λ i. Fails (position i) here s) (omega arith)))
+      (here, (s, course_fails here s strokes line ((misfit_here here s strokes).1 misfit) ∙ ap (λ i. misfits (position i) here s) (omega arith)))
   fails_so (s ∷ strokes) (suc k) line n here e misfit =
       let (row, f, timely, rest) = from_out here s (take k strokes) misfit.before.0 misfit.before.1 in
       let (place, (t, g)) =
@@ -264,7 +266,7 @@ module _ (tower : Tower) (table : Table) (right : RightBelow tower table (length
   -- ---- the whole log
 
   abbrev beginning : LogPlace
-  beginning = record { row = 0; due = Free }
+  beginning = record { row = 0; due = None }
 
   logged_iff : (strokes : List Stroke) (r : ℕ) → LogFrom beginning strokes r ↔ LoggedRun tower table strokes r
   unfolding on_time trace
@@ -296,7 +298,7 @@ module _ (tower : Tower) (table : Table) (right : RightBelow tower table (length
 
   -- The lines fit and lead to row r exactly if they are a run that ends there, with right ticks.
   pub fits_iff : (strokes : List Stroke) (r : ℕ)
-      → ((due : Due) × (followed tower table strokes ≡ Fits (record { row = r; due = due }))) ↔ LoggedRun tower table strokes r
+      → ((due : Option Tick) × (followed tower table strokes ≡ Ok (record { row = r; due = due }))) ↔ LoggedRun tower table strokes r
   unfolding followed first_course
   fits_iff strokes r = (
     λ (due, e). (logged_iff strokes r).0 (subst (Comes beginning 0 strokes) e (comes strokes (position 0) beginning)),
@@ -305,7 +307,7 @@ module _ (tower : Tower) (table : Table) (right : RightBelow tower table (length
 
   -- Line n is the first that does not fit exactly if it is the first with which the lines are no such run.
   pub fails_iff : (strokes : List Stroke) (n : Position)
-      → ((place : LogPlace) × ((s : Stroke) × (followed tower table strokes ≡ Fails n place s))) ↔ FirstMisfit tower table strokes n
+      → ((place : LogPlace) × ((s : Stroke) × (followed tower table strokes ≡ misfits n place s))) ↔ FirstMisfit tower table strokes n
   unfolding followed first_course
   fails_iff strokes n = (
     λ (place, (s, e)).
@@ -317,27 +319,27 @@ module _ (tower : Tower) (table : Table) (right : RightBelow tower table (length
 -- ---- the answer in every case
 
 module _ (tower_file file log : List ℕ) where
-  tower_said : (r : Refusal) → read_tower tower_file ≡ refuse r → log_outcome tower_file file log ≡ Logged.Refused r
+  tower_said : (r : Refusal) → read_tower tower_file ≡ Err r → log_outcome tower_file file log ≡ Err (Rejected.Refused r)
   unfolding log_outcome logged_file log_answer
   tower_said r e = ap log_answer (then_stays _ e)
 
-  layout_said : (tower : Tower) → read_tower tower_file ≡ give tower → read_table tower file ≡ refuse Layout
-      → log_outcome tower_file file log ≡ Logged.Refused Layout
+  layout_said : (tower : Tower) → read_tower tower_file ≡ Ok tower → read_table tower file ≡ Err Layout
+      → log_outcome tower_file file log ≡ Err (Rejected.Refused Layout)
   unfolding log_outcome logged_file log_answer
   layout_said tower e f = ap log_answer (then_on _ e ∙ then_stays _ f)
 
   -- behind tower and table it is what the rows say, and the log if they are right
-  rows_said : (tower : Tower) (table : Table) → read_tower tower_file ≡ give tower → FitTable tower file table → (x : Finding)
-      → rows_judged tower table (give good_table) ≡ give x → log_outcome tower_file file log ≡ log_answer (log_after tower table log x)
+  rows_said : (tower : Tower) (table : Table) → read_tower tower_file ≡ Ok tower → FitTable tower file table → (x : Finding)
+      → rows_judged tower table (Ok good_table) ≡ Ok x → log_outcome tower_file file log ≡ log_answer (log_after tower table log x)
   unfolding log_outcome logged_file FitTable
   rows_said tower table e f x g = ap log_answer (then_on _ e ∙ then_on _ f ∙ then_on _ g)
 
-  reason_said : (tower : Tower) (table : Table) → read_tower tower_file ≡ give tower → FitTable tower file table → (q : Reason)
-      → FirstOfRows tower table q → log_outcome tower_file file log ≡ Logged.NotGood q
+  reason_said : (tower : Tower) (table : Table) → read_tower tower_file ≡ Ok tower → FitTable tower file table → (q : Reason)
+      → FirstOfRows tower table q → log_outcome tower_file file log ≡ Err (Rejected.NotGood q)
   unfolding log_after log_answer
   reason_said tower table e laid q first =
       rows_said tower table e laid (not_good q)
-      (rows_say tower table (tower_fits tower_file tower e).listed (laid_table tower file table laid) q first (give good_table))
+      (rows_say tower table (tower_fits tower_file tower e).listed (laid_table tower file table laid) q first (Ok good_table))
 
   -- with a sound table it is what the lines come to
   module _ (tower : Tower) (table : Table) (sound : SoundTable tower_file file tower table) where
@@ -345,16 +347,16 @@ module _ (tower_file file log : List ℕ) where
     passed =
         rows_said tower table sound.tower_read sound.laid good_table
         (rows_pass tower table (tower_fits tower_file tower sound.tower_read).listed (laid_table tower file table sound.laid) sound.right
-        (give good_table))
+        (Ok good_table))
 
-    form_said : (r : Refusal) → read_log log ≡ refuse r → log_outcome tower_file file log ≡ Logged.Refused r
+    form_said : (r : Refusal) → read_log log ≡ Err r → log_outcome tower_file file log ≡ Err (Rejected.Refused r)
     unfolding log_after log_answer
     form_said r e = passed ∙ ap log_answer (then_stays _ e)
 
-    lines_said : (strokes : List Stroke) (c : Course) → read_log log ≡ give strokes → followed tower table strokes ≡ c
-        → log_outcome tower_file file log ≡ log_answer (give (comes_to c))
+    lines_said : (strokes : List Stroke) (c : Course) → read_log log ≡ Ok strokes → followed tower table strokes ≡ c
+        → log_outcome tower_file file log ≡ log_answer (Ok (comes_to c))
     unfolding log_after
-    lines_said strokes c e f = passed ∙ ap log_answer (then_on _ e ∙ ap (λ z. give (comes_to z)) f)
+    lines_said strokes c e f = passed ∙ ap log_answer (then_on _ e ∙ ap (λ z. Ok (comes_to z)) f)
 
   pub log_right : RightLogged tower_file file log (log_outcome tower_file file log)
   unfolding log_answer
@@ -364,43 +366,43 @@ module _ (tower_file file log : List ℕ) where
           → RightLogged tower_file file log (log_outcome tower_file file log)
       answer_by x e right = subst (RightLogged tower_file file log) (sym e) right
 
-      by_course : (tower : Tower) (table : Table) → SoundTable tower_file file tower table → (strokes : List Stroke) → read_log log ≡ give strokes
+      by_course : (tower : Tower) (table : Table) → SoundTable tower_file file tower table → (strokes : List Stroke) → read_log log ≡ Ok strokes
           → (c : Course) → followed tower table strokes ≡ c → RightLogged tower_file file log (log_outcome tower_file file log)
-      by_course tower table sound strokes e (Fits place) f =
-          answer_by (Logged.Row place.row) (lines_said tower table sound strokes (Fits place) e f)
+      by_course tower table sound strokes e (Ok place) f =
+          answer_by (Ok (Ends.Row place.row)) (lines_said tower table sound strokes (Ok place) e f)
           (log_fits tower table sound strokes e place.row ((fits_iff tower table sound.right strokes place.row).0 (place.due, f)))
-      by_course tower table sound strokes e (Fails n place s) f =
-          answer_by (Logged.Line n.0) (lines_said tower table sound strokes (Fails n place s) e f)
-          (log_misfit tower table sound strokes e n ((fails_iff tower table sound.right strokes n).0 (place, (s, f))))
+      by_course tower table sound strokes e (Err first) f =
+          answer_by (Ok (Ends.Line first.line.0)) (lines_said tower table sound strokes (Err first) e f)
+          (log_misfit tower table sound strokes e first.line ((fails_iff tower table sound.right strokes first.line).0 (first.place, (first.stroke, f))))
 
       by_lines : (tower : Tower) (table : Table) → SoundTable tower_file file tower table → (o : Answer (List Stroke)) → read_log log ≡ o
           → RightLogged tower_file file log (log_outcome tower_file file log)
-      by_lines tower table sound (refuse r) e =
+      by_lines tower table sound (Err r) e =
           let (line, same) = (lines_only (λ q. (l : ℕ) × (Log l ≡ q)) (λ l. (l, refl)) log).only r e in
-          let f : read_log log ≡ refuse (Log line) = e ∙ ap refuse (sym same) in
-          answer_by (Logged.Refused (Log line)) (form_said tower table sound (Log line) f) (log_form tower table sound line f)
-      by_lines tower table sound (give strokes) e = by_course tower table sound strokes e (followed tower table strokes) refl
+          let f : read_log log ≡ Err (Log line) = e ∙ ap Err (sym same) in
+          answer_by (Err (Rejected.Refused (Log line))) (form_said tower table sound (Log line) f) (log_form tower table sound line f)
+      by_lines tower table sound (Ok strokes) e = by_course tower table sound strokes e (followed tower table strokes) refl
 
-      by_rows : (tower : Tower) (table : Table) → read_tower tower_file ≡ give tower → FitTable tower file table
+      by_rows : (tower : Tower) (table : Table) → read_tower tower_file ≡ Ok tower → FitTable tower file table
           → ((q : Reason) × FirstOfRows tower table q) ⊎ RightBelow tower table (length table)
           → RightLogged tower_file file log (log_outcome tower_file file log)
       by_rows tower table e laid (inl (q, first)) =
-          answer_by (Logged.NotGood q) (reason_said tower table e laid q first) (log_reason tower table e laid q first)
+          answer_by (Err (Rejected.NotGood q)) (reason_said tower table e laid q first) (log_reason tower table e laid q first)
       by_rows tower table e laid (inr right) =
           by_lines tower table (record { tower_read = e; laid = laid; right = right }) (read_log log) refl
 
-      by_table : (tower : Tower) → read_tower tower_file ≡ give tower → (o : Answer Table) → read_table tower file ≡ o
+      by_table : (tower : Tower) → read_tower tower_file ≡ Ok tower → (o : Answer Table) → read_table tower file ≡ o
           → RightLogged tower_file file log (log_outcome tower_file file log)
-      by_table tower e (refuse r) f =
-          let layout : read_table tower file ≡ refuse Layout = f ∙ ap refuse (sym ((table_only (λ q. Layout ≡ q) refl tower file).only r f)) in
-          answer_by (Logged.Refused Layout) (layout_said tower e layout) (log_layout tower e layout)
-      by_table tower e (give table) f =
+      by_table tower e (Err r) f =
+          let layout : read_table tower file ≡ Err Layout = f ∙ ap Err (sym ((table_only (λ q. Layout ≡ q) refl tower file).only r f)) in
+          answer_by (Err (Rejected.Refused Layout)) (layout_said tower e layout) (log_layout tower e layout)
+      by_table tower e (Ok table) f =
           let laid : FitTable tower file table = unfold FitTable in f in
           by_rows tower table e laid (rows_decided tower table (tower_fits tower_file tower e).listed (laid_table tower file table laid))
 
       by_tower : (o : Answer Tower) → read_tower tower_file ≡ o → RightLogged tower_file file log (log_outcome tower_file file log)
-      by_tower (refuse r) e = answer_by (Logged.Refused r) (tower_said r e) (log_tower r e)
-      by_tower (give tower) e = by_table tower e (read_table tower file) refl
+      by_tower (Err r) e = answer_by (Err (Rejected.Refused r)) (tower_said r e) (log_tower r e)
+      by_tower (Ok tower) e = by_table tower e (read_table tower file) refl
 
   pub log_only : (x : LogAnswer) → RightLogged tower_file file log x → log_outcome tower_file file log ≡ x
   unfolding log_answer
@@ -409,17 +411,17 @@ module _ (tower_file file log : List ℕ) where
   log_only _ (log_reason tower table e laid q first) = reason_said tower table e laid q first
   log_only _ (log_form tower table sound line e) = form_said tower table sound (Log line) e
   log_only _ (log_misfit tower table sound strokes e n misfit) =
-      let (place, (s, f)) = (fails_iff tower table sound.right strokes n).1 misfit in lines_said tower table sound strokes (Fails n place s) e f
+      let (place, (s, f)) = (fails_iff tower table sound.right strokes n).1 misfit in lines_said tower table sound strokes (misfits n place s) e f
   log_only _ (log_fits tower table sound strokes e r run) =
       let (due, f) = (fits_iff tower table sound.right strokes r).1 run in
-      lines_said tower table sound strokes (Fits (record { row = r; due = due })) e f
+      lines_said tower table sound strokes (Ok (record { row = r; due = due })) e f
 
   -- what an answer without complaint of the files shows
   abbrev Shows : LogAnswer → Type 0
-  Shows (Logged.Row r) = FinalRow tower_file file log r
-  Shows (Logged.Line k) = NamedLine tower_file file log k
-  Shows (Logged.NotGood q) = Unit {0}
-  Shows (Logged.Refused r) = Unit {0}
+  Shows (Ok (Ends.Row r)) = FinalRow tower_file file log r
+  Shows (Ok (Ends.Line k)) = NamedLine tower_file file log k
+  Shows (Err (Rejected.NotGood q)) = Unit {0}
+  Shows (Err (Rejected.Refused r)) = Unit {0}
 
   shows : (x : LogAnswer) → RightLogged tower_file file log x → Shows x
   shows _ (log_tower r e) = tt
@@ -431,17 +433,17 @@ module _ (tower_file file log : List ℕ) where
   shows _ (log_fits tower table sound strokes e r run) =
       record { tower = tower; table = table; strokes = strokes; sound = sound; read = e; run = run }
 
-  pub final_row : (r : ℕ) → (log_outcome tower_file file log ≡ Logged.Row r) ↔ FinalRow tower_file file log r
+  pub final_row : (r : ℕ) → (log_outcome tower_file file log ≡ Ok (Ends.Row r)) ↔ FinalRow tower_file file log r
   final_row r = (
     λ e. subst Shows e (shows (log_outcome tower_file file log) log_right),
-    λ final. log_only (Logged.Row r) (log_fits final.tower final.table final.sound final.strokes final.read r final.run),
+    λ final. log_only (Ok (Ends.Row r)) (log_fits final.tower final.table final.sound final.strokes final.read r final.run),
   )
 
-  pub named_line : (k : ℕ) → (log_outcome tower_file file log ≡ Logged.Line k) ↔ NamedLine tower_file file log k
+  pub named_line : (k : ℕ) → (log_outcome tower_file file log ≡ Ok (Ends.Line k)) ↔ NamedLine tower_file file log k
   named_line k = (
     λ e. subst Shows e (shows (log_outcome tower_file file log) log_right),
     λ named.
-        log_only (Logged.Line k)
+        log_only (Ok (Ends.Line k))
         (log_misfit named.tower named.table named.sound named.strokes named.read (position k) named.misfit),
   )
 
@@ -454,7 +456,7 @@ logged_parts n strokes =
     ap (map (λ s. s.action)) (sym (take-append-drop n strokes)) ∙ map-append (λ s. s.action) (take n strokes) (drop n strokes)
 
 module _ (tower_file text file log : List ℕ) (holds : HoldsGood tower_file text file) where
-  allowed_unbroken : (tower : Tower) (table : Table) → FitTable tower file table → (strokes : List Stroke) → read_log log ≡ give strokes
+  allowed_unbroken : (tower : Tower) (table : Table) → FitTable tower file table → (strokes : List Stroke) → read_log log ≡ Ok strokes
       → (n : ℕ) → Allows table (logged_actions (take n strokes)) → LogUnbroken tower_file text log n
   unfolding FitTable NoneBroken
   allowed_unbroken tower table laid strokes e n allowed =
@@ -470,7 +472,7 @@ module _ (tower_file text file log : List ℕ) (holds : HoldsGood tower_file tex
       same : table ≡ holds.table
       same = sym (table_read tower file table laid).3 ∙ (table_read holds.tower file holds.table holds.laid).3
 
-  pub fits_unbroken : (r : ℕ) → log_outcome tower_file file log ≡ Logged.Row r → (n : ℕ) → LogUnbroken tower_file text log n
+  pub fits_unbroken : (r : ℕ) → log_outcome tower_file file log ≡ Ok (Ends.Row r) → (n : ℕ) → LogUnbroken tower_file text log n
   unfolding Allows AllowsFrom
   fits_unbroken r e n = go ((final_row tower_file file log r).0 e)
     where
@@ -478,10 +480,10 @@ module _ (tower_file text file log : List ℕ) (holds : HoldsGood tower_file tex
       go final =
           let (q, f, g) =
           append_out (move final.table) 0 r (logged_actions (take n final.strokes)) (logged_actions (drop n final.strokes))
-          (subst (λ w. leads (move final.table) 0 w ≡ some r) (logged_parts n final.strokes) final.run.run) in
+          (subst (λ w. leads (move final.table) 0 w ≡ Some r) (logged_parts n final.strokes) final.run.run) in
           allowed_unbroken final.tower final.table final.sound.laid final.strokes final.read n (q, f)
 
-  pub before_unbroken : (k : ℕ) → log_outcome tower_file file log ≡ Logged.Line k → LogUnbroken tower_file text log k
+  pub before_unbroken : (k : ℕ) → log_outcome tower_file file log ≡ Ok (Ends.Line k) → LogUnbroken tower_file text log k
   unfolding Allows AllowsFrom
   before_unbroken k e = go ((named_line tower_file file log k).0 e)
     where

@@ -4,8 +4,9 @@ use Prim.Native.Nat.{ℕ, zero, suc, ◌≤◌, ◌<◌}
 use mathlib.Core.Path.{◌≡◌, refl, sym, ap, subst, ◌∙◌}
 use mathlib.Core.Logic.{◌⊎◌, inl, inr}
 use mathlib.Core.Bool.{true, ◌||◌, not}
-use mathlib.Core.Option
-use mathlib.Core.Option.{Option, none, some, map-eq-some_iff}
+use Rattle.std.specs.Prelude.{option_map}
+use Rattle.std.specs.Prelude.{Option, None, Some}
+use Rattle.base.proofs.Options.{map-eq-some_iff}
 use mathlib.Core.List.{List, [], ◌∷◌, map, Memᴰ}
 use lib.ListN.{length, get_or, length-map}
 use native.Mathlib.Omega.{arith}
@@ -52,19 +53,19 @@ meets_targets (s ∷ steps) m n (inr (e, h)) = inr (e, meets_targets steps (suc 
 
 module _ (tower : Tower) (book : Book) where
   -- A step made for an action is there if the action is allowed, and leads to the row of the pair reached.
-  row_step_out : (a : ℕ) (o : Option Pair) (s : Step) → row_step tower book a o ≡ some s
-      → (w : Pair) × (o ≡ some w) × (s ≡ record { action = a; target = row_number tower book w })
+  row_step_out : (a : ℕ) (o : Option Pair) (s : Step) → row_step tower book a o ≡ Some s
+      → (w : Pair) × (o ≡ Some w) × (s ≡ record { action = a; target = row_number tower book w })
   unfolding row_step row_number
-  row_step_out a none s e = none-some refl e
-  row_step_out a (some w) s e = (w, refl, some_one e refl)
+  row_step_out a None s e = none-some refl e
+  row_step_out a (Some w) s e = (w, refl, some_one e refl)
 
   row_step_target : (a : ℕ) (o : Option Pair)
-      → Option.map (λ (s : Step). s.target) (row_step tower book a o) ≡ Option.map (row_number tower book) o
+      → option_map (λ (s : Step). s.target) (row_step tower book a o) ≡ option_map (row_number tower book) o
   unfolding row_step row_number
-  row_step_target a none = refl
-  row_step_target a (some w) = refl
+  row_step_target a None = refl
+  row_step_target a (Some w) = refl
 
-  row_step_action : (v : Pair) (a : ℕ) (s : Step) → row_step tower book a (safe_step tower book v a) ≡ some s → s.action ≡ a
+  row_step_action : (v : Pair) (a : ℕ) (s : Step) → row_step tower book a (safe_step tower book v a) ≡ Some s → s.action ≡ a
   row_step_action v a s e =
       let (w, f, g) = row_step_out a (safe_step tower book v a) s e in ap (λ (t : Step). t.action) g
 
@@ -85,7 +86,7 @@ module _ (tower : Tower) (book : Book) where
 
   -- A step of a made row is that of an allowed action.
   pub made_step_out : (v : Pair) (s : Step) → Memᴰ s (made_row tower book v).steps
-      → (a : ℕ) × (w : Pair) × (a < tower.actions) × (safe_step tower book v a ≡ some w)
+      → (a : ℕ) × (w : Pair) × (a < tower.actions) × (safe_step tower book v a ≡ Some w)
       × (s ≡ record { action = a; target = row_number tower book w })
   unfolding made_row
   made_step_out v s m =
@@ -128,29 +129,29 @@ module _ (tower : Tower) (book : Book) where
 
   -- Options that make one row have one number, or neither has one.
   map_same : (o p : Option Pair) → same_option (one_row tower book) o p ≡ true
-      → Option.map (row_number tower book) o ≡ Option.map (row_number tower book) p
+      → option_map (row_number tower book) o ≡ option_map (row_number tower book) p
   unfolding same_option
-  map_same none none e = refl
-  map_same none (some y) e = never_both e refl
-  map_same (some x) none e = never_both e refl
-  map_same (some x) (some y) e = ap {B = Option ℕ} some (row_same tower book x y e)
+  map_same None None e = refl
+  map_same None (Some y) e = never_both e refl
+  map_same (Some x) None e = never_both e refl
+  map_same (Some x) (Some y) e = ap {B = Option ℕ} Some (row_same tower book x y e)
 
   module _ (known : Known tower book) where
     -- An allowed action leads in a made row to the row of the pair that it leads to.
     pub made_step : (v : Pair) (a : ℕ)
-        → step_to (made_row tower book v).steps a ≡ Option.map (row_number tower book) (safe_step tower book v a)
+        → step_to (made_row tower book v).steps a ≡ option_map (row_number tower book) (safe_step tower book v a)
     unfolding made_row row_step row_number
     made_step v a = go (safe_step tower book v a) refl
       where
         go : (o : Option Pair) → safe_step tower book v a ≡ o
-            → step_to (made_row tower book v).steps a ≡ Option.map (row_number tower book) o
-        go none e =
+            → step_to (made_row tower book v).steps a ≡ option_map (row_number tower book) o
+        go None e =
             whether_there (step_to (made_row tower book v).steps a) (λ f. f)
             (λ p f.
             let (s, m, g, _) = step_in (made_row tower book v).steps a p f in
             let (b, w, l, h, k) = made_step_out v s m in
             none-some e (ap (safe_step tower book v) (sym g ∙ ap (λ (t : Step). t.action) k) ∙ h))
-        go (some w) e =
+        go (Some w) e =
             step_found (record { action = a; target = row_number tower book w }) (made_row tower book v).steps
             (ascending_once (made_row tower book v).steps (made_ascending v))
             (present_map_in (λ a. row_step tower book a (safe_step tower book v a)) (below tower.actions)
@@ -158,7 +159,7 @@ module _ (tower : Tower) (book : Book) where
 
     -- Row r moves as its pair does.
     row_made_move : (r : ℕ) → r < length (row_pairs tower book) → (a : ℕ)
-        → move (made_table tower book) r a ≡ Option.map (row_number tower book) (safe_step tower book (pair_of tower book r) a)
+        → move (made_table tower book) r a ≡ option_map (row_number tower book) (safe_step tower book (pair_of tower book r) a)
     unfolding move
     row_made_move r l a = ap (λ (row : Row). step_to row.steps a) (row_made r l) ∙ made_step (pair_of tower book r) a
 
@@ -171,7 +172,7 @@ module _ (tower : Tower) (book : Book) where
 
       -- The row of a pair that is led to moves as the pair does.
       pub made_move : (a : ℕ)
-          → move (made_table tower book) (row_number tower book v) a ≡ Option.map (row_number tower book) (safe_step tower book v a)
+          → move (made_table tower book) (row_number tower book v) a ≡ option_map (row_number tower book) (safe_step tower book v a)
       made_move a =
           let r : ℕ = row_number tower book v in
           let l = row_inside tower book known v led in
@@ -184,31 +185,31 @@ module _ (tower : Tower) (book : Book) where
     -- The runs from the row of a pair that is led to are those that lead on from the pair.
     pub made_leads : (w : List ℕ) (v : Pair) → Led tower book v
         → leads (move (made_table tower book)) (row_number tower book v) w
-        ≡ Option.map (row_number tower book) (leads (safe_step tower book) v w)
+        ≡ option_map (row_number tower book) (leads (safe_step tower book) v w)
     made_leads [] v led =
         leads_nil (move (made_table tower book)) (row_number tower book v)
-        ∙ ap (Option.map (row_number tower book)) (sym (leads_nil (safe_step tower book) v))
+        ∙ ap (option_map (row_number tower book)) (sym (leads_nil (safe_step tower book) v))
     made_leads (a ∷ w) v led = go (safe_step tower book v a) refl (λ y f. made_leads w y (led_step tower book v a y led f))
       where
         go : (o : Option Pair) → safe_step tower book v a ≡ o
-            → ((y : Pair) → safe_step tower book v a ≡ some y
+            → ((y : Pair) → safe_step tower book v a ≡ Some y
             → leads (move (made_table tower book)) (row_number tower book y) w
-            ≡ Option.map (row_number tower book) (leads (safe_step tower book) y w))
+            ≡ option_map (row_number tower book) (leads (safe_step tower book) y w))
             → leads (move (made_table tower book)) (row_number tower book v) (a ∷ w)
-            ≡ Option.map (row_number tower book) (leads (safe_step tower book) v (a ∷ w))
-        go none e ih =
+            ≡ option_map (row_number tower book) (leads (safe_step tower book) v (a ∷ w))
+        go None e ih =
             leads_stuck (move (made_table tower book)) (row_number tower book v) a w
-            (made_move v led a ∙ ap (Option.map (row_number tower book)) e)
-            ∙ ap (Option.map (row_number tower book)) (sym (leads_stuck (safe_step tower book) v a w e))
-        go (some y) e ih =
+            (made_move v led a ∙ ap (option_map (row_number tower book)) e)
+            ∙ ap (option_map (row_number tower book)) (sym (leads_stuck (safe_step tower book) v a w e))
+        go (Some y) e ih =
             leads_step (move (made_table tower book)) (row_number tower book v) (row_number tower book y) a w
-            (made_move v led a ∙ ap (Option.map (row_number tower book)) e)
+            (made_move v led a ∙ ap (option_map (row_number tower book)) e)
             ∙ ih y e
-            ∙ ap (Option.map (row_number tower book)) (sym (leads_step (safe_step tower book) v y a w e))
+            ∙ ap (option_map (row_number tower book)) (sym (leads_step (safe_step tower book) v y a w e))
 
     -- The runs of the made table are those that lead over allowed actions from the first pair, to the row of the pair reached.
     pub made_runs : (w : List ℕ) → leads (move (made_table tower book)) 0 w
-        ≡ Option.map (row_number tower book) (leads (safe_step tower book) (first_pair tower book) w)
+        ≡ option_map (row_number tower book) (leads (safe_step tower book) (first_pair tower book) w)
     made_runs w =
         ap (λ (r : ℕ). leads (move (made_table tower book)) r w) (sym (row_first tower book known))
         ∙ made_leads w (first_pair tower book) (led_first tower book)
@@ -218,25 +219,25 @@ module _ (tower : Tower) (book : Book) where
     -- The runs from row r are those that lead on from its pair.
     row_leads : (r : ℕ) → r < length (row_pairs tower book) → (w : List ℕ)
         → leads (move (made_table tower book)) r w
-        ≡ Option.map (row_number tower book) (leads (safe_step tower book) (pair_of tower book r) w)
+        ≡ option_map (row_number tower book) (leads (safe_step tower book) (pair_of tower book r) w)
     row_leads r l w =
         ap (λ (s : ℕ). leads (move (made_table tower book)) s w) (sym (row_of_pair tower book known r l))
         ∙ made_leads w (pair_of tower book r) (pair_led tower book r l)
 
     -- An action is allowed in row r if it is so from its pair.
-    allowed_in : (r : ℕ) → r < length (row_pairs tower book) → (a : ℕ) (w : Pair) → safe_step tower book (pair_of tower book r) a ≡ some w
+    allowed_in : (r : ℕ) → r < length (row_pairs tower book) → (a : ℕ) (w : Pair) → safe_step tower book (pair_of tower book r) a ≡ Some w
         → AllowsAction (made_table tower book) r a
     unfolding AllowsAction
-    allowed_in r l a w e = (row_number tower book w, row_made_move r l a ∙ ap (Option.map (row_number tower book)) e)
+    allowed_in r l a w e = (row_number tower book w, row_made_move r l a ∙ ap (option_map (row_number tower book)) e)
 
     -- An action that is allowed in row r leads from its pair.
-    allowed_out : (r : ℕ) → r < length (row_pairs tower book) → (a s : ℕ) → move (made_table tower book) r a ≡ some s
-        → (w : Pair) × (safe_step tower book (pair_of tower book r) a ≡ some w) × (row_number tower book w ≡ s)
+    allowed_out : (r : ℕ) → r < length (row_pairs tower book) → (a s : ℕ) → move (made_table tower book) r a ≡ Some s
+        → (w : Pair) × (safe_step tower book (pair_of tower book r) a ≡ Some w) × (row_number tower book w ≡ s)
     allowed_out r l a s e =
         (map-eq-some_iff (row_number tower book) (safe_step tower book (pair_of tower book r) a)).0 (sym (row_made_move r l a) ∙ e)
 
     -- What an allowed action leads to from the pair of a row is led to.
-    next_led : (r : ℕ) → r < length (row_pairs tower book) → (a : ℕ) (w : Pair) → safe_step tower book (pair_of tower book r) a ≡ some w
+    next_led : (r : ℕ) → r < length (row_pairs tower book) → (a : ℕ) (w : Pair) → safe_step tower book (pair_of tower book r) a ≡ Some w
         → Led tower book w
     next_led r l a w e = led_step tower book (pair_of tower book r) a w (pair_led tower book r l) e
 
@@ -247,7 +248,7 @@ module _ (tower : Tower) (book : Book) where
         let (w, f, g) = allowed_out r l a s e in
         ap (λ x. tower.target x a) (row_made_state r l)
         ∙ safe_step_target tower book (pair_of tower book r) a w f
-        ∙ ap {B = Option ℕ} some (sym (made_state w (next_led r l a w f)) ∙ ap (λ t. (row_at (made_table tower book) t).state) g)
+        ∙ ap {B = Option ℕ} Some (sym (made_state w (next_led r l a w f)) ∙ ap (λ t. (row_at (made_table tower book) t).state) g)
 
     -- The pair of a row is fine.
     row_fine : (r : ℕ) → r < length (row_pairs tower book) → fine tower book (safe tower book) (pair_of tower book r) ≡ true
@@ -274,7 +275,7 @@ module _ (tower : Tower) (book : Book) where
         v : Pair
         v = pair_of tower book r
 
-        enabled : tower.target v.state a ≡ some y
+        enabled : tower.target v.state a ≡ Some y
         enabled = ap (λ x. tower.target x a) (sym (row_made_state r l)) ∙ e
 
         right : forced_right tower book (safe tower book) v a ≡ true
@@ -306,7 +307,7 @@ module _ (tower : Tower) (book : Book) where
         )
 
     -- Targets are rows.
-    made_inside : (r a s : ℕ) → r < length (row_pairs tower book) → move (made_table tower book) r a ≡ some s
+    made_inside : (r a s : ℕ) → r < length (row_pairs tower book) → move (made_table tower book) r a ≡ Some s
         → s < length (row_pairs tower book)
     made_inside r a s l e =
         let (w, f, g) = allowed_out r l a s e in
@@ -328,7 +329,7 @@ module _ (tower : Tower) (book : Book) where
             → is_there (leads (safe_step tower book) (pair_of tower book q) w) ≡ true
         on p q i j w h e =
             let (y, f) = is_there_out (leads (safe_step tower book) (pair_of tower book p) w) e in
-            let (t, g) = h (row_number tower book y, row_leads p i w ∙ ap (Option.map (row_number tower book)) f) in
+            let (t, g) = h (row_number tower book y, row_leads p i w ∙ ap (option_map (row_number tower book)) f) in
             let (z, m, n) =
             (map-eq-some_iff (row_number tower book) (leads (safe_step tower book) (pair_of tower book q) w)).0 (sym (row_leads q j w) ∙ g) in
             is_there_in m
@@ -347,7 +348,7 @@ module _ (tower : Tower) (book : Book) where
     made_start = row_made_state 0 (rows_some tower book) ∙ ap (λ (v : Pair). v.state) (pair_first tower book)
 
     -- Allowed actions are the tower's.
-    made_action : (r a s : ℕ) → r < length (row_pairs tower book) → move (made_table tower book) r a ≡ some s → a < tower.actions
+    made_action : (r a s : ℕ) → r < length (row_pairs tower book) → move (made_table tower book) r a ≡ Some s → a < tower.actions
     made_action r a s l e = let (w, f, g) = allowed_out r l a s e in safe_listed tower book known (pair_of tower book r) a w f
 
 -- What the made table is: a table that begins at the start, follows the tower, withholds only what may be withheld and goes on in every row.
@@ -364,9 +365,9 @@ pub record MadeSo (tower : Tower) (book : Book) : Type 0 where
   pub ascending : (r : ℕ) → r < length (made_table tower book) → Ascending (row_at (made_table tower book) r).steps
   pub first_met : FirstMet 0 1 (made_table tower book)
   pub few : length (made_table tower book) ≤ most_rows
-  pub action : (r a s : ℕ) → r < length (made_table tower book) → move (made_table tower book) r a ≡ some s → a < tower.actions
+  pub action : (r a s : ℕ) → r < length (made_table tower book) → move (made_table tower book) r a ≡ Some s → a < tower.actions
   pub runs : (w : List ℕ) → leads (move (made_table tower book)) 0 w
-      ≡ Option.map (row_number tower book) (leads (safe_step tower book) (first_pair tower book) w)
+      ≡ option_map (row_number tower book) (leads (safe_step tower book) (first_pair tower book) w)
 
 -- The made table is so.
 pub made_so : (tower : Tower) (book : Book) → Known tower book → MadeSo tower book
@@ -402,7 +403,7 @@ made_so tower book known =
         (made_ascending tower book (pair_of tower book r))
 
 -- What holds of the start state and passes on along enabled actions holds of the state of every row.
-pub made_states : (tower : Tower) (book : Book) (P : ℕ → Type 0) → P tower.start → ((x a y : ℕ) → P x → tower.target x a ≡ some y → P y)
+pub made_states : (tower : Tower) (book : Book) (P : ℕ → Type 0) → P tower.start → ((x a y : ℕ) → P x → tower.target x a ≡ Some y → P y)
     → (r : ℕ) → r < length (made_table tower book) → P (row_at (made_table tower book) r).state
 unfolding first_pair
 made_states tower book P first pass r l =

@@ -2,11 +2,13 @@
 use Prim.Native.Nat.{ℕ}
 use mathlib.Core.Path.{◌≡◌, refl, sym, ◌∙◌, ap, subst}
 use mathlib.Core.Bool.{true, false, not}
-use mathlib.Core.Option.{some, map, map-eq-some_iff}
+use Rattle.std.specs.Prelude.{Some, option_map}
+use Rattle.base.proofs.Options.{map-eq-some_iff}
 use mathlib.Core.List.{List, [], ◌∷◌, ◌++◌}
 use native.Mathlib.Omega.{arith}
 use borrow.Author.Tests.{not-false}
-use Rattle.base.specs.Answers.{Answer, refuse, give}
+use Rattle.base.specs.Answers.{Answer}
+use Rattle.std.specs.Prelude.{Err, Ok}
 use Rattle.base.proofs.Lists.{whether, never_both, not_in, only_if_in}
 use Rattle.base.proofs.Answers.{gives_not_refuses, if_on, if_refuses, if_gives}
 use Rattle.base.specs.declared.Refusal.TheVariants.{Pairs, NoTable, Alternatives}
@@ -41,7 +43,7 @@ module _ (tower : Tower) (book : Book) (able : Makeable tower book) where
       }
 
   -- a step to a safe pair is a safe step
-  safe_in : (v w : Pair) (a : ℕ) → pair_step tower book v a ≡ some w → safe tower book w ≡ true → safe_step tower book v a ≡ some w
+  safe_in : (v w : Pair) (a : ℕ) → pair_step tower book v a ≡ Some w → safe tower book w ≡ true → safe_step tower book v a ≡ Some w
   unfolding safe_step
   safe_in v w a step is_safe = only_if_in (safe tower book) step is_safe
 
@@ -60,8 +62,8 @@ module _ (tower : Tower) (book : Book) (able : Makeable tower book) where
     staying w r v at = good_stays tower book able.listed (exact few narrow) table good (last_removal tower book) w r v at
 
     -- from where both are, every run that the table allows goes over safe steps
-    inside : (u w : List ℕ) (r s : ℕ) (v : Pair) → Both w r v → leads (move table) r u ≡ some s
-        → (z : Pair) × (leads (safe_step tower book) v u ≡ some z)
+    inside : (u w : List ℕ) (r s : ℕ) (v : Pair) → Both w r v → leads (move table) r u ≡ Some s
+        → (z : Pair) × (leads (safe_step tower book) v u ≡ Some z)
     inside [] w r s v at e = (v, leads_nil (safe_step tower book) v)
     inside (a ∷ u) w r s v at e =
         let (t, to, on) = leads_out (move table) r s a u e in
@@ -70,7 +72,7 @@ module _ (tower : Tower) (book : Book) (able : Makeable tower book) where
         (z, leads_in (safe_step tower book) v y z a u (safe_in v y a step (staying (w ++ (a ∷ [])) t y next)) rest)
 
     -- What a good table allows goes over safe steps.
-    good_inside : (w : List ℕ) → Allows table w → (z : Pair) × (leads (safe_step tower book) (first_pair tower book) w ≡ some z)
+    good_inside : (w : List ℕ) → Allows table w → (z : Pair) × (leads (safe_step tower book) (first_pair tower book) w ≡ Some z)
     unfolding Allows AllowsFrom
     good_inside w (s, e) = inside w [] 0 s (first_pair tower book) first e
 
@@ -81,7 +83,7 @@ module _ (tower : Tower) (book : Book) (able : Makeable tower book) where
   -- ---- the made table
 
   -- safe steps are steps of pairs
-  pub safe_leads : (w : List ℕ) (v z : Pair) → leads (safe_step tower book) v w ≡ some z → leads (pair_step tower book) v w ≡ some z
+  pub safe_leads : (w : List ℕ) (v z : Pair) → leads (safe_step tower book) v w ≡ Some z → leads (pair_step tower book) v w ≡ Some z
   safe_leads [] v z e = leads_nil (pair_step tower book) v ∙ sym (leads_nil (safe_step tower book) v) ∙ e
   safe_leads (a ∷ w) v z e =
       let (y, step, rest) = leads_out (safe_step tower book) v z a w e in
@@ -105,14 +107,14 @@ module _ (tower : Tower) (book : Book) (able : Makeable tower book) where
     follows = record { is_table = so.is_table; start = so.a; steps = so.c }
 
     -- what the made table allows goes over safe steps, and the other way round
-    runs_out : (w : List ℕ) → Allows (made_table tower book) w → (z : Pair) × (leads (safe_step tower book) (first_pair tower book) w ≡ some z)
+    runs_out : (w : List ℕ) → Allows (made_table tower book) w → (z : Pair) × (leads (safe_step tower book) (first_pair tower book) w ≡ Some z)
     unfolding Allows AllowsFrom
     runs_out w (r, e) =
         let (z, f, g) = (map-eq-some_iff (row_number tower book) (leads (safe_step tower book) (first_pair tower book) w)).0 (sym (so.runs w) ∙ e) in (z, f)
 
-    runs_in : (w : List ℕ) (z : Pair) → leads (safe_step tower book) (first_pair tower book) w ≡ some z → Allows (made_table tower book) w
+    runs_in : (w : List ℕ) (z : Pair) → leads (safe_step tower book) (first_pair tower book) w ≡ Some z → Allows (made_table tower book) w
     unfolding Allows AllowsFrom
-    runs_in w z e = (row_number tower book z, so.runs w ∙ ap (map (row_number tower book)) e)
+    runs_in w z e = (row_number tower book z, so.runs w ∙ ap (option_map (row_number tower book)) e)
 
     pub made_good : Good tower book (made_table tower book)
     unfolding NoneBroken
@@ -190,37 +192,37 @@ module _ (tower : Tower) (book : Book) (able : Makeable tower book) where
   right_one o p (made table few narrow is) (too_wide few' wide) = absurd (narrow wide)
   right_one o p (made table few narrow is) (none_good few' narrow' lost) = absurd (lost table is.good)
   right_one o p (made table few narrow is) (made other few' narrow' is') =
-      ap give (made_unique tower book book table other is is' (λ w. (λ g. g, λ g. g)))
+      ap Ok (made_unique tower book book table other is is' (λ w. (λ g. g, λ g. g)))
 
   -- So the maker answers just that.
   pub table_only : (o : Answer Table) → RightTable tower book o → table_for tower book ≡ o
   table_only o right = right_one (table_for tower book) o table_right right
 
   -- 12 is said only if there is no good table
-  pub no_table_out : table_for tower book ≡ refuse NoTable → (table : Table) → Good tower book table → ⊥
+  pub no_table_out : table_for tower book ≡ Err NoTable → (table : Table) → Good tower book table → ⊥
   no_table_out e table good = go (table_for tower book) table_right e
     where
-      go : (o : Answer Table) → RightTable tower book o → o ≡ refuse NoTable → ⊥
+      go : (o : Answer Table) → RightTable tower book o → o ≡ Err NoTable → ⊥
       go o (too_many many) f = let z : ◌≡◌ {A = ℕ} 0 1 = cc in omega arith
       go o (too_wide few wide) f = let z : ◌≡◌ {A = ℕ} 0 1 = cc in omega arith
       go o (none_good few narrow lost) f = lost table good
       go o (made t few narrow is) f = gives_not_refuses refl f
 
   -- 11 is said only if there are too many pairs
-  pub over_out : table_for tower book ≡ refuse Pairs → MoreThan most_pairs (ReachedPair tower book)
+  pub over_out : table_for tower book ≡ Err Pairs → MoreThan most_pairs (ReachedPair tower book)
   over_out e = go (table_for tower book) table_right e
     where
-      go : (o : Answer Table) → RightTable tower book o → o ≡ refuse Pairs → MoreThan most_pairs (ReachedPair tower book)
+      go : (o : Answer Table) → RightTable tower book o → o ≡ Err Pairs → MoreThan most_pairs (ReachedPair tower book)
       go o (too_many many) f = many
       go o (too_wide few wide) f = let z : ◌≡◌ {A = ℕ} 0 1 = cc in absurd (omega arith)
       go o (none_good few narrow lost) f = let z : ◌≡◌ {A = ℕ} 0 1 = cc in absurd (omega arith)
       go o (made t few narrow is) f = gives_not_refuses refl f
 
   -- 20 is said only if there are not, and one of them gives over 16 alternatives
-  pub wide_out : table_for tower book ≡ refuse Alternatives → (MoreThan most_pairs (ReachedPair tower book) → ⊥) × GivesOver tower book
+  pub wide_out : table_for tower book ≡ Err Alternatives → (MoreThan most_pairs (ReachedPair tower book) → ⊥) × GivesOver tower book
   wide_out e = go (table_for tower book) table_right e
     where
-      go : (o : Answer Table) → RightTable tower book o → o ≡ refuse Alternatives
+      go : (o : Answer Table) → RightTable tower book o → o ≡ Err Alternatives
           → (MoreThan most_pairs (ReachedPair tower book) → ⊥) × GivesOver tower book
       go o (too_many many) f = let z : ◌≡◌ {A = ℕ} 0 1 = cc in absurd (omega arith)
       go o (too_wide few wide) f = (few, wide)
@@ -234,7 +236,7 @@ module _ (tower : Tower) (book : Book) (able : Makeable tower book) where
     pub first_safe : safe tower book (first_pair tower book) ≡ true
     pub same : made_table tower book ≡ table
 
-  pub table_made : (table : Table) → table_for tower book ≡ give table → MadeFor table
+  pub table_made : (table : Table) → table_for tower book ≡ Ok table → MadeFor table
   unfolding table_for
   table_made table e =
       let (few, d) = if_gives Pairs (over_pairs tower book) _ e in
@@ -242,5 +244,5 @@ module _ (tower : Tower) (book : Book) (able : Makeable tower book) where
       let (found, g) = if_gives NoTable (not (safe tower book (first_pair tower book))) _ f in
       record { few = few; narrow = narrow; first_safe = not-false (safe tower book (first_pair tower book)) found; same = give_one g }
     where
-      give_one : {x y : Table} → give x ≡ give y → x ≡ y
+      give_one : {x y : Table} → ◌≡◌ {A = Answer _} (Ok x) (Ok y) → x ≡ y
       give_one e = cc

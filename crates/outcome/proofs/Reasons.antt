@@ -3,7 +3,7 @@ use Prim.Native.Nat.{ℕ}
 use mathlib.Core.Path.{◌≡◌, refl, sym, ◌∙◌, ap}
 use mathlib.Core.Logic.{◌↔◌}
 use mathlib.Core.Bool.{false, ◌&&◌, not}
-use mathlib.Core.Option.{some}
+use Rattle.std.specs.Prelude.{Some}
 use mathlib.Core.List.{List, [], ◌∷◌, Memᴰ}
 use lib.Dec.{eqb}
 use borrow.Author.Tests.{not-true, not-false, eqb-true, eqb-false, eq-eqb}
@@ -15,7 +15,7 @@ use Rattle.logic.proofs.Canonical.{step_here, step_past, step_found}
 use Rattle.outcome.specs.Check.{wrong_start, withheld, wrong_step, stopped}
 
 -- the step of an allowed action is one of the row's
-pub step_in : (steps : List Step) (a p : ℕ) → step_to steps a ≡ some p → (s : Step) × Memᴰ s steps × (s.action ≡ a) × (s.target ≡ p)
+pub step_in : (steps : List Step) (a p : ℕ) → step_to steps a ≡ Some p → (s : Step) × Memᴰ s steps × (s.action ≡ a) × (s.target ≡ p)
 step_in [] a p e = unfold step_to in none-some refl e
 step_in (s ∷ steps) a p e =
     whether (eqb s.action a)
@@ -27,7 +27,7 @@ step_in (s ∷ steps) a p e =
     later (z, m, f, g) = (z, Memᴰ.tail m, f, g)
 
 -- an action of one of the row's steps is allowed
-pub step_allowed : (s : Step) (steps : List Step) → Memᴰ s steps → (p : ℕ) × (step_to steps s.action ≡ some p)
+pub step_allowed : (s : Step) (steps : List Step) → Memᴰ s steps → (p : ℕ) × (step_to steps s.action ≡ Some p)
 step_allowed s (t ∷ steps) (Memᴰ.head e) = (t.target, step_here t steps s.action (ap (λ z. z.action) (sym e)))
 step_allowed s [] x' = elim x' [ ]
 step_allowed s (t ∷ steps) (Memᴰ.tail m) =
@@ -90,7 +90,7 @@ module _ (tower : Tower) (table : Table) (r : ℕ) where
           let (s, here, f, g) = step_in steps a p m in
           let right = not-false (there_with (eqb (row_at table s.target).state) (tower.target x s.action)) (some_none (wrong_step tower table r) e here) in
           let (y, to, same) = there_with_out (eqb (row_at table s.target).state) (tower.target x s.action) right in
-          ap (tower.target x) (sym f) ∙ (to ∙ ap some (sym (ap (λ z. (row_at table z).state) (sym g) ∙ eqb-true (row_at table s.target).state y same)))
+          ap (tower.target x) (sym f) ∙ (to ∙ ap Some (sym (ap (λ z. (row_at table z).state) (sym g) ∙ eqb-true (row_at table s.target).state y same)))
 
       back : StepsRight tower table r → some_of (wrong_step tower table r) steps ≡ false
       back all =

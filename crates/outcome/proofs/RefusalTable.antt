@@ -6,7 +6,8 @@ use native.Mathlib.Omega.{arith}
 use lib.ListN.{length, take}
 use Rattle.base.specs.Text.{ascii}
 use Rattle.base.specs.Bytes.{long_enough}
-use Rattle.base.specs.Answers.{answered, refusal_said, book_said, make_said, follow_said, Answer, give, refuse}
+use Rattle.base.specs.Answers.{answered, refusal_said, book_said, make_said, follow_said, Answer}
+use Rattle.std.specs.Prelude.{Err, Ok}
 use Rattle.base.specs.declared.Refusal.{Refusal}
 use Rattle.base.specs.declared.Refusal.TheVariants.{TowerSize, Range, Action, Target, Mask, NoTable, Layout}
 use Rattle.base.specs.declared.Reason.TheVariants.{Stopped}
@@ -25,11 +26,11 @@ use Rattle.outcome.proofs.Answering.{made_refused}
 use Rattle.outcome.proofs.TinyTowers.{judges}
 
 -- a refusal of a tower is said, and a file that is made by its length
-tower_not : (tower : List ℕ) (r : Refusal) → made_file tower [] ≡ refuse r → TowerSays tower (refusal_said r)
+tower_not : (tower : List ℕ) (r : Refusal) → made_file tower [] ≡ Err r → TowerSays tower (refusal_said r)
 unfolding TowerSays make_said
 tower_not tower r e output areas room enough = ap make_said (made_refused tower [] output areas enough r e)
 
-tower_fit : (tower file : List ℕ) → length file ≤ 50 → made_file tower [] ≡ give file → TowerSays tower (answered (length file ∷ []))
+tower_fit : (tower file : List ℕ) → length file ≤ 50 → made_file tower [] ≡ Ok file → TowerSays tower (answered (length file ∷ []))
 unfolding TowerSays make_said
 tower_fit tower file few e output areas room enough = ap make_said (file_answered tower [] output areas file enough e (omega arith))
 
@@ -81,9 +82,9 @@ refusal_table =
       fit_until = book_as (ascii "start U 1 (A 1 p0, T)\n") (book_under 3 (ascii "start U 1 (A 1 p0, T)\n")) refl;
       no_10_within = book_as (ascii "start E 1 (p0 | A 1 p1)\n") (book_under 3 (ascii "start E 1 (p0 | A 1 p1)\n")) refl;
       fit_timed = book_as (ascii "start E 1 p0 | E 1 p1\n") (book_under 3 (ascii "start E 1 p0 | E 1 p1\n")) refl;
-      no_13 = judges small_tower [] (with_target 5) (refuse Layout) refl;
+      no_13 = judges small_tower [] (with_target 5) (Err Layout) refl;
       no_13_followed = refl;
-      no_14 = judges small_tower [] no_step (give (not_good (Stopped 0))) refl;
+      no_14 = judges small_tower [] no_step (Ok (not_good (Stopped 0))) refl;
       no_17 = refl;
       no_17_action = refl;
       fit_row = refl;

@@ -2,7 +2,7 @@
 use Prim.Native.Nat.{ℕ, zero, suc, ◌-◌}
 use mathlib.Core.Path.{◌≡◌, refl, sym, ◌∙◌, ap, subst}
 use mathlib.Core.Bool.{Bool, true, false, ◌||◌, not}
-use mathlib.Core.Option.{Option, none, some}
+use Rattle.std.specs.Prelude.{Option, None, Some}
 use mathlib.Core.List.{List, [], ◌∷◌}
 use native.Mathlib.Omega.{arith}
 use lib.ListN.{length}
@@ -11,15 +11,14 @@ use Rattle.base.specs.Choice.{pick}
 use Rattle.base.specs.Lists.{some_of, below}
 use Rattle.base.specs.Bytes.{long_enough, cleared}
 use Rattle.base.specs.Recursion.{to_depth, run}
-use Rattle.base.specs.Answers.{Said, answered, refused, row_of, letter_of, refusal_number, refusal_place, refusal_said, reason_said, book_said, make_said, verdict_said, follow_said, log_said, Answer, refuse, give, ◌if◌else◌, ◌then◌}
+use Rattle.base.specs.Answers.{Said, answered, refused, row_of, letter_of, refusal_number, refusal_place, refusal_said, reason_said, book_said, make_said, verdict_said, follow_said, log_said, Answer, ◌if◌else◌, ◌then◌}
+use Rattle.std.specs.Prelude.{Err, Ok}
 use Rattle.base.specs.declared.Reason.{Reason}
 use Rattle.base.specs.declared.Reason.TheVariants.{Start, Withheld, Stopped, Broken}
 use Rattle.base.specs.declared.Reason.TheVariants as Why
 use Rattle.base.specs.declared.Refusal.{Refusal}
 use Rattle.base.specs.declared.Refusal.TheVariants.{TowerSize, Range, Action, Target, Mask, Grammar, Number, Mark, Limit, Timed, Pairs, NoTable, Layout, Area, Output, Outside, NotAllowed, Log, Alternatives}
-use Rattle.base.specs.declared.BookAnswer.TheVariants as Book
-use Rattle.base.specs.declared.MakeAnswer.TheVariants as Make
-use Rattle.base.specs.declared.Verdict.TheVariants as Check
+use Rattle.base.specs.declared.Rejection.TheVariants as Rejected
 use Rattle.base.proofs.Lists.{whether, never_both, or_right}
 use Rattle.base.proofs.Answers.{gives_not_refuses}
 use Rattle.logic.specs.Tower.{Tower, most_marks, tower_of, no_header, bad_counts, bad_size, bad_actions, bad_targets, bad_masks}
@@ -38,20 +37,20 @@ use Rattle.outcome.specs.Make.{table_for, made_file, fitting, written, make_outc
 use Rattle.outcome.specs.Check.{Finding, good_table, not_good, ◌found_if◌else◌, judge_row, judge_rows, rows_judged, judge, checked_file, verdict, check_outcome}
 use Rattle.outcome.specs.Follow.{stepped, row_after, follow_answer, follow_outcome}
 use Rattle.outcome.specs.Log.{LogFinding, wrong_table, comes_to, log_after, logged_file, log_answer, log_outcome}
-use Rattle.outcome.specs.declared.Course.TheVariants.{Fits, Fails}
+use Rattle.outcome.specs.Log.{misfits}
 use Rattle.outcome.specs.EveryCall.{book_numbers, make_numbers, check_numbers, follow_numbers, log_numbers, RefusesWith, AreasRight}
 
 -- ---- the refusals of a chain
 
 -- Every refusal that the answer may be has the property.
 pub record Only {A : Type 0} (P : Refusal → Type 0) (o : Answer A) : Type 0 where
-  pub only : (r : Refusal) → o ≡ refuse r → P r
+  pub only : (r : Refusal) → o ≡ Err r → P r
 
 module _ (P : Refusal → Type 0) where
-  refuse_only : {A : Type 0} (r : Refusal) → P r → Only {A = A} P (refuse r)
+  refuse_only : {A : Type 0} (r : Refusal) → P r → Only {A = A} P (Err r)
   refuse_only r p = record { only = λ s e. let f : r ≡ s = cc in subst P f p }
 
-  give_only : {A : Type 0} (x : A) → Only P (give x)
+  give_only : {A : Type 0} (x : A) → Only P (Ok x)
   give_only x = record { only = λ s e. gives_not_refuses refl e }
 
   if_only : {A : Type 0} (r : Refusal) (b : Bool) (o : Answer A) → P r → Only P o → Only P (r if b else o)
@@ -61,8 +60,8 @@ module _ (P : Refusal → Type 0) where
 
   then_only : {A B : Type 0} (o : Answer A) (f : A → Answer B) → Only P o → ((x : A) → Only P (f x)) → Only P (o then f)
   unfolding ◌then◌
-  then_only (refuse r) f known rest = refuse_only r (known.only r refl)
-  then_only (give x) f known rest = rest x
+  then_only (Err r) f known rest = refuse_only r (known.only r refl)
+  then_only (Ok x) f known rest = rest x
 
   pick_only : {A : Type 0} (b : Bool) (o p : Answer A) → Only P o → Only P p → Only P (pick b (λ _. o) (λ _. p))
   pick_only true o p k l = k
@@ -97,7 +96,7 @@ module _ (P : Refusal → Type 0) where
     left here = length text - here.place
 
     stuck : ReadSoFar → Answer Book
-    stuck here = refuse (Grammar (length here.rules))
+    stuck here = Err (Grammar (length here.rules))
 
     rest_only : (n : ℕ) (here : ReadSoFar) → Only P (to_depth left stuck (lines_step usual_bound marks text) n here)
     unfolding to_depth stuck lines_step
@@ -174,12 +173,12 @@ unfolding RefusesWith
 answered_with numbers values number place inside e = let z : ◌≡◌ {A = ℕ} 0 1 = cc in absurd (omega arith)
 
 -- where a refusal is said as itself, the numbers are those of the refusals, and of what is said of a value
-said_only : {A : Type 0} (say : Answer A → Said) (numbers : List ℕ) → ((r : Refusal) → say (refuse r) ≡ refusal_said r)
-    → ((x : A) → RefusesWith numbers (say (give x))) → (o : Answer A) → Only (One numbers) o → RefusesWith numbers (say o)
+said_only : {A : Type 0} (say : Answer A → Said) (numbers : List ℕ) → ((r : Refusal) → say (Err r) ≡ refusal_said r)
+    → ((x : A) → RefusesWith numbers (say (Ok x))) → (o : Answer A) → Only (One numbers) o → RefusesWith numbers (say o)
 unfolding One refusal_said
-said_only say numbers refusals values (refuse r) only =
+said_only say numbers refusals values (Err r) only =
     subst (RefusesWith numbers) (sym (refusals r)) (refused_with numbers (refusal_number r) (refusal_place r) [] (only.only r refl))
-said_only say numbers refusals values (give x) only = values x
+said_only say numbers refusals values (Ok x) only = values x
 
 -- ---- a call: 15 if an area is too short, and else what the files say
 
@@ -228,7 +227,7 @@ module _ (marks : ℕ) (text : List ℕ) (areas : List (List ℕ)) where
   book_enough e = (rw e refl, rw e refl)
 
   pub book_short : long_enough book_areas areas ≡ false
-      → ((read_outcome marks text areas).answer ≡ Book.Refused Area) × ((read_outcome marks text areas).areas ≡ areas)
+      → ((read_outcome marks text areas).answer ≡ Err Area) × ((read_outcome marks text areas).areas ≡ areas)
   unfolding read_outcome
   book_short e = (rw e refl, rw e refl)
 
@@ -236,13 +235,13 @@ module _ (marks : ℕ) (text : List ℕ) (areas : List (List ℕ)) where
   unfolding book_numbers book_said refusal_said
   book_refuses =
       call_refuses book_said (2 ∷ 6 ∷ 7 ∷ 8 ∷ 9 ∷ 10 ∷ []) book_areas areas (read_outcome marks text areas).areas (book_answer (book_under marks text))
-      (read_outcome marks text areas).answer (Book.Refused Area) refl (book_inner marks text) book_enough book_short
+      (read_outcome marks text areas).answer (Err Area) refl (book_inner marks text) book_enough book_short
 
-  pub book_areas_right : AreasRight book_areas areas ((read_outcome marks text areas).answer ≡ Book.Refused Area) (read_outcome marks text areas).areas
+  pub book_areas_right : AreasRight book_areas areas ((read_outcome marks text areas).answer ≡ Err Area) (read_outcome marks text areas).areas
   unfolding book_said refusal_said some_of
   book_areas_right =
       call_areas book_said (2 ∷ 6 ∷ 7 ∷ 8 ∷ 9 ∷ 10 ∷ []) book_areas areas (read_outcome marks text areas).areas (book_answer (book_under marks text))
-      (read_outcome marks text areas).answer (Book.Refused Area) refl (book_inner marks text) book_enough book_short refl
+      (read_outcome marks text areas).answer (Err Area) refl (book_inner marks text) book_enough book_short refl
 
 -- ---- the maker
 
@@ -277,18 +276,18 @@ module _ (tower_file text output : List ℕ) where
   -- neither the answer nor the output that a call ends with depends on the areas, and the areas end as they are handed on
   written_answer : (o : Answer (List ℕ)) (areas lent : List (List ℕ)) → (written o output areas).answer ≡ (written o output lent).answer
   unfolding written
-  written_answer (refuse r) areas lent = refl
-  written_answer (give file) areas lent = refl
+  written_answer (Err r) areas lent = refl
+  written_answer (Ok file) areas lent = refl
 
   written_output : (o : Answer (List ℕ)) (areas lent : List (List ℕ)) → (written o output areas).output ≡ (written o output lent).output
   unfolding written
-  written_output (refuse r) areas lent = refl
-  written_output (give file) areas lent = refl
+  written_output (Err r) areas lent = refl
+  written_output (Ok file) areas lent = refl
 
   written_areas : (o : Answer (List ℕ)) (areas : List (List ℕ)) → (written o output areas).areas ≡ areas
   unfolding written
-  written_areas (refuse r) areas = refl
-  written_areas (give file) areas = refl
+  written_areas (Err r) areas = refl
+  written_areas (Ok file) areas = refl
 
   module _ (areas : List (List ℕ)) where
     pub make_enough : long_enough make_areas areas ≡ true
@@ -303,7 +302,7 @@ module _ (tower_file text output : List ℕ) where
     make_output e = rw e (written_output make_chain (cleared areas) [])
 
     pub make_short : long_enough make_areas areas ≡ false
-        → ((make_outcome tower_file text output areas).answer ≡ Make.Refused Area) × ((make_outcome tower_file text output areas).areas ≡ areas)
+        → ((make_outcome tower_file text output areas).answer ≡ Err Area) × ((make_outcome tower_file text output areas).areas ≡ areas)
     unfolding make_outcome written
     make_short e = (rw e refl, rw e refl)
 
@@ -315,22 +314,22 @@ module _ (tower_file text output : List ℕ) where
     unfolding make_numbers make_said refusal_said
     make_refuses =
         call_refuses make_said making make_areas areas (make_outcome tower_file text output areas).areas (written make_chain output []).answer
-        (make_outcome tower_file text output areas).answer (Make.Refused Area) refl make_inner make_enough make_short
+        (make_outcome tower_file text output areas).answer (Err Area) refl make_inner make_enough make_short
 
-    pub make_areas_right : AreasRight make_areas areas ((make_outcome tower_file text output areas).answer ≡ Make.Refused Area)
+    pub make_areas_right : AreasRight make_areas areas ((make_outcome tower_file text output areas).answer ≡ Err Area)
         (make_outcome tower_file text output areas).areas
     unfolding make_said refusal_said some_of
     make_areas_right =
         call_areas make_said making make_areas areas (make_outcome tower_file text output areas).areas (written make_chain output []).answer
-        (make_outcome tower_file text output areas).answer (Make.Refused Area) refl make_inner make_enough make_short refl
+        (make_outcome tower_file text output areas).answer (Err Area) refl make_inner make_enough make_short refl
 
-    refused_written : (o : Answer (List ℕ)) (r : Refusal) → (written o output []).answer ≡ Make.Refused r → (written o output []).output ≡ output
+    refused_written : (o : Answer (List ℕ)) (r : Refusal) → (written o output []).answer ≡ Err r → (written o output []).output ≡ output
     unfolding written
-    refused_written (refuse q) r e = refl
-    refused_written (give file) r e = let z : ◌≡◌ {A = ℕ} 0 1 = cc in absurd (omega arith)
+    refused_written (Err q) r e = refl
+    refused_written (Ok file) r e = let z : ◌≡◌ {A = ℕ} 0 1 = cc in absurd (omega arith)
 
     -- A refusal changes no byte of the output.
-    pub make_keeps_output : (r : Refusal) → (make_outcome tower_file text output areas).answer ≡ Make.Refused r
+    pub make_keeps_output : (r : Refusal) → (make_outcome tower_file text output areas).answer ≡ Err r
         → (make_outcome tower_file text output areas).output ≡ output
     make_keeps_output r e =
         whether (long_enough make_areas areas)
@@ -347,8 +346,8 @@ make_same_answer tower_file text output other areas lent enough lent_enough same
     ∙ sym (make_enough tower_file text other lent lent_enough).0
   where
     answers : (o : Answer (List ℕ)) → (written o output []).answer ≡ (written o other []).answer
-    answers (refuse r) = unfold written in refl
-    answers (give file) = unfold written in refl
+    answers (Err r) = unfold written in refl
+    answers (Ok file) = unfold written in refl
 
 -- ---- the checker
 
@@ -356,7 +355,7 @@ abbrev checking : List ℕ
 checking = 1 ∷ 2 ∷ 3 ∷ 4 ∷ 5 ∷ 6 ∷ 7 ∷ 8 ∷ 9 ∷ 10 ∷ 13 ∷ 14 ∷ 11 ∷ 20 ∷ []
 
 -- 14 is one of them
-finding_with : (x : Finding) → RefusesWith checking (verdict_said (verdict (give x)))
+finding_with : (x : Finding) → RefusesWith checking (verdict_said (verdict (Ok x)))
 unfolding verdict verdict_said reason_said some_of
 finding_with good_table = answered_with checking []
 finding_with (not_good q) = refused_with checking 14 (row_of q) (letter_of q ∷ []) refl
@@ -386,7 +385,7 @@ module _ (tower_file text file : List ℕ) where
     check_enough e = (rw e refl, rw e refl)
 
     pub check_short : long_enough check_areas areas ≡ false
-        → ((check_outcome tower_file text file areas).answer ≡ Check.Refused Area) × ((check_outcome tower_file text file areas).areas ≡ areas)
+        → ((check_outcome tower_file text file areas).answer ≡ Err (Rejected.Refused Area)) × ((check_outcome tower_file text file areas).areas ≡ areas)
     unfolding check_outcome verdict
     check_short e = (rw e refl, rw e refl)
 
@@ -394,23 +393,23 @@ module _ (tower_file text file : List ℕ) where
     unfolding check_numbers verdict_said refusal_said
     check_refuses =
         call_refuses verdict_said checking check_areas areas (check_outcome tower_file text file areas).areas
-        (verdict (checked_file tower_file text file)) (check_outcome tower_file text file areas).answer (Check.Refused Area) refl check_inner
+        (verdict (checked_file tower_file text file)) (check_outcome tower_file text file areas).answer (Err (Rejected.Refused Area)) refl check_inner
         check_enough check_short
 
-    pub check_areas_right : AreasRight check_areas areas ((check_outcome tower_file text file areas).answer ≡ Check.Refused Area)
+    pub check_areas_right : AreasRight check_areas areas ((check_outcome tower_file text file areas).answer ≡ Err (Rejected.Refused Area))
         (check_outcome tower_file text file areas).areas
     unfolding verdict_said refusal_said some_of
     check_areas_right =
         call_areas verdict_said checking check_areas areas (check_outcome tower_file text file areas).areas
-        (verdict (checked_file tower_file text file)) (check_outcome tower_file text file areas).answer (Check.Refused Area) refl check_inner
+        (verdict (checked_file tower_file text file)) (check_outcome tower_file text file areas).answer (Err (Rejected.Refused Area)) refl check_inner
         check_enough check_short refl
 
 -- ---- the follower
 
 stepped_only : (P : Refusal → Type 0) → P NotAllowed → (o : Option ℕ) → Only P (stepped o)
 unfolding stepped
-stepped_only P not_allowed none = refuse_only P NotAllowed not_allowed
-stepped_only P not_allowed (some row) = give_only P row
+stepped_only P not_allowed None = refuse_only P NotAllowed not_allowed
+stepped_only P not_allowed (Some row) = give_only P row
 
 pub follow_refuses : (file : List ℕ) (row action : ℕ) → RefusesWith follow_numbers (follow_said (follow_outcome file row action))
 unfolding One some_of follow_numbers follow_said follow_answer follow_outcome row_after
@@ -426,11 +425,11 @@ abbrev logging : List ℕ
 logging = 1 ∷ 2 ∷ 3 ∷ 4 ∷ 5 ∷ 13 ∷ 14 ∷ 19 ∷ []
 
 -- 14 is one of them
-log_finding_with : (x : LogFinding) → RefusesWith logging (log_said (log_answer (give x)))
+log_finding_with : (x : LogFinding) → RefusesWith logging (log_said (log_answer (Ok x)))
 unfolding log_answer log_said reason_said some_of
 log_finding_with (wrong_table q) = refused_with logging 14 (row_of q) (letter_of q ∷ []) refl
-log_finding_with (comes_to (Fits here)) = answered_with logging _
-log_finding_with (comes_to (Fails n here s)) = answered_with logging _
+log_finding_with (comes_to (Ok here)) = answered_with logging _
+log_finding_with (comes_to (Err first)) = answered_with logging _
 
 log_after_only : (tower : Tower) (table : Table) (log : List ℕ) (x : Finding) → Only (One logging) (log_after tower table log x)
 unfolding One some_of log_after
@@ -446,6 +445,6 @@ log_refuses tower_file file log =
     (λ tower.
     then_only (One logging) (read_table tower file) _ (table_only (One logging) refl tower file)
     (λ table.
-    then_only (One logging) (rows_judged tower table (give good_table)) _
-    (rows_judged_only (One logging) tower table (give good_table) (give_only (One logging) good_table))
+    then_only (One logging) (rows_judged tower table (Ok good_table)) _
+    (rows_judged_only (One logging) tower table (Ok good_table) (give_only (One logging) good_table))
     (λ finding. log_after_only tower table log finding))))

@@ -3,7 +3,7 @@ use Prim.Native.Nat.{ℕ, ◌≤◌, ◌<◌}
 use mathlib.Core.Path.{◌≡◌, refl, sym, ap, subst, fun_ext, ◌∙◌}
 use mathlib.Core.Logic.{◌⊎◌, inl, inr}
 use mathlib.Core.Bool.{Bool, true}
-use mathlib.Core.Option.{none, some}
+use Rattle.std.specs.Prelude.{None, Some}
 use mathlib.Core.List.{List, [], ◌∷◌, ◌++◌, Memᴰ}
 use lib.ListN.{length, get_or}
 use native.Mathlib.Omega.{arith}
@@ -32,7 +32,7 @@ pair_of tower book r = get_or (row_pairs tower book) r (first_pair tower book)
 
 -- Allowed actions lead to the pair from the start.
 abbrev pub Led : Tower → Book → Pair → Type 0
-Led tower book v = (w : List ℕ) × (leads (safe_step tower book) (first_pair tower book) w ≡ some v)
+Led tower book v = (w : List ℕ) × (leads (safe_step tower book) (first_pair tower book) w ≡ Some v)
 
 -- The pair is met and safe.
 pub record Stands (tower : Tower) (book : Book) (v : Pair) : Type 0 where
@@ -41,13 +41,13 @@ pub record Stands (tower : Tower) (book : Book) (v : Pair) : Type 0 where
 
 module _ (tower : Tower) (book : Book) where
   -- What an allowed action leads to is a follower.
-  follower_in : (v : Pair) (a : ℕ) (w : Pair) → a < tower.actions → safe_step tower book v a ≡ some w
+  follower_in : (v : Pair) (a : ℕ) (w : Pair) → a < tower.actions → safe_step tower book v a ≡ Some w
       → Memᴰ w (safe_followers tower book v)
   unfolding safe_followers
   follower_in v a w l e = present_map_in (safe_step tower book v) (below tower.actions) (below_mem tower.actions a l) e
 
   -- A follower is what an allowed action leads to.
-  follower_out : (v w : Pair) → Memᴰ w (safe_followers tower book v) → (a : ℕ) × (safe_step tower book v a ≡ some w)
+  follower_out : (v w : Pair) → Memᴰ w (safe_followers tower book v) → (a : ℕ) × (safe_step tower book v a ≡ Some w)
   unfolding safe_followers
   follower_out v w m = let (a, n, e) = present_map_out (safe_step tower book v) (below tower.actions) m in (a, e)
 
@@ -56,15 +56,15 @@ module _ (tower : Tower) (book : Book) where
   led_first = ([], leads_nil (safe_step tower book) (first_pair tower book))
 
   -- What an allowed action leads to from a pair that is led to is led to.
-  pub led_step : (v : Pair) (a : ℕ) (w : Pair) → Led tower book v → safe_step tower book v a ≡ some w → Led tower book w
+  pub led_step : (v : Pair) (a : ℕ) (w : Pair) → Led tower book v → safe_step tower book v a ≡ Some w → Led tower book w
   led_step v a w (u, e) f = (u ++ (a ∷ []), snoc_in (safe_step tower book) (first_pair tower book) v w u a e f)
 
   -- What holds of the first pair and passes on along allowed actions holds of every pair that is led to.
   pub led_all : (P : Pair → Type 0) → P (first_pair tower book)
-      → ((v : Pair) (a : ℕ) (w : Pair) → P v → safe_step tower book v a ≡ some w → P w) → (v : Pair) → Led tower book v → P v
+      → ((v : Pair) (a : ℕ) (w : Pair) → P v → safe_step tower book v a ≡ Some w → P w) → (v : Pair) → Led tower book v → P v
   led_all P first pass v (u, e) = on u (first_pair tower book) v first e
     where
-      on : (u : List ℕ) (v w : Pair) → P v → leads (safe_step tower book) v u ≡ some w → P w
+      on : (u : List ℕ) (v w : Pair) → P v → leads (safe_step tower book) v u ≡ Some w → P w
       on [] v w p e = subst P (some_one (leads_nil (safe_step tower book) v) e) p
       on (a ∷ u) v w p e = let (y, f, g) = leads_out (safe_step tower book) v w a u e in on u y w (pass v a y p f) g
 
@@ -149,9 +149,9 @@ module _ (tower : Tower) (book : Book) where
               (one_row_step tower book known y z (led_stands y (reached_led r)).met (led_stands z (reached_led q)).met e a));
         }
       where
-        respects : (y z f : Pair) (a : ℕ) → safe_step tower book y a ≡ some f
-            → ((safe_step tower book y a ≡ none) × (safe_step tower book z a ≡ none))
-            ⊎ ((v : Pair) × ((w : Pair) × (safe_step tower book y a ≡ some v) × (safe_step tower book z a ≡ some w)
+        respects : (y z f : Pair) (a : ℕ) → safe_step tower book y a ≡ Some f
+            → ((safe_step tower book y a ≡ None) × (safe_step tower book z a ≡ None))
+            ⊎ ((v : Pair) × ((w : Pair) × (safe_step tower book y a ≡ Some v) × (safe_step tower book z a ≡ Some w)
             × (one_row tower book v w ≡ true)))
             → (g : Pair) × Memᴰ g (safe_followers tower book z) × (one_row tower book f g ≡ true)
         respects y z f a e (inl (p, q)) = none-some p e

@@ -7,7 +7,8 @@ use native.Mathlib.Omega.{arith}
 use native.Mathlib.Nat.{zero-add, add-zero, suc-add}
 use lib.ListN.{length}
 use Rattle.base.specs.Lists.{some_of, below, count_from}
-use Rattle.base.specs.Answers.{Answer, give}
+use Rattle.base.specs.Answers.{Answer}
+use Rattle.std.specs.Prelude.{Ok}
 use Rattle.base.proofs.Lists.{whether, never_both, true_by}
 use Rattle.base.specs.declared.Reason.{Reason}
 use Rattle.base.specs.declared.Reason.TheVariants.{Start, Withheld, Stopped}
@@ -24,7 +25,7 @@ pub found_on : (q : Reason) {b : Bool} (o : Answer Finding) → b ≡ false → 
 unfolding ◌found_if◌else◌
 found_on q o e = rw e
 
-pub found_here : (q : Reason) {b : Bool} (o : Answer Finding) → b ≡ true → (q found_if b else o) ≡ give (not_good q)
+pub found_here : (q : Reason) {b : Bool} (o : Answer Finding) → b ≡ true → (q found_if b else o) ≡ Ok (not_good q)
 unfolding ◌found_if◌else◌
 found_here q o e = rw e
 
@@ -98,7 +99,7 @@ module _ (tower : Tower) (table : Table) (listed : Listed tower) (is_table : IsT
   said_at r o after lt right wrong = said_from r (suc (length table - suc r)) after (omega arith) right ∙ wrong _
 
   -- The first reason is said, whatever comes after the rows.
-  pub rows_say : (q : Reason) → FirstOfRows tower table q → (after : Answer Finding) → rows_judged tower table after ≡ give (not_good q)
+  pub rows_say : (q : Reason) → FirstOfRows tower table q → (after : Answer Finding) → rows_judged tower table after ≡ Ok (not_good q)
   unfolding judge_row
   rows_say _ (reason_a wrong) after = found_here Start _ (true_by (wrong_start tower table) (λ e. wrong ((start_right tower table).0 e)))
   rows_say _ (reason_b r lt right wrong) after =

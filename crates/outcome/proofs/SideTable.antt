@@ -2,7 +2,8 @@
 use mathlib.Core.Path.{refl}
 use native.Mathlib.Omega.{arith}
 use Rattle.base.specs.Text.{ascii}
-use Rattle.base.specs.Answers.{verdict_said, reason_said, refusal_said, refuse, give}
+use Rattle.base.specs.Answers.{verdict_said, reason_said, refusal_said}
+use Rattle.std.specs.Prelude.{Err, Ok}
 use Rattle.base.specs.declared.Reason.TheVariants.{Broken}
 use Rattle.base.specs.declared.Refusal.TheVariants.{NoTable, Alternatives}
 use Rattle.outcome.specs.Check.{good_table, not_good, verdict}
@@ -20,8 +21,8 @@ side_table =
       second_side = says_made (one_state 2) "start A 9 p0 | A 9 p1\n" one_step (omega arith) refl;
       both_sides = says_made (one_state 3) "always A 9 p0 | A 9 p1\n" one_step (omega arith) refl;
       no_side = says_refused (one_state 4) "start A 9 p0 | A 9 p1\n" NoTable refl;
-      side_judged = judges (one_state 2) (ascii "start A 9 p0 | A 9 p1\n") one_step (give good_table) refl;
-      no_side_judged = judges (one_state 4) (ascii "start A 9 p0 | A 9 p1\n") one_step (give (not_good Broken)) refl;
+      side_judged = judges (one_state 2) (ascii "start A 9 p0 | A 9 p1\n") one_step (Ok good_table) refl;
+      no_side_judged = judges (one_state 4) (ascii "start A 9 p0 | A 9 p1\n") one_step (Ok (not_good Broken)) refl;
       later_second = says_made (enters_p0 6) "start E 4 p0 | E 6 p0\n" two (omega arith) refl;
       later_first = says_made (enters_p0 6) "start E 6 p0 | E 4 p0\n" two (omega arith) refl;
       too_late = says_refused (enters_p0 7) "start E 4 p0 | E 6 p0\n" NoTable refl;
@@ -37,5 +38,5 @@ side_table =
       until_stays = makes_refused (one_state 0) (around "start U 5 (" 17 ", p0)\n") Alternatives refl;
       broken_side = makes_refused (one_state 0) (around "start F & (" 17 ")\n") Alternatives refl;
       broken_line = makes_refused (one_state 0) (around "start F\nstart " 17 "\n") Alternatives refl;
-      broken_judged = judges (one_state 0) (around "start F\nstart " 17 "\n") one_step (refuse Alternatives) refl;
+      broken_judged = judges (one_state 0) (around "start F\nstart " 17 "\n") one_step (Err Alternatives) refl;
     }

@@ -6,7 +6,8 @@ use mathlib.Core.List.{List, [], ◌∷◌}
 use native.Mathlib.Omega.{arith}
 use lib.ListN.{length}
 use Rattle.base.specs.Text.{ascii}
-use Rattle.base.specs.Answers.{answered, make_said, verdict_said, refusal_said, Answer, give, refuse}
+use Rattle.base.specs.Answers.{answered, make_said, verdict_said, refusal_said, Answer}
+use Rattle.std.specs.Prelude.{Err, Ok}
 use Rattle.base.specs.declared.Refusal.{Refusal}
 use Rattle.base.specs.declared.Refusal.TheVariants.{Mask, NoTable}
 use Rattle.outcome.specs.Make.{made_file}
@@ -18,20 +19,20 @@ use Rattle.outcome.proofs.FitCalls.{file_answered}
 use Rattle.outcome.proofs.Answering.{made_refused}
 
 -- a refusal of the files is said
-pub makes_refused : (tower text : List ℕ) (r : Refusal) → made_file tower text ≡ refuse r → Makes tower text (refusal_said r)
+pub makes_refused : (tower text : List ℕ) (r : Refusal) → made_file tower text ≡ Err r → Makes tower text (refusal_said r)
 unfolding Makes make_said
 makes_refused tower text r e output areas room enough = ap make_said (made_refused tower text output areas enough r e)
 
-pub says_refused : (tower : List ℕ) (book : String) (r : Refusal) → made_file tower (ascii book) ≡ refuse r → Says tower book (refusal_said r)
+pub says_refused : (tower : List ℕ) (book : String) (r : Refusal) → made_file tower (ascii book) ≡ Err r → Says tower book (refusal_said r)
 says_refused tower book r e = makes_refused tower (ascii book) r e
 
 -- a file that is made is said by its length
-pub makes_made : (tower text file : List ℕ) → length file ≤ 26 → made_file tower text ≡ give file → Makes tower text (answered (length file ∷ []))
+pub makes_made : (tower text file : List ℕ) → length file ≤ 26 → made_file tower text ≡ Ok file → Makes tower text (answered (length file ∷ []))
 unfolding Makes make_said
 makes_made tower text file few e output areas room enough =
     ap make_said (file_answered tower text output areas file enough e (omega arith))
 
-pub says_made : (tower : List ℕ) (book : String) (file : List ℕ) → length file ≤ 26 → made_file tower (ascii book) ≡ give file
+pub says_made : (tower : List ℕ) (book : String) (file : List ℕ) → length file ≤ 26 → made_file tower (ascii book) ≡ Ok file
     → Says tower book (answered (length file ∷ []))
 says_made tower book file few e = makes_made tower (ascii book) file few e
 

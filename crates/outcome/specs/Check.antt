@@ -3,13 +3,14 @@ use Rattle.std.specs.Prelude.{ℕ, Bool, ◌&&◌, not, List, [], ◌∷◌, len
 use Rattle.base.specs.Choice.{pick}
 use Rattle.base.specs.Lists.{every, some_of, below, is_there, there_with}
 use Rattle.base.specs.Bytes.{long_enough, cleared}
-use Rattle.base.specs.Answers.{Answer, refuse, give, ◌if◌else◌, ◌then◌}
+use Rattle.base.specs.Answers.{Answer, ◌if◌else◌, ◌then◌}
+use Rattle.std.specs.Prelude.{Err, Ok}
 use Rattle.base.specs.declared.Reason.{Reason}
 use Rattle.base.specs.declared.Reason.TheVariants.{Start, Withheld, Stopped, Broken}
 use Rattle.base.specs.declared.Reason.TheVariants as Why
 use Rattle.base.specs.declared.Refusal.TheVariants.{Pairs, Area, Alternatives}
-use Rattle.base.specs.declared.Verdict.{Verdict}
-use Rattle.base.specs.declared.Verdict.TheVariants as Check
+use Rattle.base.specs.Answers.{Verdict}
+use Rattle.base.specs.declared.Rejection.TheVariants as Rejected
 use Rattle.logic.specs.Tower.{Tower, controllable, goes_on}
 use Rattle.logic.specs.Book.{Book}
 use Rattle.logic.specs.Tables.{Step, Table, row_at, move, rows_tower}
@@ -27,7 +28,7 @@ pub data Finding : Type 0 where
 infixr 10 ◌found_if◌else◌
 -- 'q found_if b else o': reason q is found if b holds, and else o
 unfoldable pub ◌found_if◌else◌ : Reason → Bool → Answer Finding → Answer Finding
-◌found_if◌else◌ q b o = pick b (λ _. give (not_good q)) (λ _. o)
+◌found_if◌else◌ q b o = pick b (λ _. Ok (not_good q)) (λ _. o)
 
 -- ---- reasons a to d
 
@@ -93,7 +94,7 @@ judge tower book table =
     (Pairs if over_items tower book table else
     Alternatives if over_alternatives (rows_tower tower table) book else
     Broken found_if some_broken (rows_tower tower table) book else
-    give good_table)
+    Ok good_table)
 
 -- files of a tower, a book and a table
 unfoldable pub checked_file : List ℕ → List ℕ → List ℕ → Answer Finding
@@ -105,9 +106,9 @@ checked_file tower text table =
 
 -- the checker's answer: a refusal, good, or 14 with its reason
 unfoldable pub verdict : Answer Finding → Verdict
-verdict (refuse r) = Check.Refused r
-verdict (give good_table) = Check.Good
-verdict (give (not_good reason)) = Check.NotGood reason
+verdict (Err r) = Err (Rejected.Refused r)
+verdict (Ok good_table) = Ok tt
+verdict (Ok (not_good reason)) = Err (Rejected.NotGood reason)
 
 -- How a call of the checker ends: the answer, and what the lent areas hold then.
 pub record CheckOutcome : Type 0 where
@@ -118,4 +119,4 @@ unfoldable pub check_outcome : List ℕ → List ℕ → List ℕ → List (List
 check_outcome tower text table areas =
     pick (long_enough check_areas areas)
     (λ _. record { answer = verdict (checked_file tower text table); areas = cleared areas })
-    (λ _. record { answer = verdict (refuse Area); areas = areas })
+    (λ _. record { answer = verdict (Err Area); areas = areas })

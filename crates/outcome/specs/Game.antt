@@ -1,6 +1,6 @@
 -- The safety game on the pairs: remove every pair from which a break or a stop can be forced. What is left is what a good table may reach.
 use Rattle.std.specs.Prelude.{ℕ, zero, suc, Bool, true, ◌&&◌, ◌||◌, not, length}
-use Rattle.std.proofs.Math.Option.{Option}
+use Rattle.std.specs.Prelude.{Option}
 use Rattle.base.specs.Lists.{every, some_of, below, is_there, there_with, only_if}
 use Rattle.logic.specs.Tower.{Tower, controllable, goes_on}
 use Rattle.logic.specs.Book.{Book}

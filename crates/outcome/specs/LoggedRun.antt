@@ -1,6 +1,6 @@
 -- 02, item 2, in the words of the logic: the lines of a log as a run of a table, and the first line that is none of it.
 use Rattle.std.specs.Prelude.{ℕ, suc, ◌<◌, ◌≡◌, List, map, length, get_or, take}
-use Rattle.std.proofs.Math.Option.{some}
+use Rattle.std.specs.Prelude.{Some}
 use Rattle.logic.specs.Time.{ticks, plus, after}
 use Rattle.logic.specs.Tower.{Tower}
 use Rattle.logic.specs.Runs.{leads, trace, moment, Judged, duration}
@@ -18,7 +18,7 @@ line_of strokes i = get_or strokes i.0 (record { tick = ticks 0; action = 0 })
 
 -- The log is a run of the table from row 0 on, which ends in row r, and each tick is the one before plus the length of the step before.
 pub record LoggedRun (tower : Tower) (table : Table) (strokes : List Stroke) (r : ℕ) : Type 0 where
-  pub run : leads (move table) 0 (logged_actions strokes) ≡ some r
+  pub run : leads (move table) 0 (logged_actions strokes) ≡ Some r
   pub times : (i : Position) → Judged (trace tower (logged_actions strokes)) (after i)
       → (line_of strokes (after i)).tick ≡ plus (line_of strokes i).tick (duration tower (moment (trace tower (logged_actions strokes)) i))
 

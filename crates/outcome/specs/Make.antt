@@ -3,10 +3,10 @@ use Rattle.std.specs.Prelude.{ℕ, not, List, length, ltb}
 use Rattle.std.proofs.lemmas.List.Edits.{sets}
 use Rattle.base.specs.Choice.{pick}
 use Rattle.base.specs.Bytes.{long_enough, cleared}
-use Rattle.base.specs.Answers.{Answer, refuse, give, ◌if◌else◌, ◌then◌}
+use Rattle.base.specs.Answers.{Answer, ◌if◌else◌, ◌then◌}
+use Rattle.std.specs.Prelude.{Err, Ok}
 use Rattle.base.specs.declared.Refusal.TheVariants.{Pairs, NoTable, Area, Output, Alternatives}
-use Rattle.base.specs.declared.MakeAnswer.{MakeAnswer}
-use Rattle.base.specs.declared.MakeAnswer.TheVariants.{Made, Refused}
+use Rattle.base.specs.Answers.{MakeAnswer}
 use Rattle.logic.specs.Tower.{Tower, layout_of}
 use Rattle.logic.specs.Book.{Book}
 use Rattle.logic.specs.Tables.{Table}
@@ -24,7 +24,7 @@ table_for tower book =
     Pairs if over_pairs tower book else
     Alternatives if over_alternatives tower book else
     NoTable if not (safe tower book (first_pair tower book)) else
-    give (made_table tower book)
+    Ok (made_table tower book)
 
 -- the file of the made table, in the layout of the tower's file, for files of a tower and a book
 unfoldable pub made_file : List ℕ → List ℕ → Answer (List ℕ)
@@ -32,11 +32,11 @@ made_file tower text =
     read_tower tower then λ t.
     read_book t.marks text then λ book.
     table_for t book then λ table.
-    give (table_file (layout_of tower) t.states t.actions table)
+    Ok (table_file (layout_of tower) t.states t.actions table)
 
 -- 16: the output is shorter than the file
 unfoldable pub fitting : ℕ → List ℕ → Answer (List ℕ)
-fitting room file = Output if ltb room (length file) else give file
+fitting room file = Output if ltb room (length file) else Ok file
 
 -- How a call of the maker ends: the answer, and what the output and the lent areas hold then.
 pub record MakeOutcome : Type 0 where
@@ -46,11 +46,11 @@ pub record MakeOutcome : Type 0 where
 
 -- Bytes after a made table stay; a refusal changes no byte of the output.
 unfoldable pub written : Answer (List ℕ) → List ℕ → List (List ℕ) → MakeOutcome
-written (refuse r) output areas = record { answer = Refused r; output = output; areas = areas }
-written (give file) output areas = record { answer = Made (length file); output = sets output 0 file; areas = areas }
+written (Err r) output areas = record { answer = Err r; output = output; areas = areas }
+written (Ok file) output areas = record { answer = Ok (length file); output = sets output 0 file; areas = areas }
 
 unfoldable pub make_outcome : List ℕ → List ℕ → List ℕ → List (List ℕ) → MakeOutcome
 make_outcome tower text output areas =
     pick (long_enough make_areas areas)
     (λ _. written (made_file tower text then λ file. fitting (length output) file) output (cleared areas))
-    (λ _. written (refuse Area) output areas)
+    (λ _. written (Err Area) output areas)

@@ -1,6 +1,6 @@
 -- What refusals 11 and 20 speak of, said without a search: pairs, and rows with what is pending, that runs over unbroken steps lead to.
 use Rattle.std.specs.Prelude.{ℕ, ◌<◌, ◌≡◌}
-use Rattle.std.proofs.Math.Option.{some}
+use Rattle.std.specs.Prelude.{Some}
 use mathlib.Core.List.{List, map, Memᴰ}
 use Rattle.base.specs.Lists.{total, Distinct}
 use Rattle.logic.specs.Tower.{Tower}
@@ -12,7 +12,7 @@ use Rattle.alternatives.specs.Pairs.{Pair, pair_weight, first_pair, alternatives
 
 -- some run over unbroken steps leads to the pair
 unfoldable pub ReachedPair : Tower → Book → Pair → Type 0
-ReachedPair tower book v = (w : List ℕ) × (leads (pair_step tower book) (first_pair tower book) w ≡ some v)
+ReachedPair tower book v = (w : List ℕ) × (leads (pair_step tower book) (first_pair tower book) w ≡ Some v)
 
 -- some allowed run over unbroken steps leads to the row with this pending: the pair is one of the table as a tower, its state the row
 unfoldable pub ReachedItem : Tower → Book → Table → Pair → Type 0
@@ -28,5 +28,5 @@ pub record GivesOver (tower : Tower) (book : Book) : Type 0 where
   pub reached : ReachedPair tower book pair
   pub action : ℕ
   pub state : ℕ
-  pub enabled : tower.target pair.state action ≡ some state
+  pub enabled : tower.target pair.state action ≡ Some state
   pub many : alternatives_by tower book pair action ≡ over

@@ -2,10 +2,10 @@
 use Rattle.std.specs.Prelude.{ℕ, List, length, ltb}
 use Rattle.base.specs.Choice.{pick}
 use Rattle.base.specs.Bytes.{long_enough, cleared}
-use Rattle.base.specs.Answers.{Answer, refuse, give, ◌if◌else◌}
+use Rattle.base.specs.Answers.{Answer, ◌if◌else◌}
+use Rattle.std.specs.Prelude.{Err, Ok}
 use Rattle.base.specs.declared.Refusal.TheVariants.{Range, Area}
-use Rattle.base.specs.declared.BookAnswer.{BookAnswer}
-use Rattle.base.specs.declared.BookAnswer.TheVariants.{Read, Refused}
+use Rattle.base.specs.Answers.{BookAnswer, book_of_size}
 use Rattle.logic.specs.Tower.{most_marks}
 use Rattle.logic.specs.Book.{Book, nodes}
 use Rattle.reading.specs.BookReading.{read_book}
@@ -13,8 +13,8 @@ use Rattle.outcome.specs.Areas.{book_areas}
 
 -- the numbers of lines and nodes
 unfoldable pub book_answer : Answer Book → BookAnswer
-book_answer (refuse r) = Refused r
-book_answer (give book) = Read (length book) (length (nodes book))
+book_answer (Err r) = Err r
+book_answer (Ok book) = book_of_size (length book) (length (nodes book))
 
 -- the book under a given P; P above 16 is 2, before the book
 unfoldable pub book_under : ℕ → List ℕ → Answer Book
@@ -29,4 +29,4 @@ unfoldable pub read_outcome : ℕ → List ℕ → List (List ℕ) → BookOutco
 read_outcome marks text areas =
     pick (long_enough book_areas areas)
     (λ _. record { answer = book_answer (book_under marks text); areas = cleared areas })
-    (λ _. record { answer = Refused Area; areas = areas })
+    (λ _. record { answer = Err Area; areas = areas })

@@ -1,6 +1,6 @@
 -- 01, 'Good tables', 'Rows with equal state and equal allowed runs onward are one row': the rows of the made table, by partition refinement.
 use Rattle.std.specs.Prelude.{ℕ, zero, suc, Bool, ◌&&◌, List, map, length, eqb}
-use Rattle.std.proofs.Math.Option.{Option, none, some}
+use Rattle.std.specs.Prelude.{Option, None, Some}
 use Rattle.base.specs.Lists.{every, below, present, joined, same_option, place_of}
 use Rattle.logic.specs.Tower.{Tower}
 use Rattle.logic.specs.Book.{Book}
@@ -49,8 +49,8 @@ row_pairs tower book = search_from (one_row tower book) (safe_followers tower bo
 
 -- the step of action a, if it is allowed: its target is the row of the pair reached
 unfoldable pub row_step : Tower → Book → ℕ → Option Pair → Option Step
-row_step tower book a none = none
-row_step tower book a (some w) = some (record { action = a; target = place_of (one_row tower book w) (row_pairs tower book) })
+row_step tower book a None = None
+row_step tower book a (Some w) = Some (record { action = a; target = place_of (one_row tower book w) (row_pairs tower book) })
 
 unfoldable pub made_row : Tower → Book → Pair → Row
 made_row tower book v =

@@ -2,10 +2,9 @@
 -- says that the files were fit.
 use Rattle.std.specs.Prelude.{ℕ, ◌≤◌, ◌<◌, ◌≡◌, ◌↔◌, true, List, ◌++◌, length, take, drop}
 use Rattle.base.specs.Bytes.{long_enough}
-use Rattle.base.specs.Answers.{give}
+use Rattle.std.specs.Prelude.{Ok}
 use Rattle.base.specs.declared.Refusal.TheVariants.{Output}
-use Rattle.base.specs.declared.MakeAnswer.TheVariants as Make
-use Rattle.base.specs.declared.Verdict.TheVariants as Check
+use Rattle.std.specs.Prelude.{Err}
 use Rattle.logic.specs.Time.{position}
 use Rattle.logic.specs.Tower.{Tower, layout_of}
 use Rattle.logic.specs.Book.{Book}
@@ -68,7 +67,7 @@ pub record MadeWell (tower_file text : List ℕ) (n : ℕ) (file : List ℕ) : T
   pub size : length file ≡ n
   pub laid : FitTable tower file table
   pub made : IsMade tower book table
-  pub accepted : (areas : List (List ℕ)) → long_enough check_areas areas ≡ true → (check_outcome tower_file text file areas).answer ≡ Check.Good
+  pub accepted : (areas : List (List ℕ)) → long_enough check_areas areas ≡ true → (check_outcome tower_file text file areas).answer ≡ Ok tt
   pub rows : rows_of file ≡ length table
 
 -- One tower and two books are in the files; what was made from each, n and m bytes, is equal exactly when good tables allow the same runs under
@@ -85,7 +84,7 @@ pub record EqualExactly (tower_file text other_text : List ℕ) (n m : ℕ) (fil
 -- gives, or more.
 pub record FewestRows (tower_file file : List ℕ) : Type 0 where
   pub tower : Tower
-  pub tower_read : read_tower tower_file ≡ give tower
+  pub tower_read : read_tower tower_file ≡ Ok tower
   pub fewest : (book : Book) (other : Table) → Good tower book other → ((w : List ℕ) → Allows other w ↔ Allows (table_of file) w)
       → rows_of file ≤ length other
 
@@ -97,11 +96,11 @@ pub record MakesTable (tower_file text : List ℕ) (tower : Tower) (book : Book)
   pub made : IsMade tower book table
   pub its_file : table_file (layout_of tower_file) tower.states tower.actions table ≡ file
   pub answered : (output : List ℕ) (areas : List (List ℕ)) → long_enough make_areas areas ≡ true → length file ≤ length output
-      → (make_outcome tower_file text output areas).answer ≡ Make.Made (length file)
+      → (make_outcome tower_file text output areas).answer ≡ Ok (length file)
   pub written : (output : List ℕ) (areas : List (List ℕ)) → long_enough make_areas areas ≡ true → length file ≤ length output
       → (make_outcome tower_file text output areas).output ≡ file ++ drop (length file) output
   pub no_room : (output : List ℕ) (areas : List (List ℕ)) → long_enough make_areas areas ≡ true
-      → ((make_outcome tower_file text output areas).answer ≡ Make.Refused Output) ↔ (length output < length file)
+      → ((make_outcome tower_file text output areas).answer ≡ Err Output) ↔ (length output < length file)
 
 -- The files of tower and table are fit with no reason from a to d, every line of the log is of the form, and the lines are a run of the table with
 -- right ticks, which ends in row r.
@@ -110,7 +109,7 @@ pub record FinalRow (tower_file file log : List ℕ) (r : ℕ) : Type 0 where
   pub table : Table
   pub strokes : List Stroke
   pub sound : SoundTable tower_file file tower table
-  pub read : read_log log ≡ give strokes
+  pub read : read_log log ≡ Ok strokes
   pub run : LoggedRun tower table strokes r
 
 -- So are the files and the lines; those before line k are such a run, and with line k they are none.
@@ -119,7 +118,7 @@ pub record NamedLine (tower_file file log : List ℕ) (k : ℕ) : Type 0 where
   pub table : Table
   pub strokes : List Stroke
   pub sound : SoundTable tower_file file tower table
-  pub read : read_log log ≡ give strokes
+  pub read : read_log log ≡ Ok strokes
   pub misfit : FirstMisfit tower table strokes (position k)
 
 -- The files are fit, every line of the log is of the form, and its first n lines break no rule of the book.
@@ -128,5 +127,5 @@ pub record LogUnbroken (tower_file text log : List ℕ) (n : ℕ) : Type 0 where
   pub book : Book
   pub strokes : List Stroke
   pub fit : FitFiles tower_file text tower book
-  pub read : read_log log ≡ give strokes
+  pub read : read_log log ≡ Ok strokes
   pub unbroken : Unbroken tower book (logged_actions (take n strokes))

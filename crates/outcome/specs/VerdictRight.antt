@@ -1,6 +1,7 @@
 -- What the checker is to say of a table for a tower and a book, in the words of the logic: the first reason a to e that holds, 11 and 20 before e.
 use Rattle.std.specs.Prelude.{ℕ, ◌<◌, length}
-use Rattle.base.specs.Answers.{Answer, refuse, give}
+use Rattle.base.specs.Answers.{Answer}
+use Rattle.std.specs.Prelude.{Err, Ok}
 use Rattle.base.specs.declared.Reason.{Reason}
 use Rattle.base.specs.declared.Reason.TheVariants.{Start, Withheld, Stopped, Broken}
 use Rattle.base.specs.declared.Reason.TheVariants as Why
@@ -40,12 +41,12 @@ pub data FirstOfRows (tower : Tower) (table : Table) : Reason → Type 0 where
 
 -- The right answer and why it is the right one.
 pub data FirstReason (tower : Tower) (book : Book) (table : Table) : Answer Finding → Type 0 where
-  by_rows : (q : Reason) → FirstOfRows tower table q → FirstReason tower book table (give (not_good q))
+  by_rows : (q : Reason) → FirstOfRows tower table q → FirstReason tower book table (Ok (not_good q))
   too_many : RightBelow tower table (length table) → MoreThan most_pairs (ReachedItem tower book table)
-      → FirstReason tower book table (refuse Pairs)
+      → FirstReason tower book table (Err Pairs)
   too_wide : RightBelow tower table (length table) → (MoreThan most_pairs (ReachedItem tower book table) → ⊥)
-      → GivesOver (rows_tower tower table) book → FirstReason tower book table (refuse Alternatives)
+      → GivesOver (rows_tower tower table) book → FirstReason tower book table (Err Alternatives)
   reason_e : RightBelow tower table (length table) → (MoreThan most_pairs (ReachedItem tower book table) → ⊥)
-      → (GivesOver (rows_tower tower table) book → ⊥) → (NoneBroken tower book table → ⊥) → FirstReason tower book table (give (not_good Broken))
+      → (GivesOver (rows_tower tower table) book → ⊥) → (NoneBroken tower book table → ⊥) → FirstReason tower book table (Ok (not_good Broken))
   good : Good tower book table → (MoreThan most_pairs (ReachedItem tower book table) → ⊥) → (GivesOver (rows_tower tower table) book → ⊥)
-      → FirstReason tower book table (give good_table)
+      → FirstReason tower book table (Ok good_table)

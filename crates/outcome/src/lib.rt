@@ -5,29 +5,22 @@
 use logic::{Position, Tick};
 use reading::Stroke;
 
-// The tick that is due at a line of a log. At the first line any is.
-#[derive(Clone, Copy)]
-pub enum Due {
-    Free,
-    At(Tick),
-}
-
-// Where a log has come to along a table: the row, and the tick that is due.
+// Where a log has come to along a table: the row, and the tick that is due. At the first line any is.
 #[derive(Clone, Copy)]
 pub struct LogPlace {
     pub row: usize,
-    pub due: Due,
+    pub due: Option<Tick>,
 }
 
-// What the lines of a log come to along a table. Line i is the action that leaves position i.
+// The first line of a log that does not fit, with where the lines before it lead. Line i is the action that
+// leaves position i.
 #[derive(Clone, Copy)]
-pub enum Course {
-    // Every line fits, and this is where they lead.
-    Fits(LogPlace),
-    // The first line that does not fit, with where the lines before it lead.
-    Fails {
-        line: Position,
-        place: LogPlace,
-        stroke: Stroke,
-    },
+pub struct Misfit {
+    pub line: Position,
+    pub place: LogPlace,
+    pub stroke: Stroke,
 }
+
+// What the lines of a log come to along a table: every line fits, and this is where they lead; or the first that
+// does not.
+pub type Course = Result<LogPlace, Misfit>;

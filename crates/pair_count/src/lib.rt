@@ -11,10 +11,6 @@ ghost use Rattle.pair_graph.specs.Steps.{graph_size};
 ghost use Rattle.pair_trial.specs.Walked.{TowerWithBook};
 ghost use Rattle.pair_trial.specs.Trial.{room_size};
 
-use base::BookAnswer;
-use file_tower::TowerRead;
-use pair_search::Found;
-
 // The pairs are those of the tower, not of a table's rows.
 const BY_ROWS: bool = false;
 
@@ -40,9 +36,8 @@ fn search(
         tower, tower, BY_ROWS, nodes, pairs, index, graph, sets, room,
     );
     match found {
-        Found::TooMany => 0,
-        Found::TooWide => 0,
-        Found::Met(n) => set_index::first(pairs, n),
+        Ok(n) => set_index::first(pairs, n),
+        Err(_) => 0,
     }
 }
 
@@ -65,20 +60,18 @@ fn of_book(tower: &[u8], text: &[u8], nodes: &mut [u8]) -> usize
     requires fit_tower { FitTower tower.now }
     requires in_bounds { 512 ≤ length nodes.old }
 {
-    let book = book_reader::read_lines(file_tower::marks(tower), text, nodes);
-    match book {
-        BookAnswer::Refused(why) => 0,
-        BookAnswer::Read { .. } => search_here(tower, nodes),
+    match book_reader::read_lines(file_tower::marks(tower), text, nodes) {
+        Ok(_) => search_here(tower, nodes),
+        Err(_) => 0,
     }
 }
 
 // How many pairs a tower and a book have, each counted once for each alternative; 0 if one of them is
 // refused, there are too many, or a step gives too many alternatives.
 pub fn pairs(tower: &[u8], text: &[u8]) -> usize {
-    let read = file_tower::read_tower(tower);
-    if let TowerRead::Refused(why) = read {
+    let Ok(()) = file_tower::read_tower(tower) else {
         return 0;
-    }
+    };
     let mut nodes = [0u8; 512];
     of_book(tower, text, &mut nodes)
 }

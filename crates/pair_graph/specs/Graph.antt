@@ -1,6 +1,6 @@
 -- The graph of pairs: numbers in place of pairs. What the maker's phases say of it, each without an algorithm.
 use Rattle.std.specs.Prelude.{ℕ, ◌<◌, ◌≡◌, Bool, true, false, eqb}
-use Rattle.std.proofs.Math.Option.{Option, none, some}
+use Rattle.std.specs.Prelude.{Option, None, Some}
 use Rattle.base.specs.Choice.{pick}
 use Rattle.base.specs.Lists.{same_option}
 use Rattle.logic.specs.Tower.{controllable, goes_on}
@@ -43,9 +43,9 @@ pub record Largest (graph : Graph) (safe : ℕ → Bool) : Type 0 where
 
 -- the pair that an allowed action leads to: one that is safe
 unfoldable pub allowed_to : (ℕ → Bool) → Move → Option ℕ
-allowed_to safe not_enabled = none
-allowed_to safe broken = none
-allowed_to safe (to j) = pick (safe j) (λ _. some j) (λ _. none)
+allowed_to safe not_enabled = None
+allowed_to safe broken = None
+allowed_to safe (to j) = pick (safe j) (λ _. Some j) (λ _. None)
 
 -- Two pairs that no action tells apart at once: equal state, and each action allowed in both or in neither, leading to the same.
 pub record AlikeNow (graph : Graph) (safe : ℕ → Bool) (same : ℕ → ℕ → Bool) (i j : ℕ) : Type 0 where

@@ -1,6 +1,6 @@
 -- When a graph of numbers is that of the pairs of a tower and a book.
 use Rattle.std.specs.Prelude.{ℕ, ◌<◌, ◌≡◌, length, get_or}
-use Rattle.std.proofs.Math.Option.{none, some}
+use Rattle.std.specs.Prelude.{None, Some}
 use Rattle.logic.specs.Tower.{Tower}
 use Rattle.logic.specs.Book.{Book}
 use Rattle.alternatives.specs.Pairs.{Pair, first_pair, pair_step, pairs}
@@ -12,10 +12,10 @@ numbered tower book i = get_or (pairs tower book) i (first_pair tower book)
 
 -- What the move of an action from a pair has to say. A step by an enabled action that leads to no pair is broken.
 pub data SaysStep (tower : Tower) (book : Book) (i a : ℕ) : Move → Type 0 where
-  says_not_enabled : tower.target (numbered tower book i).state a ≡ none → SaysStep tower book i a not_enabled
-  says_broken : (y : ℕ) → tower.target (numbered tower book i).state a ≡ some y → pair_step tower book (numbered tower book i) a ≡ none
+  says_not_enabled : tower.target (numbered tower book i).state a ≡ None → SaysStep tower book i a not_enabled
+  says_broken : (y : ℕ) → tower.target (numbered tower book i).state a ≡ Some y → pair_step tower book (numbered tower book i) a ≡ None
       → SaysStep tower book i a broken
-  says_to : (j : ℕ) → j < length (pairs tower book) → pair_step tower book (numbered tower book i) a ≡ some (numbered tower book j)
+  says_to : (j : ℕ) → j < length (pairs tower book) → pair_step tower book (numbered tower book i) a ≡ Some (numbered tower book j)
       → SaysStep tower book i a (to j)
 
 -- The graph is that of the pairs, numbered as they are met.

@@ -1,7 +1,7 @@
 -- The table of a graph of pairs with its safe pairs and their classes: rows are classes, numbered as first met from pair 0 on, rows in order,
 -- actions ascending.
 use Rattle.std.specs.Prelude.{ℕ, Bool, List, map, eqb}
-use Rattle.std.proofs.Math.Option.{Option, none, some}
+use Rattle.std.specs.Prelude.{Option, None, Some}
 use Rattle.base.specs.Lists.{below, present, place_of}
 use Rattle.base.specs.Search.{search_from, once}
 use Rattle.logic.specs.Tables.{Step, Row, Table}
@@ -25,8 +25,8 @@ module _ (graph : Graph) (safe : ℕ → Bool) (class : ℕ → ℕ) where
 
   -- the step of action a, if it is allowed
   unfoldable pub graph_step : ℕ → Option ℕ → Option Step
-  graph_step a none = none
-  graph_step a (some j) = some (record { action = a; target = place_of (same_class j) row_order })
+  graph_step a None = None
+  graph_step a (Some j) = Some (record { action = a; target = place_of (same_class j) row_order })
 
   unfoldable pub graph_row : ℕ → Row
   graph_row i = record { state = graph.state i; steps = present (map (λ a. graph_step a (allowed i a)) (below graph.actions)) }

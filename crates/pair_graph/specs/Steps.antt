@@ -1,11 +1,9 @@
 -- The graph as bytes in a lent area: for each of 1,000 pairs and 16 actions a move in two bytes, and behind the moves each pair's state.
 use Rattle.std.specs.Prelude.{ℕ, zero, suc, ◌+◌, ◌*◌, ◌≤◌, ◌<◌, ◌≡◌, Bool, true, false, List, length, eqb}
-use Rattle.std.proofs.Math.Option.{Option, none, some}
+use Rattle.std.specs.Prelude.{Option, None, Some}
 use Rattle.base.specs.Bytes.{byte_at, number_at}
 use Rattle.logic.specs.Tower.{Tower}
 use Rattle.pair_graph.specs.Graph.{Move, not_enabled, broken, to, Graph, allowed_to}
-use Rattle.pair_graph.specs.declared.Led.{Led}
-use Rattle.pair_graph.specs.declared.Led.TheVariants.{To, Nowhere}
 
 -- ---- where things lie
 
@@ -59,11 +57,6 @@ is_enabled (to j) = true
 -- the pair that action a leads to from pair i, if it is allowed there: if it leads to a safe pair
 unfoldable pub led_to : List ℕ → List ℕ → ℕ → ℕ → Option ℕ
 led_to area flags i a = allowed_to (safe_in flags) (move_at area i a)
-
--- as the code answers it
-unfoldable pub led_of : Option ℕ → Led
-led_of none = Nowhere
-led_of (some j) = To j
 
 -- ---- the graph
 

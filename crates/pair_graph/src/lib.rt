@@ -7,14 +7,7 @@ pub mod predecessors;
 ghost use Rattle.std.specs.Prelude.{◌+◌, ◌*◌, ◌<◌, ◌≤◌, ◌≡◌, length};
 ghost use Rattle.std.proofs.lemmas.List.Edits.{sets};
 ghost use Rattle.base.specs.Bytes.{number_at, number_bytes};
-ghost use Rattle.pair_graph.specs.Steps.{cell, states_at, graph_size, pair_room, action_room, move_at, state_in, safe_in, class_in, is_enabled, led_to, led_of, FlaggedGraph};
-
-// Where an allowed action leads: to a safe pair, or nowhere if it is not allowed.
-#[derive(Clone, Copy)]
-pub enum Led {
-    To(usize),
-    Nowhere,
-}
+ghost use Rattle.pair_graph.specs.Steps.{cell, states_at, graph_size, pair_room, action_room, move_at, state_in, safe_in, class_in, is_enabled, led_to, FlaggedGraph};
 
 // Room for so many actions from each pair, a move of two bytes each; behind the moves the states.
 const ACTION_ROOM: usize = 16;
@@ -96,20 +89,27 @@ pub fn enabled(graph: &[u8], i: usize, a: usize) -> bool
     move_number(graph, i, a) != NOT_ENABLED
 }
 
-// Where action a leads from pair i, if it is allowed there.
-pub fn allowed(graph: &[u8], flags: &[u8], pairs: usize, actions: usize, i: usize, a: usize) -> Led
+// The safe pair that action a leads to from pair i, if it is allowed there.
+pub fn allowed(
+    graph: &[u8],
+    flags: &[u8],
+    pairs: usize,
+    actions: usize,
+    i: usize,
+    a: usize,
+) -> Option<usize>
     requires flagged_graph { FlaggedGraph pairs actions graph.now flags.now }
     requires i_lt_pairs { i < pairs }
     requires a_lt_actions { a < actions }
-    ensures { result ≡ led_of (led_to graph.now flags.now i a) }
+    ensures { result ≡ led_to graph.now flags.now i a }
 {
     let m = move_number(graph, i, a);
     if m < FIRST_PAIR {
-        return Led::Nowhere;
+        return None;
     }
     let j = m - FIRST_PAIR;
     if !is_safe(flags, j) {
-        return Led::Nowhere;
+        return None;
     }
-    Led::To(j)
+    Some(j)
 }

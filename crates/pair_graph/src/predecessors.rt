@@ -42,10 +42,8 @@ pub fn list_all(graph: &[u8], n: usize, actions: usize, area: &mut [u8])
     ensures { Listed n actions graph.now (action_room * n) area.new }
 {
     area_bytes::clear(area);
-    let mut i = 0;
-    while i < n {
+    for i in 0..n {
         list_pair(graph, n, actions, i, area);
-        i += 1;
     }
 }
 
@@ -57,10 +55,8 @@ fn list_pair(graph: &[u8], n: usize, actions: usize, i: usize, area: &mut [u8])
     requires listed { Listed n actions graph.now (action_room * i) area.old }
     ensures { Listed n actions graph.now (action_room * (i + 1)) area.new }
 {
-    let mut a = 0;
-    while a < actions {
+    for a in 0..actions {
         list_cell(graph, n, actions, i, a, area);
-        a += 1;
     }
 }
 

@@ -1,5 +1,5 @@
 -- An action that leads from a pair to where an earlier one led: the same set waits of both in the room, and the state is the same.
-use Rattle.std.specs.Prelude.{ℕ, ◌+◌, ◌-◌, ◌≤◌, ◌<◌, ◌≡◌, List, length}
+use Rattle.std.specs.Prelude.{ℕ, ◌+◌, ◌≤◌, ◌<◌, ◌≡◌, List, length}
 use Rattle.base.specs.Bytes.{byte_at}
 use Rattle.set_index.specs.Entries.{most_entries, entries_size, entry_number}
 use Rattle.pair_graph.specs.Graph.{to}
@@ -16,18 +16,16 @@ pub record MovesWritten (area graph room : List ℕ) (i a : ℕ) : Type 0 where
   pub action : a < action_room
   pub inside : (b j : ℕ) → b < a → move_at graph i b ≡ to j → j < most_entries
 
--- Action b led from pair i to the pair that move m names, of state y, and what waits of it is what waits of action a.
-pub record LedAlike (m : ℕ) (area graph room : List ℕ) (i a b y : ℕ) : Type 0 where
+-- Action b led from pair i to pair j, of state y, and what waits of it is what waits of action a.
+pub record LedAlike (j : ℕ) (area graph room : List ℕ) (i a b y : ℕ) : Type 0 where
   pub earlier : b < a
+  pub inside : j < most_entries
   pub count : byte_at room (counts_at + b) ≡ byte_at room (counts_at + a)
   pub place : byte_at room (places_at + b) ≡ byte_at room (places_at + a)
-  pub leads : move_at graph i b ≡ to (m - 2)
-  pub state : entry_number area (m - 2) ≡ y
+  pub leads : move_at graph i b ≡ to j
+  pub state : entry_number area j ≡ y
 
--- So it is with action b, if m names a pair;
-pub record MoveAlike (m : ℕ) (area graph room : List ℕ) (i a b y : ℕ) : Type 0 where
-  pub alike : 2 ≤ m → LedAlike m area graph room i a b y
-
--- and with some action. (Where none is found nothing is said: then the pair is looked up, and that costs time and no more.)
-pub record LedBefore (m : ℕ) (area graph room : List ℕ) (i a y : ℕ) : Type 0 where
-  pub alike : 2 ≤ m → (b : ℕ) × LedAlike m area graph room i a b y
+-- So it is with some action. (Where none is found nothing is said: then the pair is looked up, and that costs time and no more.)
+pub record LedBefore (j : ℕ) (area graph room : List ℕ) (i a y : ℕ) : Type 0 where
+  pub action : ℕ
+  pub alike : LedAlike j area graph room i a action y

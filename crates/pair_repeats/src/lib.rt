@@ -2,12 +2,11 @@
 // waits of both and they lead to the same state, the move of the earlier one is that of the later one.
 #![tactic(auto)]
 
-ghost use Rattle.std.specs.Prelude.{◌<◌};
-ghost use Rattle.pair_repeats.specs.Repeats.{MovesWritten, MoveAlike, LedBefore};
+ghost use Rattle.std.specs.Prelude.{◌<◌, IfSome};
+ghost use Rattle.pair_repeats.specs.Repeats.{MovesWritten, LedAlike, LedBefore};
 
-// The move of action b from pair i, if it leads to a pair of state y and what waits of it is what waits
-// of a; else one that leads to no pair. Of an action that is not enabled nothing waits, and none of the
-// room is read.
+// The pair to which action b leads from pair i, if its state is y and what waits of b is what waits of a. Of
+// an action that is not enabled nothing waits, and none of the room is read.
 fn move_alike(
     pairs: &[u8],
     graph: &[u8],
@@ -16,40 +15,44 @@ fn move_alike(
     a: usize,
     b: usize,
     y: usize,
-) -> usize
+) -> Option<usize>
     requires moves_written { MovesWritten pairs.now graph.now room.now i a }
     requires b_lt_a { b < a }
-    ensures { MoveAlike result pairs.now graph.now room.now i a b y }
+    ensures { IfSome result (λ j. LedAlike j pairs.now graph.now room.now i a b y) }
 {
     let m = pair_graph::move_number(graph, i, b);
     if m < pair_graph::FIRST_PAIR {
-        return m;
+        return None;
     }
     if room[pair_trial::PLACES + b] != room[pair_trial::PLACES + a] {
-        return pair_graph::NOT_ENABLED;
+        return None;
     }
-    if set_index::number(pairs, m - pair_graph::FIRST_PAIR) != y {
-        return pair_graph::NOT_ENABLED;
+    let j = m - pair_graph::FIRST_PAIR;
+    if set_index::number(pairs, j) != y {
+        return None;
     }
     if room[pair_trial::COUNTS + b] != room[pair_trial::COUNTS + a] {
-        return pair_graph::NOT_ENABLED;
+        return None;
     }
-    m
+    Some(j)
 }
 
-// Such a move of some action before a; or one that leads to no pair, if there is none.
-pub fn led_before(pairs: &[u8], graph: &[u8], room: &[u8], i: usize, a: usize, y: usize) -> usize
+// The pair to which some action before a leads so, if one does.
+pub fn led_before(
+    pairs: &[u8],
+    graph: &[u8],
+    room: &[u8],
+    i: usize,
+    a: usize,
+    y: usize,
+) -> Option<usize>
     requires { MovesWritten pairs.now graph.now room.now i a }
-    ensures { LedBefore result pairs.now graph.now room.now i a y }
+    ensures { IfSome result (λ j. LedBefore j pairs.now graph.now room.now i a y) }
 {
-    let mut b = 0;
-    while b < a {
-        let at = b;
-        b += 1;
-        let m = move_alike(pairs, graph, room, i, a, at, y);
-        if pair_graph::FIRST_PAIR <= m {
-            return m;
+    for b in 0..a {
+        if let Some(j) = move_alike(pairs, graph, room, i, a, b, y) {
+            return Some(j);
         }
     }
-    pair_graph::NOT_ENABLED
+    None
 }

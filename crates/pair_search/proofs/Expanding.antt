@@ -5,7 +5,7 @@ use native.Mathlib.Decide.{dec_lt}
 use mathlib.Core.Path.{◌≡◌, refl, sym, ◌∙◌, ap, subst}
 use mathlib.Core.Logic.{inl}
 use mathlib.Core.Bool.{Bool, true, false, ◌||◌}
-use mathlib.Core.Option.{Option, none, some}
+use Rattle.std.specs.Prelude.{Option, None, Some}
 use mathlib.Core.List.{List, [], ◌∷◌, ◌++◌, map, append-nil}
 use lib.ListN.{length}
 use Rattle.base.specs.Lists.{below, present}
@@ -86,11 +86,11 @@ module _ (tower table : List ℕ) (rows : Bool) (nodes : List ℕ) (wide : Bool)
 
 -- ---- an over_full pair
 
-no_step : (tower : Tower) (book : Book) (v : Pair) (a : ℕ) → over_full tower book v ≡ true → pair_step tower book v a ≡ none
+no_step : (tower : Tower) (book : Book) (v : Pair) (a : ℕ) → over_full tower book v ≡ true → pair_step tower book v a ≡ None
 unfolding pair_step
 no_step tower book v a full = rw full
 
-none_present : {X : Type 0} (f : ℕ → Option X) (ns : List ℕ) → ((a : ℕ) → f a ≡ none) → present (map f ns) ≡ []
+none_present : {X : Type 0} (f : ℕ → Option X) (ns : List ℕ) → ((a : ℕ) → f a ≡ None) → present (map f ns) ≡ []
 unfolding present
 none_present f [] e = refl
 none_present f (a ∷ ns) e = rw (e a) (none_present f ns e)
@@ -106,8 +106,8 @@ none_new tower book seen v full =
 blocked_says : (tower : Tower) (book : Book) (nodes area : List ℕ) (n : ℕ) (v : Pair) (a : ℕ) → over_full tower book v ≡ true → (o : Option ℕ)
     → tower.target v.state a ≡ o → SaysMove tower book nodes area n v a (move_of (blocked_number o))
 unfolding move_of blocked_number
-blocked_says tower book nodes area n v a full none e = moves_not e
-blocked_says tower book nodes area n v a full (some y) e = moves_broken y e (no_step tower book v a full)
+blocked_says tower book nodes area n v a full None e = moves_not e
+blocked_says tower book nodes area n v a full (Some y) e = moves_broken y e (no_step tower book v a full)
 
 -- ---- the ways of a turn
 

@@ -3,7 +3,7 @@ use Prim.Native.Nat.{ℕ, ◌+◌, ◌-◌, ◌*◌, ◌≤◌, ◌<◌}
 use native.Mathlib.Omega.{arith}
 use mathlib.Core.Path.{◌≡◌, refl, sym, ◌∙◌, ap, ap₂}
 use mathlib.Core.Bool.{Bool, true, false, ◌||◌}
-use mathlib.Core.Option.{some}
+use Rattle.std.specs.Prelude.{Some}
 use mathlib.Core.List.{List, [], ◌∷◌, ◌++◌, map}
 use lib.ListN.{length, get_or, drop}
 use lib.Dec.{ltb}
@@ -27,7 +27,8 @@ use Rattle.pair_trial.specs.Trial.{pair_of, pair_in}
 use Rattle.pair_step.specs.Stepped.{pairs_of, PairsFilled, WideRight, SaysMove, moves_not, moves_broken, moves_to, RightGraph, Turning}
 use Rattle.pair_step.proofs.PairEntries.{pairs_length, pairs_at, pairs_same, pairs_more, pairs_none, get_or_there, state_of_pair, pending_of_pair, weighed, filled_few}
 use Rattle.pair_search.specs.Explored.{found, HoldsPairs, Explored, with_new, Turned, SearchBegun}
-use Rattle.pair_search.specs.declared.Found.TheVariants.{TooMany, TooWide, Met}
+use Rattle.std.specs.Prelude.{Ok, Err}
+use Rattle.base.specs.declared.Refusal.TheVariants.{Pairs, Alternatives}
 use Rattle.pair_search.specs.declared.Round.{Round}
 use Rattle.pair_search.proofs.Turns.{search_next, search_end, search_over}
 
@@ -112,7 +113,7 @@ module _ (tower : Tower) (nodes : List ℕ) (wide : Bool) (area index graph : Li
         (drop (i + 1) seen) heavy in
         ap (λ vs. ltb 1000 (total (map pair_weight vs))) all ∙ lt-ltb 1000 (total (map pair_weight seen)) heavy
 
-    pub explore_many : (x : ℕ) → x ≡ entry_first after done.met → 1000 < x → Explored TooMany tower nodes later_graph
+    pub explore_many : (x : ℕ) → x ≡ entry_first after done.met → 1000 < x → Explored (Err Pairs) tower nodes later_graph
     unfolding found
     explore_many x at_x many =
         record {
@@ -186,7 +187,7 @@ module _ (tower : Tower) (nodes : List ℕ) (wide : Bool) (area index graph : Li
         (ap (λ v. pair_step tower h.book v a) (numbered_is h j k) ∙ f)
     says_step h j a k _ (moves_to t m e) =
         says_to t (omega (arith, all_counted h))
-        (ap (λ v. pair_step tower h.book v a) (numbered_is h j k) ∙ e ∙ ap some (sym (numbered_is h t m)))
+        (ap (λ v. pair_step tower h.book v a) (numbered_is h j k) ∙ e ∙ ap Some (sym (numbered_is h t m)))
 
     leads_inside : (h : IsHeld nodes) (j a t : ℕ) (move : Move)
         → SaysMove tower h.book nodes area n (pair_in nodes area j) a move → move ≡ to t → t < n
@@ -228,7 +229,7 @@ module _ (tower : Tower) (nodes : List ℕ) (wide : Bool) (area index graph : Li
         let e : n ≡ i = omega (arith, exploring.inside) in
         ap (some_of (over_full tower h.book)) (all_found h ∙ ap (pairs_of nodes area) e) ∙ sym (exploring.fulls h)
 
-    pub explore_wide : over ≡ true → Explored TooWide tower nodes graph
+    pub explore_wide : over ≡ true → Explored (Err Alternatives) tower nodes graph
     unfolding found
     explore_wide e =
         record {
@@ -236,7 +237,7 @@ module _ (tower : Tower) (nodes : List ℕ) (wide : Bool) (area index graph : Li
           pairs_held = λ k f. let z : ◌≡◌ {A = ℕ} 0 1 = cc in absurd (omega arith);
         }
 
-    pub explore_done : over ≡ false → Explored (Met n) tower nodes graph
+    pub explore_done : over ≡ false → Explored (Ok n) tower nodes graph
     unfolding found
     explore_done e =
         record {

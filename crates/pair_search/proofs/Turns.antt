@@ -5,7 +5,7 @@ use native.Mathlib.Omega.{arith}
 use native.Mathlib.Numerals.{add-one}
 use mathlib.Core.Path.{◌≡◌, refl, sym, ◌∙◌, ap, ap₂}
 use mathlib.Core.Bool.{Bool, true, false}
-use mathlib.Core.Option.{Option, none, some}
+use Rattle.std.specs.Prelude.{Option, None, Some}
 use mathlib.Core.List.{List, [], ◌∷◌, ◌++◌, map}
 use lib.ListN.{length, get_or, drop, drop_of_length-le}
 use lib.Seq.{drop-cons, drop-append-le, append_snoc}
@@ -65,8 +65,8 @@ numbers_cons a end l =
 pub one_more : {X : Type 0} (same : X → X → Bool) (seen : List X) (o : Option X) (os : List (Option X)) (all : List X) → all ≡ with_one same seen o
     → all ++ new_ones same all (present os) ≡ seen ++ new_ones same seen (present (o ∷ os))
 unfolding with_one present
-one_more same seen none os all e = rw e
-one_more same seen (some x) os all e = go (some_of (same x) seen) refl e
+one_more same seen None os all e = rw e
+one_more same seen (Some x) os all e = go (some_of (same x) seen) refl e
   where
     go : (b : Bool) → some_of (same x) seen ≡ b → all ≡ pick b (λ _. seen) (λ _. seen ++ (x ∷ []))
         → all ++ new_ones same all (present os) ≡ seen ++ new_ones same seen (x ∷ present os)

@@ -12,18 +12,19 @@ use Rattle.pair_graph.specs.Steps.{graph_of, HoldsGraph}
 use Rattle.pair_graph.specs.GraphOf.{GraphOf}
 use Rattle.pair_trial.specs.Trial.{pair_in}
 use Rattle.pair_step.specs.Stepped.{pairs_of, PairsFilled, RightGraph}
-use Rattle.pair_search.specs.declared.Found.{Found}
-use Rattle.pair_search.specs.declared.Found.TheVariants.{TooMany, TooWide, Met}
+use Rattle.std.specs.Prelude.{Ok, Err}
+use Rattle.base.specs.Answers.{Answer}
+use Rattle.base.specs.declared.Refusal.TheVariants.{Pairs, Alternatives}
 use Rattle.pair_search.specs.declared.Round.{Round}
 
 -- ---- the whole
 
 -- how the search ends: 11, 20, or so many pairs
-unfoldable pub found : Tower → Book → Found
+unfoldable pub found : Tower → Book → Answer ℕ
 found tower book =
-    pick (over_pairs tower book) (λ _. TooMany) (λ _.
-    pick (over_alternatives tower book) (λ _. TooWide) (λ _.
-    Met (length (pairs tower book))))
+    pick (over_pairs tower book) (λ _. Err Pairs) (λ _.
+    pick (over_alternatives tower book) (λ _. Err Alternatives) (λ _.
+    Ok (length (pairs tower book))))
 
 -- The area holds the n pairs of a tower and a book, numbered as they are met, and where each action leads from each of them.
 pub record HoldsPairs (tower : Tower) (nodes graph : List ℕ) (n : ℕ) : Type 0 where
@@ -33,9 +34,9 @@ pub record HoldsPairs (tower : Tower) (nodes graph : List ℕ) (n : ℕ) : Type 
 
 -- The search ends as the definition says for the book that the area holds, and leaves the graph of the pairs, unless they are too many or one
 -- is over_full.
-pub record Explored (r : Found) (tower : Tower) (nodes graph : List ℕ) : Type 0 where
+pub record Explored (r : Answer ℕ) (tower : Tower) (nodes graph : List ℕ) : Type 0 where
   pub says : (h : IsHeld nodes) → r ≡ found tower h.book
-  pub pairs_held : (n : ℕ) → r ≡ Met n → HoldsPairs tower nodes graph n
+  pub pairs_held : (n : ℕ) → r ≡ Ok n → HoldsPairs tower nodes graph n
 
 -- ---- one pair, and all
 

@@ -14,13 +14,7 @@ ghost use Rattle.pair_graph.specs.Steps.{graph_size};
 ghost use Rattle.pair_step.specs.Stepped.{WideRight, Turning, Searching};
 ghost use Rattle.pair_search.specs.Explored.{Grown, Turned, SearchBegun, Explored};
 
-// How the search ends: over 1,000 alternatives in all pairs, a pair that gives over 16, or so many pairs.
-#[derive(Clone, Copy)]
-pub enum Found {
-    TooMany,
-    TooWide,
-    Met(usize),
-}
+use base::Refusal;
 
 // What one turn of the search leaves: how many pairs are met, and whether the pair, or some pair before
 // it, was over_full.
@@ -51,13 +45,10 @@ fn follow_all(
     ensures { Grown result (walked tower.now table.now rows) nodes.now wide pairs.old i met pairs.new index.new graph.new }
 {
     let actions = file_tower::actions(tower);
-    let mut a = 0;
     let mut n = met;
-    while a < actions {
-        let at = a;
-        a += 1;
+    for a in 0..actions {
         n = pair_step::step(
-            tower, table, rows, nodes, wide, pairs, index, graph, room, i, at, n,
+            tower, table, rows, nodes, wide, pairs, index, graph, room, i, a, n,
         );
         if MOST < set_index::first(pairs, n) {
             return n;
@@ -168,7 +159,7 @@ fn explore_on(
     graph: &mut [u8],
     sets: &mut [u8],
     room: &mut [u8],
-) -> Found
+) -> Result<usize, Refusal>
     requires walkable { Walkable tower.now table.now rows nodes.now }
     requires wide_right { WideRight wide nodes.now }
     requires search_begun { SearchBegun (walked tower.now table.now rows) nodes.now pairs.old index.old }
@@ -190,13 +181,13 @@ fn explore_on(
         n = done.met;
         over = done.over;
         if MOST < set_index::first(pairs, n) {
-            return Found::TooMany;
+            return Err(Refusal::Pairs);
         }
     }
     if over {
-        return Found::TooWide;
+        return Err(Refusal::Alternatives);
     }
-    Found::Met(n)
+    Ok(n)
 }
 
 // The first pair: the start, with what is pending there. It is the only one that the index knows.
@@ -212,8 +203,8 @@ fn begin(tower: &[u8], table: &[u8], rows: bool, nodes: &[u8], pairs: &mut [u8],
 }
 
 // The pairs of a book that lies in `nodes` and of the tower; by rows, of the table for it. By the
-// tower's states, the table is not looked at. Leaves the graph of the pairs, unless they count too many
-// or one is over_full.
+// tower's states, the table is not looked at. Answers how many pairs there are, and leaves their graph; or 11
+// where they have over 1,000 alternatives, and 20 where one gives over 16.
 pub fn explore(
     tower: &[u8],
     table: &[u8],
@@ -224,7 +215,7 @@ pub fn explore(
     graph: &mut [u8],
     sets: &mut [u8],
     room: &mut [u8],
-) -> Found
+) -> Result<usize, Refusal>
     requires walkable { Walkable tower.now table.now rows nodes.now }
     requires entries_size_in_bounds { entries_size ≤ length pairs.old }
     requires index_size_in_bounds { index_size ≤ length index.old }

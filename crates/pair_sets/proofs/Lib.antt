@@ -2,6 +2,5 @@ pub mod Alternatives
 pub mod Entries
 pub mod Seen
 mod Writing
-mod Copying
 mod Taking
 mod Ways

@@ -26,7 +26,8 @@ use Rattle.book_progression.specs.Promises.{Parts, Progressed, PendingBegun}
 use Rattle.alternative_bytes.specs.AlternativeBytes.{alternative_in}
 use Rattle.set_bytes.specs.SetBytes.{set_in}
 use Rattle.area_bytes.proofs.Clearing.{cleared_byte}
-use Rattle.set_index.specs.Entries.{entries_size, entry_heads, entry_first, entry_at, entries_of, same_entry, Heads, Headed, Indexed}
+use Rattle.std.specs.Prelude.{Some, None}
+use Rattle.set_index.specs.Entries.{entries_size, entry_heads, entry_first, entry_at, entries_of, same_entry, FoundEntry, found_entry, no_entry, Heads, Headed, Indexed}
 use Rattle.set_index.proofs.Laws.{first_rises, heads_first, headed_first, heads_cleared, found_equal, found_first}
 use Rattle.pair_sets.specs.PairSets.{entry_set, Stays, Holds, Entered, Followed, Noted, First, Open, Repeated, Taken}
 use Rattle.pair_sets.proofs.Entries.{entries_equal}
@@ -177,37 +178,37 @@ take_whole nodes area n t cells count room at mid after number taken written all
 
 -- ---- note
 
-module _ (area : List ℕ) (n found : ℕ) (is_found : found ≡ place_of (same_entry (entry_at area n)) (entries_of area n)) where
-  -- It is one of those that are there.
-  pub note_old : (index : List ℕ) → Indexed area index n → found < n → Noted (record { at = found; met = n }) area n index
-  note_old index indexed l =
-      record {
-        indexed = indexed;
-        least = omega arith;
-        most = omega arith;
-        inside = l;
-        equal = found_equal area n found is_found l;
-        fresh = λ m. absurd (omega arith);
-      }
+-- It is one of those that are there.
+pub note_old : (area : List ℕ) (n r : ℕ) (index : List ℕ) → FoundEntry area n (Some r) → Indexed area index n
+    → Noted (record { at = r; met = n }) area n index
+note_old area n r index (found_entry _ l is_r) indexed =
+    record {
+      indexed = indexed;
+      least = omega arith;
+      most = omega arith;
+      inside = l;
+      equal = found_equal area n r is_r l;
+      fresh = λ m. absurd (omega arith);
+    }
 
-  -- It is new.
-  pub note_new : (index : List ℕ) → Headed area n → entries_size ≤ length area → Indexed area index (n + 1) → n ≤ found
-      → Noted (record { at = n; met = n + 1 }) area n index
-  note_new index headed room indexed l =
-      record {
-        indexed = indexed;
-        least = omega arith;
-        most = omega arith;
-        inside = omega arith;
-        equal = refl;
-        fresh = λ m nodes held blank j low numbers sets.
-            found_first area n found j is_found (omega arith)
-            (entries_equal nodes area j n held blank room (headed_first area n headed (j + 1) (omega arith))
-            (headed_first area n headed (n + 1) (omega arith)) (rises j (omega arith)) (rises n (omega arith)) numbers sets);
-      }
-    where
-      rises : (j : ℕ) → j ≤ n → entry_first area j ≤ entry_first area (j + 1)
-      rises j k = omega (arith, headed.rising j k)
+-- It is new.
+pub note_new : (area : List ℕ) (n : ℕ) (index : List ℕ) → FoundEntry area n None → Headed area n → entries_size ≤ length area
+    → Indexed area index (n + 1) → Noted (record { at = n; met = n + 1 }) area n index
+note_new area n index (no_entry is_n) headed room indexed =
+    record {
+      indexed = indexed;
+      least = omega arith;
+      most = omega arith;
+      inside = omega arith;
+      equal = refl;
+      fresh = λ m nodes held blank j low numbers sets.
+          found_first area n n j is_n low
+          (entries_equal nodes area j n held blank room (headed_first area n headed (j + 1) (omega arith))
+          (headed_first area n headed (n + 1) (omega arith)) (rises j (omega arith)) (rises n (omega arith)) numbers sets);
+    }
+  where
+    rises : (j : ℕ) → j ≤ n → entry_first area j ≤ entry_first area (j + 1)
+    rises j k = omega (arith, headed.rising j k)
 
 -- ---- begin
 

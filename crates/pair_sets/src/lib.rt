@@ -57,12 +57,7 @@ fn copy_alternatives(entries: &mut [u8], s: usize, t: usize, count: usize)
 {
     let from = SIZE * s;
     let to = SIZE * t;
-    let size = SIZE * count;
-    let mut k = 0;
-    while k < size {
-        entries[to + k] = entries[from + k];
-        k += 1;
-    }
+    entries.copy_within(from..from + SIZE * count, to);
 }
 
 // Entry n gets the number and the alternatives of entry j.
@@ -96,10 +91,8 @@ fn take_alternatives(
     requires count_in_bounds { at + alternative_bytes * count ≤ length room.now }
     ensures { Taken cells entries.old t room.now at count entries.new }
 {
-    let mut j = 0;
-    while j < count {
+    for j in 0..count {
         alternative_bytes::copy(cells, room, at + SIZE * j, entries, SIZE * (t + j));
-        j += 1;
     }
 }
 
@@ -136,9 +129,8 @@ pub fn note(entries: &[u8], index: &mut [u8], n: usize) -> Place
     ensures { Noted result entries.now n index.new }
 {
     let h = set_index::hash(entries, n);
-    let found = set_index::find(entries, index, n, h);
-    if found < n {
-        return Place { at: found, met: n };
+    if let Some(at) = set_index::find(entries, index, n, h) {
+        return Place { at, met: n };
     }
     set_index::add(entries, index, n, h);
     Place { at: n, met: n + 1 }

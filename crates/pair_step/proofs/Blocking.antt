@@ -5,7 +5,7 @@ use native.Mathlib.Decide.{dec_lt}
 use mathlib.Core.Path.{◌≡◌, refl, sym, ◌∙◌, ap, subst}
 use mathlib.Core.Logic.{inl, inr}
 use mathlib.Core.Bool.{Bool, true, false}
-use mathlib.Core.Option.{Option, none, some}
+use Rattle.std.specs.Prelude.{Option, None, Some}
 use mathlib.Core.List.{List}
 use lib.ListN.{length}
 use Rattle.base.specs.Lists.{is_there}
@@ -56,8 +56,8 @@ block_start tower area i x end graph at last bounds low space =
 
 small_blocked : (o : Option ℕ) → blocked_number o < 65536
 unfolding blocked_number
-small_blocked none = omega arith
-small_blocked (some y) = omega arith
+small_blocked None = omega arith
+small_blocked (Some y) = omega arith
 
 module _ (tower : Tower) (area : List ℕ) (i x end a : ℕ) (first graph : List ℕ) (g : Blocking tower area i x end a first graph) where
   pub block_state : entry_number area i < tower.states → x < tower.states

@@ -3,9 +3,11 @@ use Prim.Native.Nat.{ℕ, zero, suc, ◌+◌, ◌-◌, ◌*◌, ◌≤◌, ◌<�
 use native.Mathlib.Omega.{arith}
 use mathlib.Core.Path.{◌≡◌, refl, sym, ◌∙◌, ap, subst}
 use mathlib.Core.Bool.{Bool, true, false}
-use mathlib.Core.Option.{none, some}
+use Rattle.std.specs.Prelude.{None, Some}
 use mathlib.Core.List.{List, [], ◌∷◌}
 use lib.ListN.{length}
+use lib.Dec.{eqb}
+use borrow.Author.Tests.{eqb-true}
 use Rattle.base.specs.Bytes.{byte_at, number_at}
 use Rattle.base.specs.Lists.{below, count_from}
 use Rattle.logic.specs.Tower.{Tower, FitTower, tower_of, mask_of}
@@ -39,18 +41,14 @@ pub action_room_below : (tower : List ℕ) (b a : ℕ) → FitTower tower → b 
 action_room_below tower b a fit l k = omega (arith, (fit_bounds fit).actions_most)
 
 -- An earlier action is enabled, and its step is as long.
-pub earlier_found : (tower graph : List ℕ) (x i a b : ℕ) (d e : Tick) (r : Bool) → e ≡ (tower_of tower).step_length x b
-    → d ≡ (tower_of tower).step_length x a → e.0 ≡ d.0 → r ≡ is_enabled (move_at graph i b) → r ≡ true → b < a → Earlier b tower graph x i a
-earlier_found tower graph x i a b d e r at_e at_d same is_r yes_r l =
+pub earlier_found : (tower graph : List ℕ) (x i a b : ℕ) (d e : Tick) (q r : Bool) → e ≡ (tower_of tower).step_length x b
+    → d ≡ (tower_of tower).step_length x a → q ≡ eqb e.0 d.0 → q ≡ true → r ≡ is_enabled (move_at graph i b) → r ≡ true → b < a → Earlier b tower graph x i a
+earlier_found tower graph x i a b d e q r at_e at_d is_q yes_q is_r yes_r l =
     record {
-      most = omega arith;
-      enabled = λ _. sym is_r ∙ yes_r;
-      same_length = λ _. sym at_e ∙ ap (λ (n : ℕ). record { 0 = n }) same ∙ at_d;
+      before = l;
+      enabled = sym is_r ∙ yes_r;
+      same_length = sym at_e ∙ ap (λ (n : ℕ). record { 0 = n }) (eqb-true e.0 d.0 (sym is_q ∙ yes_q)) ∙ at_d;
     }
-
--- None was found.
-pub earlier_none : (tower graph : List ℕ) (x i a : ℕ) → Earlier a tower graph x i a
-earlier_none tower graph x i a = record { most = omega arith; enabled = λ l. absurd (omega arith); same_length = λ l. absurd (omega arith) }
 
 -- ---- take_over
 
@@ -120,7 +118,7 @@ unfolding alternatives_by pair_of entry_at
 by_entry tower nodes area i a book = refl
 
 -- What a move says of a step that is not broken, and of one that is, where the pair is not over_full.
-pair_at_none : (y : ℕ) (s : Alternatives) → (s ≡ over → ⊥) → pair_at y s ≡ none → s ≡ broken
+pair_at_none : (y : ℕ) (s : Alternatives) → (s ≡ over → ⊥) → pair_at y s ≡ None → s ≡ broken
 unfolding pair_at
 pair_at_none y over few e = absurd (few refl)
 pair_at_none y (these []) few e = refl
@@ -128,12 +126,12 @@ pair_at_none y (these (p ∷ ps)) few e = let z : ◌≡◌ {A = ℕ} 0 1 = cc i
 
 -- The pair that a move names is the one that the action leads to.
 pub says_leads : (tower : Tower) (book : Book) (nodes area : List ℕ) (n : ℕ) (v : Pair) (a j : ℕ) (m : Move) → SaysMove tower book nodes area n v a m
-    → m ≡ to j → (j < n) × (pair_step tower book v a ≡ some (pair_in nodes area j))
+    → m ≡ to j → (j < n) × (pair_step tower book v a ≡ Some (pair_in nodes area j))
 says_leads tower book nodes area n v a j _ (moves_not e) f = let z : ◌≡◌ {A = ℕ} 0 1 = cc in absurd (omega arith)
 says_leads tower book nodes area n v a j _ (moves_broken y e g) f = let z : ◌≡◌ {A = ℕ} 0 1 = cc in absurd (omega arith)
 says_leads tower book nodes area n v a j _ (moves_to k l e) f =
     let same : k ≡ j = cc in
-    (omega arith, e ∙ ap (λ (z : ℕ). some (pair_in nodes area z)) same)
+    (omega arith, e ∙ ap (λ (z : ℕ). Some (pair_in nodes area z)) same)
 
 module _ (tower : Tower) (book : Book) (nodes area : List ℕ) (n : ℕ) (v : Pair) (a : ℕ) (spare : over_full tower book v ≡ false)
     (few : alternatives_by tower book v a ≡ over → ⊥) where
@@ -170,11 +168,11 @@ module _ (tower table : List ℕ) (rows : Bool) (nodes area : List ℕ) (n : ℕ
   narrow : WideRight false nodes
   narrow = record { says = λ _ h. ready.sided h }
 
-  module _ (b z : ℕ) (earlier : Earlier b tower graph z i a) (l : b < a) where
+  module _ (b z : ℕ) (earlier : Earlier b tower graph z i a) where
     -- what the move of the earlier action says
     earlier_says : (h : IsHeld nodes)
         → SaysMove (walked tower table rows) h.book nodes area n (pair_in nodes area i) b (move_at graph i b)
-    earlier_says h = ready.right.says h i b (omega (arith, ready.listed)) (omega arith)
+    earlier_says h = ready.right.says h i b (omega (arith, ready.listed)) (omega (arith, earlier.before))
 
     earlier_to : (h : IsHeld nodes) (j : ℕ) → move_at graph i b ≡ to j
         → (j < n) × (alternatives_by (walked tower table rows) h.book (pair_in nodes area i) b ≡ these (pair_in nodes area j).pending)
@@ -184,13 +182,13 @@ module _ (tower table : List ℕ) (rows : Bool) (nodes area : List ℕ) (n : ℕ
     pub earlier_leads : MoveLeads graph area i b n
     earlier_leads =
         record {
-          enabled = earlier.enabled l;
+          enabled = earlier.enabled;
           inside = λ j e. (earlier_to ready.world.held j e).0;
           few = λ j e. omega (arith, ready.filled.single refl j (earlier_to ready.world.held j e).0);
         }
 
     pub earlier_room : b < 16
-    earlier_room = omega (arith, ready.listed, ready.world.files.search.actions_most)
+    earlier_room = omega (arith, earlier.before, ready.listed, ready.world.files.search.actions_most)
 
     module _ (x : ℕ) (at-z : z ≡ tower_state table rows x) (at_x : x ≡ entry_number area i) where
       -- the steps are of one length
@@ -199,7 +197,7 @@ module _ (tower table : List ℕ) (rows : Bool) (nodes area : List ℕ) (n : ℕ
           ap (λ (y : ℕ). (walked tower table rows).step_length y b) (sym at_x)
           ∙ walked_length tower table rows x b
           ∙ ap (λ (y : ℕ). (tower_of tower).step_length y b) (sym at-z)
-          ∙ earlier.same_length l
+          ∙ earlier.same_length
           ∙ ap (λ (y : ℕ). (tower_of tower).step_length y a) at-z
           ∙ sym (walked_length tower table rows x a)
           ∙ ap (λ (y : ℕ). (walked tower table rows).step_length y a) at_x
@@ -276,7 +274,7 @@ module _ (tower table : List ℕ) (rows : Bool) (nodes : List ℕ) (wide : Bool)
   enter_open =
       filled_open (walked tower table rows) nodes wide area n was.turning.world.held was.turning.filled was.turning.light
 
-  pub enter_room : (y : ℕ) → (walked tower table rows).target (entry_number area i) a ≡ some y → wide ≡ true
+  pub enter_room : (y : ℕ) → (walked tower table rows).target (entry_number area i) a ≡ Some y → wide ≡ true
       → a < (walked tower table rows).actions → RoomFor room a
   enter_room y goes e listed =
       let waits = (was.waiting e).waits a y listed goes in
@@ -288,13 +286,13 @@ module _ (tower table : List ℕ) (rows : Bool) (nodes : List ℕ) (wide : Bool)
       }
 
   -- The number of the state that is reached takes two bytes at most.
-  pub target_small : (y : ℕ) → (walked tower table rows).target (entry_number area i) a ≡ some y → y < 65536
+  pub target_small : (y : ℕ) → (walked tower table rows).target (entry_number area i) a ≡ Some y → y < 65536
   target_small y goes =
       let bounds = was.turning.world.files.search in
       omega (arith, bounds.states_most, bounds.targets (entry_number area i) a y (was.turning.filled.states i was.turning.low) goes)
 
   pub enter_waited : (number : ℕ) (b : Bool) (after : List ℕ) → Entered b nodes area number n (these (waiting_set nodes room a)) after → wide ≡ true
-      → a < (walked tower table rows).actions → (walked tower table rows).target (entry_number area i) a ≡ some number
+      → a < (walked tower table rows).actions → (walked tower table rows).target (entry_number area i) a ≡ Some number
       → NextEntered b (walked tower table rows) nodes area i a number n after
   enter_waited number b after entered e listed goes =
       record {

@@ -6,7 +6,8 @@ use native.Mathlib.Decide.{dec_lt}
 use mathlib.Core.Path.{◌≡◌, refl, sym, ◌∙◌, ap, ap₂, subst}
 use mathlib.Core.Logic.{inl, inr}
 use mathlib.Core.Bool.{Bool, true, false}
-use mathlib.Core.Option.{none, some, bind}
+use Rattle.std.specs.Prelude.{None, Some}
+use Rattle.base.specs.Options.{bind}
 use mathlib.Core.List.{List, [], ◌∷◌}
 use lib.ListN.{length}
 use mir.Syntax.{w64}
@@ -18,9 +19,7 @@ use Rattle.alternatives.specs.Alternatives.{these}
 use Rattle.alternatives.specs.Pairs.{Pair, same_pair, alternatives_by, over_full, pair_at, tried_step, pair_step}
 use Rattle.alternatives.proofs.Steps.{tried_step_at, pair_step_spare}
 use Rattle.book_progression.specs.NodeBytes.{IsHeld}
-use Rattle.file_tower.specs.TowerRead.{target_read}
-use Rattle.file_tower.specs.declared.Reached.{Reached}
-use Rattle.file_tower.specs.declared.Reached.TheVariants.{State, NotEnabled}
+use Rattle.std.specs.Prelude.{Option}
 use Rattle.file_tower.proofs.Laws.{state_reached, none_reached}
 use Rattle.area_bytes.proofs.Numbers.{stored, stored_read, stored_beside}
 use Rattle.set_index.specs.Entries.{entries_size, entry_number, entry_first, entry_at, Headed, Indexed}
@@ -58,10 +57,14 @@ move_fits out area n k index few noted most = omega (arith, noted.inside, noted.
 
 -- ---- the ways of `follow`
 
-module _ (tower : Tower) (nodes : List ℕ) (wide : Bool) (area : List ℕ) (i a n x : ℕ) (r : Reached) (at_r : r ≡ target_read (tower.target x a))
+-- The number of the move to pair j.
+pub move_more : (j : ℕ) → move_of (j + 2) ≡ to j
+move_more j = unfold move_of in (rw (add-two j))
+
+module _ (tower : Tower) (nodes : List ℕ) (wide : Bool) (area : List ℕ) (i a n x : ℕ) (r : Option ℕ) (at_r : r ≡ (tower.target x a))
     (at_x : x ≡ entry_number area i) where
   -- The action is not enabled.
-  pub follow_not : (index : List ℕ) → r ≡ NotEnabled → PairsFilled tower nodes wide area n → Indexed area index n
+  pub follow_not : (index : List ℕ) → r ≡ None → PairsFilled tower nodes wide area n → Indexed area index n
       → ((h : IsHeld nodes) → over_full tower h.book (pair_in nodes area i) ≡ false)
       → ActionFollowed (record { code = 0; met = n }) tower nodes wide area i a n area index
   unfolding with_one tried_step bind move_of
@@ -77,18 +80,18 @@ module _ (tower : Tower) (nodes : List ℕ) (wide : Bool) (area : List ℕ) (i a
         says = λ h. moves_not nowhere;
       }
     where
-      nowhere : tower.target (pair_in nodes area i).state a ≡ none
+      nowhere : tower.target (pair_in nodes area i).state a ≡ None
       nowhere = ap (λ (z : ℕ). tower.target z a) (state_of_pair nodes area i ∙ sym at_x) ∙ none_reached (tower.target x a) r at_r is
 
 -- It is.
-pub follow_goes : (tower : Tower) (area : List ℕ) (i a x y : ℕ) (r : Reached) → r ≡ target_read (tower.target x a) → x ≡ entry_number area i
-    → r ≡ State y → tower.target (entry_number area i) a ≡ some y
+pub follow_goes : (tower : Tower) (area : List ℕ) (i a x y : ℕ) (r : Option ℕ) → r ≡ (tower.target x a) → x ≡ entry_number area i
+    → r ≡ Some y → tower.target (entry_number area i) a ≡ Some y
 follow_goes tower area i a x y r at_r at_x is = ap (λ (z : ℕ). tower.target z a) (sym at_x) ∙ state_reached (tower.target x a) r y at_r is
 
 -- ---- the ways of `look_up`
 
 -- Alternatives that are left make a pair.
-pair_at_left : (y : ℕ) (ps : List Pending) → 0 < length ps → pair_at y (these ps) ≡ some (record { state = y; pending = ps })
+pair_at_left : (y : ℕ) (ps : List Pending) → 0 < length ps → pair_at y (these ps) ≡ Some (record { state = y; pending = ps })
 unfolding pair_at
 pair_at_left y [] l = absurd (omega arith)
 pair_at_left y (p ∷ ps) l = refl
@@ -96,8 +99,8 @@ pair_at_left y (p ∷ ps) l = refl
 module _ (tower table : List ℕ) (rows : Bool) (nodes : List ℕ) (wide : Bool) (area : List ℕ) (n : ℕ) (index graph room : List ℕ) (i a y : ℕ) (b : Bool)
     (after : List ℕ) (entered : NextEntered b (walked tower table rows) nodes area i a y n after)
     (was : Searching tower table rows nodes wide area n index graph room i (i + 1) (16 * i + a))
-    (goes : (walked tower table rows).target (entry_number area i) a ≡ some y) where
-  leads : (walked tower table rows).target (pair_in nodes area i).state a ≡ some y
+    (goes : (walked tower table rows).target (entry_number area i) a ≡ Some y) where
+  leads : (walked tower table rows).target (pair_in nodes area i).state a ≡ Some y
   leads = ap (λ (z : ℕ). (walked tower table rows).target z a) (state_of_pair nodes area i) ∙ goes
 
   -- the pair that it leads to
@@ -126,7 +129,7 @@ module _ (tower table : List ℕ) (rows : Bool) (nodes : List ℕ) (wide : Bool)
         says = λ h. moves_broken y leads (nothing h);
       }
     where
-      nothing : (h : IsHeld nodes) → pair_step (walked tower table rows) h.book (pair_in nodes area i) a ≡ none
+      nothing : (h : IsHeld nodes) → pair_step (walked tower table rows) h.book (pair_in nodes area i) a ≡ None
       nothing h = unfold pair_at in (step_pair h ∙ ap (pair_at y) ((entered.says h).none_left f))
 
   -- It leads to entry n.
@@ -137,10 +140,10 @@ module _ (tower table : List ℕ) (rows : Bool) (nodes : List ℕ) (wide : Bool)
     some_left : 0 < length (entry_set nodes after n)
     some_left = omega (arith, entry_set_length nodes after n, (entered.headed f).rising n (omega arith))
 
-    leads_here : (h : IsHeld nodes) → pair_step (walked tower table rows) h.book (pair_in nodes area i) a ≡ some (pair_in nodes after n)
+    leads_here : (h : IsHeld nodes) → pair_step (walked tower table rows) h.book (pair_in nodes area i) a ≡ Some (pair_in nodes after n)
     leads_here h =
         step_pair h ∙ ap (pair_at y) (holds h).set_is ∙ pair_at_left y (entry_set nodes after n) some_left
-        ∙ ap some (pair_is h)
+        ∙ ap Some (pair_is h)
       where
         pair_is : (h : IsHeld nodes) → record { state = y; pending = entry_set nodes after n } ≡ pair_in nodes after n
         pair_is h =
@@ -183,15 +186,12 @@ module _ (tower table : List ℕ) (rows : Bool) (nodes : List ℕ) (wide : Bool)
           small = omega (arith, noted.inside, noted.most, was.turning.most);
           grown = λ h.
               noted_pairs nodes h after n later out still_filled.blank noted
-              ∙ ap (λ z. with_one same_pair z (some (pair_in nodes after n))) (pairs_same nodes after area n entered.stays.kept)
+              ∙ ap (λ z. with_one same_pair z (Some (pair_in nodes after n))) (pairs_same nodes after area n entered.stays.kept)
               ∙ ap (with_one same_pair (pairs_of nodes area n)) (sym (leads_here h));
           says = λ h. subst (λ z. SaysMove (walked tower table rows) h.book nodes after out.met (pair_in nodes area i) a z) (sym (move_more out.at))
               (moves_to out.at noted.inside
-              (leads_here h ∙ ap some (ap (pair_of nodes) (sym noted.equal))));
+              (leads_here h ∙ ap Some (ap (pair_of nodes) (sym noted.equal))));
         }
-      where
-        move_more : (j : ℕ) → move_of (j + 2) ≡ to j
-        move_more j = unfold move_of in (rw (add-two j))
 
 -- ---- the move
 
@@ -213,7 +213,7 @@ says_still : (tower : Tower) (book : Book) (nodes area : List ℕ) (n : ℕ) (v 
 says_still tower book nodes area n v a after m l kept _ (moves_not e) = moves_not e
 says_still tower book nodes area n v a after m l kept _ (moves_broken y e f) = moves_broken y e f
 says_still tower book nodes area n v a after m l kept _ (moves_to j k e) =
-    moves_to j (omega arith) (e ∙ ap (λ z. some (pair_of nodes z)) (sym (kept j k)))
+    moves_to j (omega arith) (e ∙ ap (λ z. Some (pair_of nodes z)) (sym (kept j k)))
 
 module _ (tower : Tower) (nodes : List ℕ) (wide : Bool) (area : List ℕ) (i a n : ℕ) (graph after index after_graph : List ℕ) (way : Way)
     (followed : ActionFollowed way tower nodes wide area i a n after index) (written : after_graph ≡ stored graph (cell i a) way.code)

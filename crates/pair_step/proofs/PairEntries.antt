@@ -4,7 +4,7 @@ use native.Mathlib.Omega.{arith}
 use native.Mathlib.Numerals.{add-one}
 use mathlib.Core.Path.{◌≡◌, refl, sym, ◌∙◌, ap}
 use mathlib.Core.Bool.{Bool, false}
-use mathlib.Core.Option.{Option, none, some}
+use Rattle.std.specs.Prelude.{Option, None, Some}
 use mathlib.Core.List.{List, [], ◌∷◌, ◌++◌, map, map-append}
 use lib.ListN.{length, get_or}
 use Rattle.base.specs.Lists.{below, count_from, total}
@@ -92,7 +92,7 @@ get_or_there (x ∷ xs) (suc i) d e l = get_or_there xs i d e (omega arith)
 
 -- Entry n is looked up: the pairs are then those of before, with this one if it is new.
 pub noted_pairs : (nodes : List ℕ) → IsHeld nodes → (area : List ℕ) (n : ℕ) (index : List ℕ) (out : Place) → Blank nodes area → Noted out area n index
-    → pairs_of nodes area out.met ≡ with_one same_pair (pairs_of nodes area n) (some (pair_in nodes area n))
+    → pairs_of nodes area out.met ≡ with_one same_pair (pairs_of nodes area n) (Some (pair_in nodes area n))
 unfolding pairs_of with_one
 noted_pairs nodes held area n index out blank noted =
     noted_values (pair_of nodes) same_pair same_pair_eq same_pair_refl nodes held (λ x y e. number_same x y e) (λ x y e. set_same x y e) area n index out
@@ -151,13 +151,13 @@ list_of_one (p ∷ (q ∷ ps)) e = absurd (omega arith)
 
 single_one : (o : Option Pending) (qs : List Pending) → single o ≡ these qs → 0 < length qs → length qs ≡ 1
 unfolding single
-single_one none qs e l = let f : ◌≡◌ {A = List Pending} [] qs = cc in absurd (omega (arith, ap length f))
-single_one (some p) qs e l = let f : (p ∷ []) ≡ qs = cc in sym (ap length f)
+single_one None qs e l = let f : ◌≡◌ {A = List Pending} [] qs = cc in absurd (omega (arith, ap length f))
+single_one (Some p) qs e l = let f : (p ∷ []) ≡ qs = cc in sym (ap length f)
 
 single_few : (o : Option Pending) → single o ≡ over → ⊥
 unfolding single
-single_few none e = let z : ◌≡◌ {A = ℕ} 0 1 = cc in omega arith
-single_few (some p) e = let z : ◌≡◌ {A = ℕ} 0 1 = cc in omega arith
+single_few None e = let z : ◌≡◌ {A = ℕ} 0 1 = cc in omega arith
+single_few (Some p) e = let z : ◌≡◌ {A = ℕ} 0 1 = cc in omega arith
 
 module _ (tower : Tower) (book : Book) (sided : OneSided book) where
   -- Such a pair is not over_full.

@@ -1,6 +1,6 @@
 -- Pairs as entries of a lent area, and where one action leads from one of them. An entry holds the state and the alternatives.
 use Rattle.std.specs.Prelude.{ℕ, ◌+◌, ◌*◌, ◌≤◌, ◌<◌, ◌≡◌, Bool, true, false, List, [], ◌∷◌, ◌++◌, map, length}
-use Rattle.std.proofs.Math.Option.{Option, none, some}
+use Rattle.std.specs.Prelude.{Option, None, Some}
 use Rattle.base.specs.Choice.{pick}
 use Rattle.base.specs.Bytes.{byte_at}
 use Rattle.base.specs.Lists.{some_of}
@@ -26,8 +26,8 @@ pairs_of nodes area n = map (pair_of nodes) (entries_of area n)
 
 -- those seen, with the one that is there if it is new
 unfoldable pub with_one : {X : Type 0} → (X → X → Bool) → List X → Option X → List X
-with_one same seen none = seen
-with_one same seen (some x) = pick (some_of (same x) seen) (λ _. seen) (λ _. seen ++ (x ∷ []))
+with_one same seen None = seen
+with_one same seen (Some x) = pick (some_of (same x) seen) (λ _. seen) (λ _. seen ++ (x ∷ []))
 
 -- There is room for all entries; the first n have states of the tower, and one alternative or more; where no `|` of the book has two timed sides,
 -- one. The rest of every alternative is blank.
@@ -47,9 +47,9 @@ pub record WideRight (wide : Bool) (nodes : List ℕ) : Type 0 where
 
 -- What a move says of action a from pair v, where the first n entries are the pairs.
 pub data SaysMove (tower : Tower) (book : Book) (nodes area : List ℕ) (n : ℕ) (v : Pair) (a : ℕ) : Move → Type 0 where
-  moves_not : tower.target v.state a ≡ none → SaysMove tower book nodes area n v a not_enabled
-  moves_broken : (y : ℕ) → tower.target v.state a ≡ some y → pair_step tower book v a ≡ none → SaysMove tower book nodes area n v a broken
-  moves_to : (j : ℕ) → j < n → pair_step tower book v a ≡ some (pair_in nodes area j) → SaysMove tower book nodes area n v a (to j)
+  moves_not : tower.target v.state a ≡ None → SaysMove tower book nodes area n v a not_enabled
+  moves_broken : (y : ℕ) → tower.target v.state a ≡ Some y → pair_step tower book v a ≡ None → SaysMove tower book nodes area n v a broken
+  moves_to : (j : ℕ) → j < n → pair_step tower book v a ≡ Some (pair_in nodes area j) → SaysMove tower book nodes area n v a (to j)
 
 -- The graph is right as far as it is written: the states of the first s pairs, and the moves before number k, 16 for each pair in turn.
 pub record RightGraph (tower : Tower) (nodes area : List ℕ) (n : ℕ) (graph : List ℕ) (s k : ℕ) : Type 0 where
@@ -83,8 +83,8 @@ pub record Searching (tower table : List ℕ) (rows : Bool) (nodes : List ℕ) (
 
 -- the number of its move: broken by an enabled action
 unfoldable pub blocked_number : Option ℕ → ℕ
-blocked_number none = 0
-blocked_number (some y) = 1
+blocked_number None = 0
+blocked_number (Some y) = 1
 
 -- Its moves by the first k actions are written. Every other move of a pair before it stays, and so do the states.
 pub record Blocked (tower : Tower) (area : List ℕ) (i k : ℕ) (graph after : List ℕ) : Type 0 where
@@ -95,11 +95,11 @@ pub record Blocked (tower : Tower) (area : List ℕ) (i k : ℕ) (graph after : 
 
 -- ---- what is pending behind one step
 
--- An earlier action than a of pair i that is enabled there, with a step of the same length; a itself if none was found.
+-- Action b is before a and enabled in pair i, with a step of the same length.
 pub record Earlier (b : ℕ) (tower graph : List ℕ) (x i a : ℕ) : Type 0 where
-  pub most : b ≤ a
-  pub enabled : b < a → is_enabled (move_at graph i b) ≡ true
-  pub same_length : b < a → (tower_of tower).step_length x b ≡ (tower_of tower).step_length x a
+  pub before : b < a
+  pub enabled : is_enabled (move_at graph i b) ≡ true
+  pub same_length : (tower_of tower).step_length x b ≡ (tower_of tower).step_length x a
 
 -- The move of action b from pair i is written, b is enabled there, and the move leads to one of the first n pairs if to any, with few
 -- alternatives.

@@ -4,8 +4,8 @@
 // action.
 #![tactic(auto)]
 
-ghost use Rattle.std.specs.Prelude.{◌+◌, ◌*◌, ◌<◌, ◌≤◌, ◌≡◌, true, length};
-ghost use Rattle.std.proofs.Math.Option.{some};
+ghost use Rattle.std.specs.Prelude.{◌+◌, ◌*◌, ◌<◌, ◌≤◌, ◌≡◌, true, length, IfSome};
+ghost use Rattle.std.specs.Prelude.{Some};
 ghost use Rattle.logic.specs.Tower.{FitTower, tower_of};
 ghost use Rattle.alternatives.specs.Alternatives.{these};
 ghost use Rattle.set_index.specs.Entries.{entries_size, entry_number};
@@ -14,8 +14,6 @@ ghost use Rattle.pair_trial.specs.Walked.{walked, Files};
 ghost use Rattle.pair_trial.specs.Trial.{waiting_set};
 ghost use Rattle.pair_graph.specs.Steps.{graph_size, pair_room, action_room};
 ghost use Rattle.pair_step.specs.Stepped.{Searching, blocked_number, Blocked, Earlier, MoveLeads, TakenOver, Single, RoomFor, NextEntered, ActionFollowed, Stepped};
-
-use file_tower::Reached;
 
 // Where an action leads, as the number of its move, and how many pairs are met then.
 #[derive(Clone, Copy)]
@@ -26,29 +24,26 @@ struct Way {
 
 // ---- what is pending behind a step
 
-// An action before a that is enabled in pair i and whose step from the tower's state x is as long as
-// that of a; or a, if there is none.
-fn earlier(tower: &[u8], graph: &[u8], x: usize, i: usize, a: usize) -> usize
+// An action before a that is enabled in pair i and whose step from the tower's state x is as long as that
+// of a, if there is one.
+fn earlier(tower: &[u8], graph: &[u8], x: usize, i: usize, a: usize) -> Option<usize>
     requires fit_tower { FitTower tower.now }
     requires x_bound { x < (tower_of tower.now).states }
     requires a_bound { a < (tower_of tower.now).actions }
     requires graph_size_in_bounds { graph_size ≤ length graph.now }
     requires i_lt_pair_room { i < pair_room }
-    ensures { Earlier result tower.now graph.now x i a }
+    ensures { IfSome result (λ b. Earlier b tower.now graph.now x i a) }
 {
     let d = file_tower::step_length(tower, x, a);
-    let mut b = 0;
-    while b < a {
-        let at = b;
-        b += 1;
-        let e = file_tower::step_length(tower, x, at);
-        if e.0 == d.0 {
-            if pair_graph::enabled(graph, i, at) {
-                return at;
+    for b in 0..a {
+        let e = file_tower::step_length(tower, x, b);
+        if e == d {
+            if pair_graph::enabled(graph, i, b) {
+                return Some(b);
             }
         }
     }
-    a
+    None
 }
 
 // Entry n gets the number, and what is pending behind the step of action b from pair i, whose move is
@@ -123,8 +118,7 @@ fn enter_single(
 {
     let x = set_index::number(pairs, i);
     let z = pair_trial::tower_state(tower, table, rows, x);
-    let b = earlier(tower, graph, z, i, a);
-    if b < a {
+    if let Some(b) = earlier(tower, graph, z, i, a) {
         return take_over(nodes, pairs, graph, i, b, number, n);
     }
     let d = file_tower::step_length(tower, z, a);
@@ -151,7 +145,7 @@ fn enter(
 ) -> bool
     requires searching { Searching tower.now table.now rows nodes.now wide pairs.old n index.now graph.now room.now i (i + 1) (16 * i + a) }
     requires a_bound { a < (walked tower.now table.now rows).actions }
-    requires a_value { (walked tower.now table.now rows).target (entry_number pairs.old i) a ≡ some number }
+    requires a_value { (walked tower.now table.now rows).target (entry_number pairs.old i) a ≡ Some number }
     ensures { NextEntered result (walked tower.now table.now rows) nodes.now pairs.old i a number n pairs.new }
 {
     if wide {
@@ -186,11 +180,9 @@ pub fn block(tower: &[u8], table: &[u8], rows: bool, pairs: &[u8], graph: &mut [
 {
     let x = set_index::number(pairs, i);
     let actions = file_tower::actions(tower);
-    let mut a = 0;
-    while a < actions {
+    for a in 0..actions {
         let code = blocked_code(tower, table, rows, x, a);
         pair_graph::put_move(graph, i, a, code);
-        a += 1;
     }
 }
 
@@ -215,7 +207,7 @@ fn look_up(
 ) -> Way
     requires searching { Searching tower.now table.now rows nodes.now wide pairs.old n index.old graph.now room.now i (i + 1) (16 * i + a) }
     requires a_bound { a < (walked tower.now table.now rows).actions }
-    requires a_value { (walked tower.now table.now rows).target (entry_number pairs.old i) a ≡ some y }
+    requires a_value { (walked tower.now table.now rows).target (entry_number pairs.old i) a ≡ Some y }
     ensures { ActionFollowed result (walked tower.now table.now rows) nodes.now wide pairs.old i a n pairs.new index.new }
 {
     if !enter(
@@ -252,13 +244,15 @@ fn lead(
 ) -> Way
     requires searching { Searching tower.now table.now rows nodes.now wide pairs.old n index.old graph.now room.now i (i + 1) (16 * i + a) }
     requires a_bound { a < (walked tower.now table.now rows).actions }
-    requires a_value { (walked tower.now table.now rows).target (entry_number pairs.old i) a ≡ some y }
+    requires a_value { (walked tower.now table.now rows).target (entry_number pairs.old i) a ≡ Some y }
     ensures { ActionFollowed result (walked tower.now table.now rows) nodes.now wide pairs.old i a n pairs.new index.new }
 {
     if wide {
-        let m = pair_repeats::led_before(pairs, graph, room, i, a, y);
-        if pair_graph::FIRST_PAIR <= m {
-            return Way { code: m, met: n };
+        if let Some(j) = pair_repeats::led_before(pairs, graph, room, i, a, y) {
+            return Way {
+                code: j + pair_graph::FIRST_PAIR,
+                met: n,
+            };
         }
     }
     look_up(
@@ -286,12 +280,11 @@ fn follow(
     ensures { ActionFollowed result (walked tower.now table.now rows) nodes.now wide pairs.old i a n pairs.new index.new }
 {
     let x = set_index::number(pairs, i);
-    let reached = pair_trial::target(tower, table, rows, x, a);
-    match reached {
-        Reached::State(y) => lead(
+    match pair_trial::target(tower, table, rows, x, a) {
+        Some(y) => lead(
             tower, table, rows, nodes, wide, pairs, index, graph, room, i, a, y, n,
         ),
-        Reached::NotEnabled => Way {
+        None => Way {
             code: pair_graph::NOT_ENABLED,
             met: n,
         },

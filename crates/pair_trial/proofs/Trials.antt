@@ -1,10 +1,12 @@
 -- A pair is tried: the ways of each function.
 use Prim.Native.Nat.{ℕ, ◌+◌, ◌-◌, ◌*◌, ◌≤◌, ◌<◌}
 use native.Mathlib.Omega.{arith}
+use borrow.Author.Tests.{eqb-true}
+use lib.Dec.{eqb}
 use native.Mathlib.Decide.{dec_lt}
 use mathlib.Core.Path.{◌≡◌, refl, sym, ◌∙◌, ap, ap₂, subst}
 use mathlib.Core.Bool.{Bool, true, false}
-use mathlib.Core.Option.{none, some}
+use Rattle.std.specs.Prelude.{None, Some}
 use mathlib.Core.List.{List}
 use lib.ListN.{length}
 use Rattle.base.specs.Lists.{is_there, there_with, below, some_of}
@@ -38,23 +40,20 @@ action_before tower table rows b a l k = omega arith
 pub action_before_tower : (tower table : List ℕ) (rows : Bool) (b a : ℕ) → b < a → a < (walked tower table rows).actions → b < (tower_of tower).actions
 action_before_tower tower table rows b a l k = omega (arith, walked_actions tower table rows)
 
-pub before_found : (tower table : List ℕ) (rows : Bool) (x z a b : ℕ) (d e : Tick) (r : Bool) → e ≡ (tower_of tower).step_length z b
-    → d ≡ (tower_of tower).step_length z a → e.0 ≡ d.0 → r ≡ is_there ((walked tower table rows).target x b) → r ≡ true
+pub before_found : (tower table : List ℕ) (rows : Bool) (x z a b : ℕ) (d e : Tick) (q r : Bool) → e ≡ (tower_of tower).step_length z b
+    → d ≡ (tower_of tower).step_length z a → q ≡ eqb e.0 d.0 → q ≡ true → r ≡ is_there ((walked tower table rows).target x b) → r ≡ true
     → z ≡ tower_state table rows x → b < a → TriedBefore b (walked tower table rows) x a
-before_found tower table rows x z a b d e r at_e at_d same is_r yes_r at-z l =
+before_found tower table rows x z a b d e q r at_e at_d is_q yes_q is_r yes_r at-z l =
     record {
-      most = omega arith;
-      enabled = λ _. is_there_out ((walked tower table rows).target x b) (sym is_r ∙ yes_r);
-      same_length = λ _.
+      earlier = l;
+      enabled = is_there_out ((walked tower table rows).target x b) (sym is_r ∙ yes_r);
+      same_length =
           walked_length tower table rows x b
           ∙ ap (λ y. (tower_of tower).step_length y b) (sym at-z)
-          ∙ sym at_e ∙ ap (λ (n : ℕ). record { 0 = n }) same ∙ at_d
+          ∙ sym at_e ∙ ap (λ (n : ℕ). record { 0 = n }) (eqb-true e.0 d.0 (sym is_q ∙ yes_q)) ∙ at_d
           ∙ ap (λ y. (tower_of tower).step_length y a) at-z
           ∙ sym (walked_length tower table rows x a);
     }
-
-pub before_none : (tower : Tower) (x a : ℕ) → TriedBefore a tower x a
-before_none tower x a = record { most = omega arith; enabled = λ l. absurd (omega arith); same_length = λ l. absurd (omega arith) }
 
 -- ---- try_step
 
@@ -130,11 +129,11 @@ by_length tower nodes area i a b book same =
 
 -- One action more waits.
 module _ (tower : Tower) (nodes area : List ℕ) (i a : ℕ) (room after : List ℕ) (held : IsHeld nodes) (low : a < 16) (space : room_size ≤ length room) where
-  one_more_waits : OthersWait a room after → ((y : ℕ) → tower.target (entry_number area i) a ≡ some y → Waits tower nodes area i after a)
+  one_more_waits : OthersWait a room after → ((y : ℕ) → tower.target (entry_number area i) a ≡ Some y → Waits tower nodes area i after a)
       → Trying tower nodes area i room a → Trying tower nodes area i after (a + 1)
   one_more_waits others here trying = record { waits = λ b y l e. go b y l e (dec_lt b a) }
     where
-      go : (b y : ℕ) → b < a + 1 → tower.target (entry_number area i) b ≡ some y → Dec (b < a) → Waits tower nodes area i after b
+      go : (b y : ℕ) → b < a + 1 → tower.target (entry_number area i) b ≡ Some y → Dec (b < a) → Waits tower nodes area i after b
       go b y l e (yes m) =
           let was = trying.waits b y m e in
           record {
@@ -144,7 +143,7 @@ module _ (tower : Tower) (nodes area : List ℕ) (i a : ℕ) (room after : List 
           }
       go b y l e (no m) =
           let same : b ≡ a = omega arith in
-          subst (λ (c : ℕ). Waits tower nodes area i after c) (sym same) (here y (subst (λ (c : ℕ). tower.target (entry_number area i) c ≡ some y) same e))
+          subst (λ (c : ℕ). Waits tower nodes area i after c) (sym same) (here y (subst (λ (c : ℕ). tower.target (entry_number area i) c ≡ Some y) same e))
 
 -- In the room nothing has changed.
 others_stay : (a : ℕ) (room : List ℕ) → OthersWait a room room
@@ -163,20 +162,20 @@ try_not tower table rows nodes area i a x room r is_r no_r at_x trial listed spa
           (others_stay a room) (λ y e. none-some nowhere e) trying;
     }
   where
-    nowhere : (walked tower table rows).target (entry_number area i) a ≡ none
+    nowhere : (walked tower table rows).target (entry_number area i) a ≡ None
     nowhere = ap (λ (y : ℕ). (walked tower table rows).target y a) (sym at_x) ∙ not_there ((walked tower table rows).target x a) (sym is_r ∙ no_r)
 
 -- What waits of an earlier one waits of it too.
 pub try_shared : (tower table : List ℕ) (rows : Bool) (nodes area : List ℕ) (i a b x : ℕ) (room after : List ℕ) → Shared a b room after
-    → TriedBefore b (walked tower table rows) x a → b < a → ActionTrial tower table rows nodes area i x a → room_size ≤ length room
+    → TriedBefore b (walked tower table rows) x a → ActionTrial tower table rows nodes area i x a → room_size ≤ length room
     → Tried false (walked tower table rows) nodes area i a room after
-try_shared tower table rows nodes area i a b x room after shared before l ready space =
+try_shared tower table rows nodes area i a b x room after shared before ready space =
     record {
       enabled = λ e. absurd (let y : ◌≡◌ {A = ℕ} 0 1 = cc in omega arith);
       over_16 = λ e. absurd (let y : ◌≡◌ {A = ℕ} 0 1 = cc in omega arith);
       waiting = λ _ trying.
           one_more_waits (walked tower table rows) nodes area i a room after trial.world.held low space shared.others
-          (λ y e. here (trying.waits b (before.enabled l).0 l enabled)) trying;
+          (λ y e. here (trying.waits b before.enabled.0 before.earlier enabled)) trying;
     }
   where
     trial : Trial tower table rows nodes area i
@@ -188,11 +187,11 @@ try_shared tower table rows nodes area i a b x room after shared before l ready 
     low : a < 16
     low = omega (arith, trial.world.files.search.actions_most, ready.listed)
 
-    enabled : (walked tower table rows).target (entry_number area i) b ≡ some (before.enabled l).0
-    enabled = ap (λ (y : ℕ). (walked tower table rows).target y b) (sym at_x) ∙ (before.enabled l).1
+    enabled : (walked tower table rows).target (entry_number area i) b ≡ Some before.enabled.0
+    enabled = ap (λ (y : ℕ). (walked tower table rows).target y b) (sym at_x) ∙ before.enabled.1
 
     one_length : (walked tower table rows).step_length (entry_number area i) b ≡ (walked tower table rows).step_length (entry_number area i) a
-    one_length = ap₂ (λ (y z : ℕ). (walked tower table rows).step_length y z) (sym at_x) refl ∙ before.same_length l
+    one_length = ap₂ (λ (y z : ℕ). (walked tower table rows).step_length y z) (sym at_x) refl ∙ before.same_length
         ∙ ap₂ (λ (y z : ℕ). (walked tower table rows).step_length y z) at_x refl
 
     here : Waits (walked tower table rows) nodes area i room b → Waits (walked tower table rows) nodes area i after a
@@ -202,7 +201,7 @@ try_shared tower table rows nodes area i a b x room after shared before l ready 
           place = omega (arith, was.place, shared.place);
           is = λ h.
               by_length (walked tower table rows) nodes area i a b h.book one_length
-              ∙ was.is h ∙ ap these (sym (waits_too nodes room after a b trial.world.held shared l low space was.few was.place));
+              ∙ was.is h ∙ ap these (sym (waits_too nodes room after a b trial.world.held shared before.earlier low space was.few was.place));
         }
 
 -- It is tried for the first time.
@@ -234,7 +233,7 @@ try_stepped full tower table rows nodes area i a x z room after stepped at-z rea
     low : a < 16
     low = omega (arith, trial.world.files.search.actions_most, ready.listed)
 
-    there : (y : ℕ) × ((walked tower table rows).target x a ≡ some y)
+    there : (y : ℕ) × ((walked tower table rows).target x a ≡ Some y)
     there = is_there_out ((walked tower table rows).target x a) ready.enabled
 
     step : StepTried full tower nodes area i (tower_state table rows x) a room after

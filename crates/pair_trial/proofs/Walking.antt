@@ -3,7 +3,7 @@ use Prim.Native.Nat.{ℕ, ◌<◌}
 use native.Mathlib.Omega.{arith}
 use mathlib.Core.Path.{◌≡◌, refl, sym, ◌∙◌, ap, subst}
 use mathlib.Core.Bool.{Bool, true, false}
-use mathlib.Core.Option.{Option, some}
+use Rattle.std.specs.Prelude.{Option, Some}
 use mathlib.Core.List.{List}
 use Rattle.base.specs.Lists.{is_there}
 use Rattle.base.proofs.Lists.{is_there_in, there_not}
@@ -13,13 +13,8 @@ use Rattle.logic.specs.TableFile.{most_rows}
 use Rattle.reading.specs.TableReading.{rows_of, row_first, row_count, table_states, row_state, row_of_table, header_right, laid_out, table_of}
 use Rattle.reading.proofs.LaidOut.{length_table_of, row_of_table_at}
 use Rattle.book_progression.specs.NodeBytes.{MarkedState}
-use Rattle.file_tower.specs.TowerRead.{target_read}
-use Rattle.file_tower.specs.declared.Reached.{Reached}
-use Rattle.file_tower.specs.declared.Reached.TheVariants.{State, NotEnabled}
+use Rattle.std.specs.Prelude.{None}
 use Rattle.file_tower.proofs.Laws.{fit_bounds, state_reached, none_reached}
-use Rattle.file_table.specs.Moves as Table
-use Rattle.file_table.specs.declared.Target.{Target}
-use Rattle.file_table.specs.declared.Target.TheVariants.{Row, Nothing}
 use Rattle.file_table.proofs.Laws.{header_of, laid_out_known, move_read, step_to_from, target_row, target_nothing}
 use Rattle.pair_trial.specs.Walked.{walked, tower_state, Searchable, TowerWithBook, Files, Walkable}
 
@@ -59,7 +54,7 @@ unfolding row_of_table
 row_state_at table r l = rw (row_of_table_at table r l)
 
 -- An action leads from a row to a row.
-row_led : (table : List ℕ) → laid_out table ≡ true → (r a s : ℕ) → r < rows_of table → move (table_of table) r a ≡ some s → s < rows_of table
+row_led : (table : List ℕ) → laid_out table ≡ true → (r a s : ℕ) → r < rows_of table → move (table_of table) r a ≡ Some s → s < rows_of table
 row_led table layout r a s l e =
     let known = laid_out_known table layout in
     let allowing = step_to_from table (row_count table r) (row_first table r) a s (sym (move_read table r a l) ∙ e) in
@@ -161,32 +156,30 @@ module _ (tower table : List ℕ) (rows : Bool) where
   unfolding tower_state
   state_itself x e = rw e
 
-  pub target_row_read : (x a : ℕ) (r : Reached) → rows ≡ true → r ≡ target_read (move (table_of table) x a)
-      → r ≡ target_read ((walked tower table rows).target x a)
+  pub target_row_read : (x a : ℕ) (r : Option ℕ) → rows ≡ true → r ≡ (move (table_of table) x a)
+      → r ≡ ((walked tower table rows).target x a)
   unfolding walked rows_tower
   target_row_read x a r e f = rw e f
 
-  pub target_state_read : (x a : ℕ) (r : Reached) → rows ≡ false → r ≡ target_read ((tower_of tower).target x a)
-      → r ≡ target_read ((walked tower table rows).target x a)
+  pub target_state_read : (x a : ℕ) (r : Option ℕ) → rows ≡ false → r ≡ ((tower_of tower).target x a)
+      → r ≡ ((walked tower table rows).target x a)
   unfolding walked
   target_state_read x a r e f = rw e f
 
 -- ---- the ways of `row_target`
 
-pub row_reached : (o : Option ℕ) (t : Target) (y : ℕ) → t ≡ Table.target_read o → t ≡ Row y → State y ≡ target_read o
-unfolding target_read
+pub row_reached : (o : Option ℕ) (t : Option ℕ) (y : ℕ) → t ≡ o → t ≡ Some y → Some y ≡ o
 row_reached o t y e f = sym (rw (target_row o t y e f))
 
-pub row_nowhere : (o : Option ℕ) (t : Target) → t ≡ Table.target_read o → t ≡ Nothing → NotEnabled ≡ target_read o
-unfolding target_read
+pub row_nowhere : (o : Option ℕ) (t : Option ℕ) → t ≡ o → t ≡ None → None ≡ o
 row_nowhere o t e f = sym (rw (target_nothing o t e f))
 
 -- ---- the ways of `is_enabled`
 
-pub enabled_there : (o : Option ℕ) (r : Reached) (y : ℕ) → r ≡ target_read o → r ≡ State y → true ≡ is_there o
+pub enabled_there : (o : Option ℕ) (r : Option ℕ) (y : ℕ) → r ≡ o → r ≡ Some y → true ≡ is_there o
 enabled_there o r y e f = sym (is_there_in (state_reached o r y e f))
 
-pub enabled_not : (o : Option ℕ) (r : Reached) → r ≡ target_read o → r ≡ NotEnabled → false ≡ is_there o
+pub enabled_not : (o : Option ℕ) (r : Option ℕ) → r ≡ o → r ≡ None → false ≡ is_there o
 enabled_not o r e f = sym (there_not (none_reached o r e f))
 
 -- The tower's state that x stands for is one.

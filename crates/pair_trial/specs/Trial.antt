@@ -1,6 +1,6 @@
 -- A pair is tried by every enabled action (02, item 3). What comes of each waits in the room, since an over_full pair is stepped from by none.
 use Rattle.std.specs.Prelude.{ℕ, ◌+◌, ◌*◌, ◌≤◌, ◌<◌, ◌≡◌, ◌⊎◌, Bool, true, false, List, length}
-use Rattle.std.proofs.Math.Option.{some}
+use Rattle.std.specs.Prelude.{Some}
 use Rattle.base.specs.Bytes.{byte_at}
 use Rattle.base.specs.Lists.{is_there}
 use Rattle.logic.specs.Tower.{Tower, FitTower, tower_of, mask_of}
@@ -87,11 +87,11 @@ pub record ActionTrial (tower table : List ℕ) (by_rows : Bool) (nodes area : L
   pub at : x ≡ entry_number area i
   pub enabled : is_there ((walked tower table by_rows).target x a) ≡ true
 
--- An action before a that is enabled at x, with a step of the same length; a itself if none was found.
+-- Action b is before a and enabled at x, with a step of the same length.
 pub record TriedBefore (b : ℕ) (tower : Tower) (x a : ℕ) : Type 0 where
-  pub most : b ≤ a
-  pub enabled : b < a → (y : ℕ) × (tower.target x b ≡ some y)
-  pub same_length : b < a → tower.step_length x b ≡ tower.step_length x a
+  pub earlier : b < a
+  pub enabled : (y : ℕ) × (tower.target x b ≡ Some y)
+  pub same_length : tower.step_length x b ≡ tower.step_length x a
 
 -- What is asked before the alternatives of entry i are tried by the step of action a from state z of the tower.
 pub record StepTrial (tower nodes area : List ℕ) (i z a : ℕ) : Type 0 where
@@ -122,11 +122,11 @@ pub record Waits (tower : Tower) (nodes area : List ℕ) (i : ℕ) (room : List 
 
 -- So it is of each enabled action below k.
 pub record Trying (tower : Tower) (nodes area : List ℕ) (i : ℕ) (room : List ℕ) (k : ℕ) : Type 0 where
-  pub waits : (a y : ℕ) → a < k → tower.target (entry_number area i) a ≡ some y → Waits tower nodes area i room a
+  pub waits : (a y : ℕ) → a < k → tower.target (entry_number area i) a ≡ Some y → Waits tower nodes area i room a
 
 -- Pair i is tried by action a: it is enabled and gives over 16 alternatives, or what comes of it waits too.
 pub record Tried (full : Bool) (tower : Tower) (nodes area : List ℕ) (i a : ℕ) (room after : List ℕ) : Type 0 where
-  pub enabled : full ≡ true → (y : ℕ) × (tower.target (entry_number area i) a ≡ some y)
+  pub enabled : full ≡ true → (y : ℕ) × (tower.target (entry_number area i) a ≡ Some y)
   pub over_16 : full ≡ true → (h : IsHeld nodes) → alternatives_by tower h.book (pair_in nodes area i) a ≡ over
   pub waiting : full ≡ false → Trying tower nodes area i room a → Trying tower nodes area i after (a + 1)
 

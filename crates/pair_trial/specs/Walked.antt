@@ -1,6 +1,6 @@
 -- The tower whose pairs are searched: that of a tower file, or the rows of a table for it. A switch says which.
 use Rattle.std.specs.Prelude.{ℕ, ◌≤◌, ◌<◌, ◌≡◌, Bool, true, false, List}
-use Rattle.std.proofs.Math.Option.{some}
+use Rattle.std.specs.Prelude.{Some}
 use Rattle.logic.specs.Tower.{Tower, FitTower, tower_of}
 use Rattle.logic.specs.Tables.{row_at, rows_tower}
 use Rattle.reading.specs.TableReading.{laid_out, table_of}
@@ -21,7 +21,7 @@ pub record Searchable (tower : Tower) : Type 0 where
   pub states_most : tower.states ≤ 65536
   pub actions_most : tower.actions ≤ 16
   pub start_below : tower.start < tower.states
-  pub targets : (x a y : ℕ) → x < tower.states → tower.target x a ≡ some y → y < tower.states
+  pub targets : (x a y : ℕ) → x < tower.states → tower.target x a ≡ Some y → y < tower.states
 
 -- A fit tower, and an area that holds a book.
 pub record TowerWithBook (tower nodes : List ℕ) : Type 0 where

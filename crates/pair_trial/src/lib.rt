@@ -3,20 +3,16 @@
 // room, since a pair that gives over 16 alternatives is stepped from by none (specs/Trial.antt).
 #![tactic(auto)]
 
-ghost use Rattle.std.specs.Prelude.{◌+◌, ◌*◌, ◌<◌, ◌≤◌, ◌≡◌, true, length};
+ghost use Rattle.std.specs.Prelude.{◌+◌, ◌*◌, ◌<◌, ◌≤◌, ◌≡◌, true, length, IfSome};
 ghost use Rattle.base.specs.Lists.{is_there};
 ghost use Rattle.logic.specs.Tables.{move};
 ghost use Rattle.reading.specs.BookArea.{nodes_in};
 ghost use Rattle.reading.specs.TableReading.{rows_of, laid_out, table_of};
 ghost use Rattle.book_progression.specs.NodeBytes.{IsHeld};
-ghost use Rattle.file_tower.specs.TowerRead.{target_read};
 ghost use Rattle.set_bytes.specs.SetBytes.{alternative_size};
 ghost use Rattle.book_alternatives.specs.Offers.{sets_size};
 ghost use Rattle.pair_trial.specs.Walked.{walked, tower_state, Files};
 ghost use Rattle.pair_trial.specs.Trial.{room_size, SetAside, WaitsFor, Shared, Trial, ActionTrial, TriedBefore, StepTrial, StepTried, Tried, AllTried};
-
-use file_table::Target;
-use file_tower::Reached;
 
 // The most alternatives after a step.
 const MOST_LEFT: usize = 16;
@@ -60,24 +56,20 @@ pub fn tower_state(tower: &[u8], table: &[u8], rows: bool, x: usize) -> usize
 }
 
 // Where action a leads from row x of the table.
-fn row_target(table: &[u8], x: usize, a: usize) -> Reached
+fn row_target(table: &[u8], x: usize, a: usize) -> Option<usize>
     requires table_value { laid_out table.now ≡ true }
     requires x_bound { x < rows_of table.now }
-    ensures { result ≡ target_read (move (table_of table.now) x a) }
+    ensures { result ≡ move (table_of table.now) x a }
 {
-    let reached = file_table::step_to(table, x, a);
-    match reached {
-        Target::Row(y) => Reached::State(y),
-        Target::Nothing => Reached::NotEnabled,
-    }
+    file_table::step_to(table, x, a)
 }
 
 // Where action a leads from state x of it.
-pub fn target(tower: &[u8], table: &[u8], rows: bool, x: usize, a: usize) -> Reached
+pub fn target(tower: &[u8], table: &[u8], rows: bool, x: usize, a: usize) -> Option<usize>
     requires files { Files tower.now table.now rows }
     requires x_bound { x < (walked tower.now table.now rows).states }
     requires a_bound { a < (walked tower.now table.now rows).actions }
-    ensures { result ≡ target_read ((walked tower.now table.now rows).target x a) }
+    ensures { result ≡ (walked tower.now table.now rows).target x a }
 {
     if rows {
         return row_target(table, x, a);
@@ -92,37 +84,37 @@ pub fn is_enabled(tower: &[u8], table: &[u8], rows: bool, x: usize, a: usize) ->
     requires a_bound { a < (walked tower.now table.now rows).actions }
     ensures { result ≡ is_there ((walked tower.now table.now rows).target x a) }
 {
-    let reached = target(tower, table, rows, x, a);
-    match reached {
-        Reached::State(_) => true,
-        Reached::NotEnabled => false,
-    }
+    target(tower, table, rows, x, a).is_some()
 }
 
 // ---- a pair is tried
 
-// An action before a that is enabled at x and whose step is as long as that of a; or a, if there is
-// none. State z of the tower is what x stands for.
-fn tried_before(tower: &[u8], table: &[u8], rows: bool, x: usize, z: usize, a: usize) -> usize
+// An action before a that is enabled at x and whose step is as long as that of a, if there is one. State z
+// of the tower is what x stands for.
+fn tried_before(
+    tower: &[u8],
+    table: &[u8],
+    rows: bool,
+    x: usize,
+    z: usize,
+    a: usize,
+) -> Option<usize>
     requires files { Files tower.now table.now rows }
     requires x_bound { x < (walked tower.now table.now rows).states }
     requires z_value { z ≡ tower_state table.now rows x }
     requires a_bound { a < (walked tower.now table.now rows).actions }
-    ensures { TriedBefore result (walked tower.now table.now rows) x a }
+    ensures { IfSome result (λ b. TriedBefore b (walked tower.now table.now rows) x a) }
 {
     let d = file_tower::step_length(tower, z, a);
-    let mut b = 0;
-    while b < a {
-        let at = b;
-        b += 1;
-        let e = file_tower::step_length(tower, z, at);
-        if e.0 == d.0 {
-            if is_enabled(tower, table, rows, x, at) {
-                return at;
+    for b in 0..a {
+        let e = file_tower::step_length(tower, z, b);
+        if e == d {
+            if is_enabled(tower, table, rows, x, b) {
+                return Some(b);
             }
         }
     }
-    a
+    None
 }
 
 // The alternatives that are left of a step are copied to where they wait.
@@ -133,8 +125,7 @@ fn set_aside(cells: usize, sets: &[u8], left: usize, room: &mut [u8], to: usize)
     requires to_in_bounds { to + 960 ≤ length room.old }
     ensures { SetAside cells sets.now left room.old to room.new }
 {
-    let mut j = 0;
-    while j < left {
+    for j in 0..left {
         alternative_bytes::copy(
             cells,
             sets,
@@ -142,7 +133,6 @@ fn set_aside(cells: usize, sets: &[u8], left: usize, room: &mut [u8], to: usize)
             room,
             to + SIZE * j,
         );
-        j += 1;
     }
 }
 
@@ -230,8 +220,7 @@ fn try_enabled(
     ensures { Tried result (walked tower.now table.now rows) nodes.now pairs.now i a room.old room.new }
 {
     let z = tower_state(tower, table, rows, x);
-    let b = tried_before(tower, table, rows, x, z, a);
-    if b < a {
+    if let Some(b) = tried_before(tower, table, rows, x, z, a) {
         share(room, a, b);
         return false;
     }
@@ -280,11 +269,8 @@ pub fn try_all(
     ensures { AllTried result (walked tower.now table.now rows) nodes.now pairs.now i room.new }
 {
     let actions = file_tower::actions(tower);
-    let mut a = 0;
-    while a < actions {
-        let at = a;
-        a += 1;
-        if try_action(tower, table, rows, nodes, pairs, sets, room, i, at) {
+    for a in 0..actions {
+        if try_action(tower, table, rows, nodes, pairs, sets, room, i, a) {
             return true;
         }
     }

@@ -5,7 +5,9 @@ use native.Mathlib.Omega.{arith}
 use mathlib.Core.Path.{◌≡◌, refl, sym, ◌∙◌, ap, subst}
 use mathlib.Core.Logic.{◌↔◌}
 use mathlib.Core.Bool.{false}
-use mathlib.Core.Option.{Option, none, some, bind, some-injective, none-ne-some}
+use Rattle.std.specs.Prelude.{Option, None, Some}
+use Rattle.base.specs.Options.{bind}
+use Rattle.base.proofs.Options.{some-injective, none-ne-some}
 use mathlib.Core.List.{List}
 use lib.ListN.{length, get_or, set, length-set}
 use lib.Seq.{get_or-set_same, get_or-set_other}
@@ -48,10 +50,10 @@ module _ (tower : Tower) (run : Trace) where
 
   -- a node that comes up asks what it asks beside what was pending of it
   coming_law : (f : Formula) (r : Tick) (o : Option Tick)
-      → At (with_left f (coming f r o)) ↔ (At (with_left f r) × ((q : Tick) → o ≡ some q → At (with_left f q)))
+      → At (with_left f (coming f r o)) ↔ (At (with_left f r) × ((q : Tick) → o ≡ Some q → At (with_left f q)))
   unfolding coming
-  coming_law f r none = (λ h. (h, λ q e. absurd (none-ne-some q e)), λ h. h.0)
-  coming_law f r (some s) = (
+  coming_law f r None = (λ h. (h, λ q e. absurd (none-ne-some q e)), λ h. h.0)
+  coming_law f r (Some s) = (
     λ h. (((merge_law f r s).0 h).0, λ q e. subst (λ z. At (with_left f z)) (some-injective s q e) ((merge_law f r s).0 h).1),
     λ h. (merge_law f r s).1 (h.0, h.1 s refl),
   )
@@ -59,32 +61,32 @@ module _ (tower : Tower) (run : Trace) where
   module _ (all : List Formula) where
     -- The rest of the run meets what is pending: each pending node is kept at once.
     abbrev pub Sat : Pending → Type 0
-    Sat p = (k : ℕ) (r : Tick) → k < length all → get_or p k none ≡ some r → At (with_left (get_or all k (constant false)) r)
+    Sat p = (k : ℕ) (r : Tick) → k < length all → get_or p k None ≡ Some r → At (with_left (get_or all k (constant false)) r)
 
     -- o is what comes of the pending p when the claim P on the rest of the run is added: nothing if the two cannot be met together.
     abbrev pub Adds : Option Pending → Pending → Type 0 → Type 0
-    Adds none p P = Sat p → P → ⊥
-    Adds (some q) p P = (length q ≡ length p) × (Sat q ↔ (Sat p × P))
+    Adds None p P = Sat p → P → ⊥
+    Adds (Some q) p P = (length q ≡ length p) × (Sat q ↔ (Sat p × P))
 
     -- The claim may be put in other words.
     pub adds_iff : (o : Option Pending) (p : Pending) (P Q : Type 0) → P ↔ Q → Adds o p P → Adds o p Q
-    adds_iff none p P Q e d = λ s h. d s (e.1 h)
-    adds_iff (some q) p P Q e d = (d.0, (λ s. ((d.1.0 s).0, e.0 (d.1.0 s).1), λ s. d.1.1 (s.0, e.1 s.1)))
+    adds_iff None p P Q e d = λ s h. d s (e.1 h)
+    adds_iff (Some q) p P Q e d = (d.0, (λ s. ((d.1.0 s).0, e.0 (d.1.0 s).1), λ s. d.1.1 (s.0, e.1 s.1)))
 
     -- A claim that holds adds nothing.
-    pub adds_nothing : (p : Pending) (P : Type 0) → P → Adds (some p) p P
+    pub adds_nothing : (p : Pending) (P : Type 0) → P → Adds (Some p) p P
     adds_nothing p P h = (refl, (λ s. (s, h), λ s. s.0))
 
     -- One claim after another.
     pub adds_both : (o : Option Pending) (f : Pending → Option Pending) (p : Pending) (P Q : Type 0) → Adds o p P
         → ((q : Pending) → length q ≡ length p → Adds (f q) q Q) → Adds (bind o f) p (P × Q)
     unfolding bind
-    adds_both none f p P Q d then = λ s h. d s h.0
-    adds_both (some q) f p P Q d then = go (f q) (then q d.0)
+    adds_both None f p P Q d then = λ s h. d s h.0
+    adds_both (Some q) f p P Q d then = go (f q) (then q d.0)
       where
         go : (o : Option Pending) → Adds o q Q → Adds o p (P × Q)
-        go none n = λ s h. n (d.1.1 (s, h.0)) h.1
-        go (some z) n = (
+        go None n = λ s h. n (d.1.1 (s, h.0)) h.1
+        go (Some z) n = (
           n.0 ∙ d.0,
           (
             λ s. ((d.1.0 (n.1.0 s).0).0, ((d.1.0 (n.1.0 s).0).1, (n.1.0 s).1)),
@@ -94,7 +96,7 @@ module _ (tower : Tower) (run : Trace) where
 
     -- A node that becomes pending adds what it asks.
     pub adds_put : (f : Formula) (k : ℕ) (r : Tick) (p : Pending) → Sits all f k → length p ≡ length all
-        → Adds (some (put f k r p)) p (At (with_left f r))
+        → Adds (Some (put f k r p)) p (At (with_left f r))
     unfolding put
     adds_put f k r p sits sized = (length-set p k _, (out, into))
       where
@@ -105,34 +107,34 @@ module _ (tower : Tower) (run : Trace) where
         node = sits_node all f k sits
 
         number : Tick
-        number = coming f r (get_or p k none)
+        number = coming f r (get_or p k None)
 
-        there : get_or (set p k (some number)) k none ≡ some number
-        there = get_or-set_same p k (some number) none (omega (arith, within))
+        there : get_or (set p k (Some number)) k None ≡ Some number
+        there = get_or-set_same p k (Some number) None (omega (arith, within))
 
-        beside : Sat (set p k (some number)) → At (with_left f r) × ((q : Tick) → get_or p k none ≡ some q → At (with_left f q))
-        beside s = (coming_law f r (get_or p k none)).0 (subst (λ g. At (with_left g number)) node (s k number within there))
+        beside : Sat (set p k (Some number)) → At (with_left f r) × ((q : Tick) → get_or p k None ≡ Some q → At (with_left f q))
+        beside s = (coming_law f r (get_or p k None)).0 (subst (λ g. At (with_left g number)) node (s k number within there))
 
-        out : Sat (set p k (some number)) → Sat p × At (with_left f r)
+        out : Sat (set p k (Some number)) → Sat p × At (with_left f r)
         out s = (λ j q below e. go j q below e (ℕ_discrete j k), (beside s).0)
           where
-            go : (j : ℕ) (q : Tick) → j < length all → get_or p j none ≡ some q → Dec (j ≡ k)
+            go : (j : ℕ) (q : Tick) → j < length all → get_or p j None ≡ Some q → Dec (j ≡ k)
                 → At (with_left (get_or all j (constant false)) q)
             go j q below e (yes same) =
                 subst (λ i. At (with_left (get_or all i (constant false)) q)) (sym same) (subst (λ g. At (with_left g q)) (sym node)
-                ((beside s).1 q (ap (λ i. get_or p i none) (sym same) ∙ e)))
-            go j q below e (no other) = s j q below (get_or-set_other p k j (some number) none other ∙ e)
+                ((beside s).1 q (ap (λ i. get_or p i None) (sym same) ∙ e)))
+            go j q below e (no other) = s j q below (get_or-set_other p k j (Some number) None other ∙ e)
 
-        into : Sat p × At (with_left f r) → Sat (set p k (some number))
+        into : Sat p × At (with_left f r) → Sat (set p k (Some number))
         into (s, h) j q below e = go (ℕ_discrete j k)
           where
             merged : At (with_left f number)
-            merged = (coming_law f r (get_or p k none)).1 (h, λ z there. subst (λ g. At (with_left g z)) node (s k z within there))
+            merged = (coming_law f r (get_or p k None)).1 (h, λ z there. subst (λ g. At (with_left g z)) node (s k z within there))
 
             go : Dec (j ≡ k) → At (with_left (get_or all j (constant false)) q)
             go (yes same) =
-                let at : get_or (set p k (some number)) k none ≡ some q = ap (λ i. get_or (set p k (some number)) i none) (sym same) ∙ e in
+                let at : get_or (set p k (Some number)) k None ≡ Some q = ap (λ i. get_or (set p k (Some number)) i None) (sym same) ∙ e in
                 let is : number ≡ q = some-injective number q (sym there ∙ at) in
                 subst (λ i. At (with_left (get_or all i (constant false)) q)) (sym same)
                 (subst (λ g. At (with_left g q)) (sym node) (subst (λ z. At (with_left f z)) is merged))
-            go (no other) = s j q below (sym (get_or-set_other p k j (some number) none other) ∙ e)
+            go (no other) = s j q below (sym (get_or-set_other p k j (Some number) None other) ∙ e)

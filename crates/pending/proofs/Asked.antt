@@ -5,7 +5,9 @@ use mathlib.Core.Path.{◌≡◌, refl, sym, ◌∙◌, subst}
 use mathlib.Core.Logic.Iff
 use mathlib.Core.Logic.{⊎_elim, ⊎_map, ◌↔◌}
 use mathlib.Core.Bool.{true, false, and-eq-true_iff, true≢false}
-use mathlib.Core.Option.{Option, none, some, bind, none-ne-some, some-injective}
+use Rattle.std.specs.Prelude.{Option, None, Some}
+use Rattle.base.specs.Options.{bind}
+use Rattle.base.proofs.Options.{none-ne-some, some-injective}
 use mathlib.Core.List.Memᴰ
 use mathlib.Core.List.{List, [], ◌∷◌, append-nil, Memᴰ}
 use lib.ListN.{length, get_or, length-replicate, get_or-replicate}
@@ -64,27 +66,27 @@ module _ (tower : Tower) (m : Moment) (run : Trace) where
   abbrev pub NodesNow : List Formula → Pending → Type 0
   NodesNow [] cells = Unit {0}
   NodesNow (f ∷ fs) [] = Unit {0}
-  NodesNow (f ∷ fs) (none ∷ cells) = NodesNow fs cells
-  NodesNow (f ∷ fs) (some r ∷ cells) = Here (with_left f r) × NodesNow fs cells
+  NodesNow (f ∷ fs) (None ∷ cells) = NodesNow fs cells
+  NodesNow (f ∷ fs) (Some r ∷ cells) = Here (with_left f r) × NodesNow fs cells
 
   -- Each cell's formula is kept now if this is so of each node by its number.
   pub nodes_out : (fs : List Formula) (cells : Pending) → NodesNow fs cells
-      → (k : ℕ) (r : Tick) → k < length fs → get_or cells k none ≡ some r → Here (with_left (get_or fs k (constant false)) r)
+      → (k : ℕ) (r : Tick) → k < length fs → get_or cells k None ≡ Some r → Here (with_left (get_or fs k (constant false)) r)
   nodes_out [] cells h k r below e = absurd (omega arith)
   nodes_out (f ∷ fs) [] h k r below e = absurd (none-ne-some r e)
-  nodes_out (f ∷ fs) (none ∷ cells) h zero r below e = absurd (none-ne-some r e)
-  nodes_out (f ∷ fs) (none ∷ cells) h (suc k) r below e = nodes_out fs cells h k r (omega arith) e
-  nodes_out (f ∷ fs) (some q ∷ cells) h zero r below e =
+  nodes_out (f ∷ fs) (None ∷ cells) h zero r below e = absurd (none-ne-some r e)
+  nodes_out (f ∷ fs) (None ∷ cells) h (suc k) r below e = nodes_out fs cells h k r (omega arith) e
+  nodes_out (f ∷ fs) (Some q ∷ cells) h zero r below e =
       subst (λ z. Here (with_left f z)) (some-injective q r e) h.0
-  nodes_out (f ∷ fs) (some q ∷ cells) h (suc k) r below e = nodes_out fs cells h.1 k r (omega arith) e
+  nodes_out (f ∷ fs) (Some q ∷ cells) h (suc k) r below e = nodes_out fs cells h.1 k r (omega arith) e
 
   pub nodes_in : (fs : List Formula) (cells : Pending)
-      → ((k : ℕ) (r : Tick) → k < length fs → get_or cells k none ≡ some r → Here (with_left (get_or fs k (constant false)) r))
+      → ((k : ℕ) (r : Tick) → k < length fs → get_or cells k None ≡ Some r → Here (with_left (get_or fs k (constant false)) r))
       → NodesNow fs cells
   nodes_in [] cells h = tt
   nodes_in (f ∷ fs) [] h = tt
-  nodes_in (f ∷ fs) (none ∷ cells) h = nodes_in fs cells (λ k r below e. h (suc k) r (omega arith) e)
-  nodes_in (f ∷ fs) (some q ∷ cells) h =
+  nodes_in (f ∷ fs) (None ∷ cells) h = nodes_in fs cells (λ k r below e. h (suc k) r (omega arith) e)
+  nodes_in (f ∷ fs) (Some q ∷ cells) h =
       (h zero q (omega arith) refl, nodes_in fs cells (λ k r below e. h (suc k) r (omega arith) e))
 
   -- An `always` rule is kept now.
@@ -99,12 +101,12 @@ module _ (tower : Tower) (run : Trace) where
   module _ (all : List Formula) where
     -- one rule as the run begins: it is kept at position 0 if it is a `start` rule
     adds_begin_rule : (form : Form) (f : Formula) (k : ℕ) (p : Pending) → Sits all f k → length p ≡ length all
-        → Adds tower run all (some (begin_rule form f k p)) p (form ≡ at_start → Kept tower run f (position 0))
+        → Adds tower run all (Some (begin_rule form f k p)) p (form ≡ at_start → Kept tower run f (position 0))
     unfolding begin_rule
     adds_begin_rule everywhere f k p sits sized =
         adds_nothing tower run all p (everywhere ≡ at_start → Kept tower run f (position 0)) (λ e. absurd (start_not_everywhere (sym e)))
     adds_begin_rule at_start f k p sits sized =
-        adds_iff tower run all (some (put f k (fresh f) p)) p (Kept tower run (with_left f (fresh f)) (position 0))
+        adds_iff tower run all (Some (put f k (fresh f) p)) p (Kept tower run (with_left f (fresh f)) (position 0))
         (at_start ≡ at_start → Kept tower run f (position 0)) (
           λ h e. subst (λ g. Kept tower run g (position 0)) (with_left_fresh f) h,
           λ h. subst (λ g. Kept tower run g (position 0)) (sym (with_left_fresh f)) (h refl),
@@ -112,19 +114,19 @@ module _ (tower : Tower) (run : Trace) where
 
     -- What is pending as the run begins adds what the `start` rules ask.
     pub adds_begin : (rules : Book) (n : ℕ) (p : Pending) → Stand all n (nodes rules) → length p ≡ length all
-        → Adds tower run all (some (begin_rules rules n p)) p
+        → Adds tower run all (Some (begin_rules rules n p)) p
         (Each rules RuleStarts)
     unfolding begin_rules nodes joined size bind
     adds_begin [] n p stand sized =
         adds_nothing tower run all p (Each [] RuleStarts)
         (λ rule listed. absurd (Memᴰ.not-nil listed))
     adds_begin (rule ∷ rules) n p stand sized =
-        adds_iff tower run all (some (begin_rules (rule ∷ rules) n p)) p
+        adds_iff tower run all (Some (begin_rules (rule ∷ rules) n p)) p
         (RuleStarts rule × Each rules RuleStarts)
         (Each (rule ∷ rules) RuleStarts)
         (Iff.symm (each_cons rule rules RuleStarts))
-        (adds_both tower run all (some (begin_rule rule.form rule.formula (root n rule.formula) p))
-        (λ q. some (begin_rules rules (n + size rule.formula) q)) p
+        (adds_both tower run all (Some (begin_rule rule.form rule.formula (root n rule.formula) p))
+        (λ q. Some (begin_rules rules (n + size rule.formula) q)) p
         (RuleStarts rule)
         (Each rules RuleStarts)
         (adds_begin_rule rule.form rule.formula (root n rule.formula) p
@@ -143,18 +145,18 @@ module _ (tower : Tower) (book : Book) where
   pub none_asks : (run : Trace) → Sat tower run (nodes book) (none_pending book)
   unfolding none_pending
   none_asks run k r below e =
-      absurd (none-ne-some r (sym (get_or-replicate {A = Option Tick} (length (nodes book)) k none none below) ∙ e))
+      absurd (none-ne-some r (sym (get_or-replicate {A = Option Tick} (length (nodes book)) k None None below) ∙ e))
 
   pub none_sized : length (none_pending book) ≡ length (nodes book)
   unfolding none_pending
-  none_sized = length-replicate {A = Option Tick} (length (nodes book)) none
+  none_sized = length-replicate {A = Option Tick} (length (nodes book)) None
 
   -- the nodes of the book stand from number 0 on
   pub book_stands : Stand (nodes book) 0 (nodes book)
   book_stands = record { behind = []; here = sym (append-nil (nodes book)) }
 
   -- What is pending at first adds to nothing exactly what the `start` rules ask.
-  pub first_adds : (run : Trace) → Adds tower run (nodes book) (some (first_pending book)) (none_pending book)
+  pub first_adds : (run : Trace) → Adds tower run (nodes book) (Some (first_pending book)) (none_pending book)
       (Each book (RuleStarts tower run))
   unfolding first_pending
   first_adds run = adds_begin tower run (nodes book) book 0 (none_pending book) book_stands none_sized
@@ -168,7 +170,7 @@ module _ (tower : Tower) (book : Book) where
   AskedLater run = Each book (λ rule. rule.form ≡ everywhere → KeptRule tower run everywhere rule.formula)
 
   -- one step of a run: action a at state x with p pending leads to state y, and u is the rest of the run
-  module _ (x a y : ℕ) (p : Pending) (u : List ℕ) (enabled : tower.target x a ≡ some y) where
+  module _ (x a y : ℕ) (p : Pending) (u : List ℕ) (enabled : tower.target x a ≡ Some y) where
     abbrev here : Moment
     here = record { state = x; action = a }
 

@@ -1,6 +1,6 @@
 -- What pending obligations ask of the rest of a run, in the words of the logic. The theorem of progression is stated with this.
 use Rattle.std.specs.Prelude.{ℕ, ◌<◌, ◌≡◌, false, length, get_or}
-use Rattle.std.proofs.Math.Option.{some, none}
+use Rattle.std.specs.Prelude.{Some, None}
 use mathlib.Core.List.{List, Memᴰ}
 use Rattle.logic.specs.Time.{position}
 use Rattle.logic.specs.Tower.{Tower}
@@ -21,6 +21,6 @@ with_left (until t f g) r = until r f g
 
 -- The rest of a run, from state x by the actions u, meets what is pending: each pending node is kept at once, and each `always` rule is kept.
 pub record Fulfils (tower : Tower) (book : Book) (x : ℕ) (p : Pending) (u : List ℕ) : Type 0 where
-  pub pending : (k : ℕ) (r : Tick) → k < length (nodes book) → get_or p k none ≡ some r
+  pub pending : (k : ℕ) (r : Tick) → k < length (nodes book) → get_or p k None ≡ Some r
       → Kept tower (trace_from tower x u) (with_left (get_or (nodes book) k (constant false)) r) (position 0)
   pub rules : (rule : Rule) → Memᴰ rule book → rule.form ≡ everywhere → KeptRule tower (trace_from tower x u) everywhere rule.formula

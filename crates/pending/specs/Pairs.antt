@@ -1,7 +1,8 @@
 -- 01, 'What is pending', 'A pair is a tower state and what is pending there': pairs and their count, as they were in the base. They stay for
 -- the theorem that books without two timed sides give the bytes they gave (`alternatives/proofs/OnePairs.antt`).
 use Rattle.std.specs.Prelude.{ℕ, Bool, ◌&&◌, List, map, ltb, eqb}
-use Rattle.std.proofs.Math.Option.{Option, none, some, bind}
+use Rattle.std.specs.Prelude.{Option, None, Some}
+use Rattle.base.specs.Options.{bind}
 use Rattle.base.specs.Lists.{below, present, total}
 use Rattle.logic.specs.Tower.{Tower}
 use Rattle.logic.specs.Book.{Book}
@@ -29,8 +30,8 @@ first_pair tower book = record { state = tower.start; pending = first_pending bo
 
 -- a state reached with what is then pending
 unfoldable pub pair_at : ℕ → Option Pending → Option Pair
-pair_at y none = none
-pair_at y (some p) = some (record { state = y; pending = p })
+pair_at y None = None
+pair_at y (Some p) = Some (record { state = y; pending = p })
 
 -- the pair that an enabled action leads to; nothing where it is not enabled or the step is broken
 unfoldable pub pair_step : Tower → Book → Pair → ℕ → Option Pair

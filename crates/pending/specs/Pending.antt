@@ -4,7 +4,8 @@
 -- (`alternatives/proofs/OneAlternative.antt`). For such books the code goes this way, which is faster (crate `book_progression`).
 use Rattle.std.specs.Prelude.{ℕ, suc, ◌+◌, Bool, false, ◌&&◌, ◌||◌, List, [], ◌∷◌, length, get_or, set, replicate}
 use Rattle.std.specs.Bool.{beq}
-use Rattle.std.proofs.Math.Option.{Option, none, some, bind}
+use Rattle.std.specs.Prelude.{Option, None, Some}
+use Rattle.base.specs.Options.{bind}
 use Rattle.base.specs.Choice.{pick}
 use Rattle.base.specs.Lists.{same_option, same_list}
 use Rattle.logic.specs.Time.{ticks, minus, at_most, same_ticks, longer, shorter}
@@ -53,16 +54,16 @@ merge (until t f g) r q = shorter r q
 
 -- the number of a node that comes up with r ticks
 unfoldable pub coming : Formula → Tick → Option Tick → Tick
-coming f r none = r
-coming f r (some q) = merge f r q
+coming f r None = r
+coming f r (Some q) = merge f r q
 
 -- node k, the formula f, becomes pending with r ticks
 unfoldable pub put : Formula → ℕ → Tick → Pending → Pending
-put f k r p = set p k (some (coming f r (get_or p k none)))
+put f k r p = set p k (Some (coming f r (get_or p k None)))
 
 -- goes on if the test holds, and else the step is broken
 unfoldable pub provided : Bool → Option Pending → Option Pending
-provided b o = pick b (λ _. o) (λ _. none)
+provided b o = pick b (λ _. o) (λ _. None)
 
 -- Progression by example: the small tower under `always !p0 | E 3 p1`, whose node 3 is the until. Mark p0 is on state 0, p1 on state 1, p2 on
 -- state 2, and every action takes one tick.
@@ -75,46 +76,46 @@ provided b o = pick b (λ _. o) (λ _. none)
 -- Node k, the formula f with r ticks left, as state x is left by an action of length d: what is added to the pending p, or nothing if the
 -- step is broken. Of a `|` with two timed sides it is never asked.
 unfoldable pub progress : Tower → ℕ → Tick → Formula → ℕ → Tick → Pending → Option Pending
-progress tower x d (constant b) k r p = provided (holds tower x (constant b)) (some p)
-progress tower x d (proposition w m) k r p = provided (holds tower x (proposition w m)) (some p)
+progress tower x d (constant b) k r p = provided (holds tower x (constant b)) (Some p)
+progress tower x d (proposition w m) k r p = provided (holds tower x (proposition w m)) (Some p)
 progress tower x d (and f g) k r p =
     bind (progress tower x d f (first_part k g) (fresh f) p) (λ q. progress tower x d g (second_part k) (fresh g) q)
 progress tower x d (or f g) k r p =
     pick (timed f)
-    (λ _. pick (holds tower x g) (λ _. some p) (λ _. progress tower x d f (first_part k g) (fresh f) p))
-    (λ _. pick (holds tower x f) (λ _. some p) (λ _. progress tower x d g (second_part k) (fresh g) p))
-progress tower x d (next c t g) k r p = provided (compares c d t) (some (put g (second_part k) (fresh g) p))
+    (λ _. pick (holds tower x g) (λ _. Some p) (λ _. progress tower x d f (first_part k g) (fresh f) p))
+    (λ _. pick (holds tower x f) (λ _. Some p) (λ _. progress tower x d g (second_part k) (fresh g) p))
+progress tower x d (next c t g) k r p = provided (compares c d t) (Some (put g (second_part k) (fresh g) p))
 progress tower x d (always_for t g) k r p =
     bind (progress tower x d g (second_part k) (fresh g) p)
-    (λ q. some (pick (at_most d r) (λ _. put (always_for t g) k (minus r d) q) (λ _. q)))
+    (λ q. Some (pick (at_most d r) (λ _. put (always_for t g) k (minus r d) q) (λ _. q)))
 progress tower x d (until t f g) k r p =
-    pick (holds tower x g) (λ _. some p) (λ _.
+    pick (holds tower x g) (λ _. Some p) (λ _.
     provided (at_most d r)
-    (bind (progress tower x d f (first_part k g) (fresh f) p) (λ q. some (put (until t f g) k (minus r d) q))))
+    (bind (progress tower x d f (first_part k g) (fresh f) p) (λ q. Some (put (until t f g) k (minus r d) q))))
 
 -- every pending node in turn; fs are the nodes from number k on, and cells what is pending of them
 unfoldable pub progress_nodes : Tower → ℕ → Tick → List Formula → ℕ → Pending → Pending → Option Pending
-progress_nodes tower x d [] k cells p = some p
-progress_nodes tower x d (f ∷ fs) k [] p = some p
-progress_nodes tower x d (f ∷ fs) k (none ∷ cells) p = progress_nodes tower x d fs (suc k) cells p
-progress_nodes tower x d (f ∷ fs) k (some r ∷ cells) p =
+progress_nodes tower x d [] k cells p = Some p
+progress_nodes tower x d (f ∷ fs) k [] p = Some p
+progress_nodes tower x d (f ∷ fs) k (None ∷ cells) p = progress_nodes tower x d fs (suc k) cells p
+progress_nodes tower x d (f ∷ fs) k (Some r ∷ cells) p =
     bind (progress tower x d f k r p) (λ q. progress_nodes tower x d fs (suc k) cells q)
 
 -- one rule as a state is left: an `always` formula progresses
 unfoldable pub progress_rule : Tower → ℕ → Tick → Form → Formula → ℕ → Pending → Option Pending
 progress_rule tower x d everywhere f k p = progress tower x d f k (fresh f) p
-progress_rule tower x d at_start f k p = some p
+progress_rule tower x d at_start f k p = Some p
 
 -- every rule in turn; the nodes of the first begin with number n
 unfoldable pub progress_rules : Tower → ℕ → Tick → Book → ℕ → Pending → Option Pending
-progress_rules tower x d [] n p = some p
+progress_rules tower x d [] n p = Some p
 progress_rules tower x d (rule ∷ rules) n p =
     bind (progress_rule tower x d rule.form rule.formula (root n rule.formula) p)
     (λ q. progress_rules tower x d rules (n + size rule.formula) q)
 
 -- nothing is pending
 unfoldable pub none_pending : Book → Pending
-none_pending book = replicate (length (nodes book)) none
+none_pending book = replicate (length (nodes book)) None
 
 -- Leaving state x by an action of length d progresses every pending node and every `always` formula: what is pending next, or nothing if the
 -- step is broken.

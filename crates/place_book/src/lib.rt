@@ -3,7 +3,8 @@
 // Where they find none the line is told alone.
 #![tactic(auto)]
 
-pub mod grammar;
-mod words;
+mod fault;
+mod grammar;
 
-pub use grammar::{Scan, scan_line};
+pub use fault::{Fault, Finding};
+pub use grammar::scan_line;

@@ -1,68 +1,53 @@
-// Bytes and sums that ask nothing of the caller, for the words of the programs: a byte past the end is
-// 0, and a sum that is too large is the largest number.
+// Bytes that ask nothing of the caller, for the words of the programs: a byte past the end is 0, and a
+// number that is too large is the largest.
 #![tactic(auto)]
 
 ghost use Rattle.std.specs.Prelude.{◌<◌};
 
-// A byte as a number.
-pub fn wide(b: u8) -> usize
-    ensures { result < 256 }
-{
-    b as usize
-}
-
 // The byte at a place, or 0 past the end.
 pub fn byte_at(bytes: &[u8], at: usize) -> u8 {
-    if at < bytes.len() {
-        return bytes[at];
-    }
-    0
+    bytes.get(at).copied().unwrap_or(0)
 }
 
 // The byte at a place as a number.
 pub fn number_at(bytes: &[u8], at: usize) -> usize
     ensures { result < 256 }
 {
-    wide(byte_at(bytes, at))
+    usize::from(byte_at(bytes, at))
 }
 
 // The two bytes from a place on as a number, the low byte first.
 pub fn two_at(bytes: &[u8], at: usize) -> usize
     ensures { result < 65536 }
 {
-    let low = number_at(bytes, at);
-    let high = number_at(bytes, up(at));
-    low + 256 * high
+    let pair = [byte_at(bytes, at), byte_at(bytes, at.saturating_add(1))];
+    usize::from(u16::from_le_bytes(pair))
 }
 
-// The next number.
-pub fn up(n: usize) -> usize {
-    if n < usize::MAX {
-        return n + 1;
-    }
-    n
+// How many digits stand from a place on, counted up to so many.
+pub fn digits(bytes: &[u8], at: usize, most: usize) -> usize {
+    bytes
+        .iter()
+        .skip(at)
+        .take(most)
+        .take_while(|b| b.is_ascii_digit())
+        .count()
 }
 
-// The number before, 0 before 0.
-pub fn down(n: usize) -> usize {
-    if 0 < n {
-        return n - 1;
+// The number of a digit.
+fn digit(b: &u8) -> Option<usize> {
+    match *b {
+        b'0'..=b'9' => Some(usize::from(*b - b'0')),
+        _ => None,
     }
-    0
 }
 
-// A sum.
-pub fn plus(a: usize, b: usize) -> usize {
-    if b <= usize::MAX - a {
-        return a + b;
-    }
-    usize::MAX
-}
-
-// Whether a byte is a digit.
-pub fn is_digit(b: u8) -> bool {
-    if b < b'0' {
-        return false;
-    }
-    b <= b'9'
+// The number that the digits from a place on spell, so many of them at most.
+pub fn spelled(bytes: &[u8], at: usize, most: usize) -> usize {
+    bytes
+        .iter()
+        .skip(at)
+        .take(most)
+        .map_while(|b| digit(b))
+        .fold(0, |n: usize, d| n.saturating_mul(10).saturating_add(d))
 }

@@ -6,5 +6,5 @@
 mod counting;
 mod lines;
 
-pub use counting::{Numeral, deepest, large_number, leaves_out, nodes_to, wrong_mark};
-pub use lines::{line_end, line_start};
+pub use counting::{Numeral, deepest, large_number, leaves_out, nodes, wrong_mark};
+pub use lines::{line, text_to};

@@ -1,7 +1,7 @@
 // The fields of a table file; what lies past its end is 0.
 ghost use Rattle.std.specs.Prelude.{◌<◌};
 
-use place_bytes::{number_at, plus, two_at};
+use place_bytes::{number_at, two_at};
 
 // The counts of the header.
 pub fn rows(bytes: &[u8]) -> usize
@@ -28,15 +28,11 @@ pub fn actions(bytes: &[u8]) -> usize
     two_at(bytes, 10)
 }
 
-// Where a row begins; numbers that no table has are taken for 0.
+// Where a row begins: its state, the number of its steps and its first step.
 pub fn row_place(row: usize) -> usize {
-    if 65535 < row {
-        return 12;
-    }
-    12 + 4 * row
+    row.saturating_mul(4).saturating_add(12)
 }
 
-// The state, the number of steps and the first step of a row.
 pub fn row_state(bytes: &[u8], row: usize) -> usize {
     number_at(bytes, row_place(row))
 }
@@ -44,28 +40,25 @@ pub fn row_state(bytes: &[u8], row: usize) -> usize {
 pub fn row_count(bytes: &[u8], row: usize) -> usize
     ensures { result < 256 }
 {
-    number_at(bytes, plus(row_place(row), 1))
+    number_at(bytes, row_place(row).saturating_add(1))
 }
 
 pub fn row_first(bytes: &[u8], row: usize) -> usize
     ensures { result < 65536 }
 {
-    two_at(bytes, plus(row_place(row), 2))
+    two_at(bytes, row_place(row).saturating_add(2))
 }
 
-// Where a step begins.
+// Where a step begins: its action and its target row.
 pub fn step_place(bytes: &[u8], step: usize) -> usize {
-    if 131071 < step {
-        return 0;
-    }
-    plus(row_place(rows(bytes)), 3 * step)
+    step.saturating_mul(3)
+        .saturating_add(row_place(rows(bytes)))
 }
 
-// The action and the target row of a step.
 pub fn step_action(bytes: &[u8], step: usize) -> usize {
     number_at(bytes, step_place(bytes, step))
 }
 
 pub fn step_target(bytes: &[u8], step: usize) -> usize {
-    two_at(bytes, plus(step_place(bytes, step), 1))
+    two_at(bytes, step_place(bytes, step).saturating_add(1))
 }

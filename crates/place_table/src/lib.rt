@@ -4,9 +4,9 @@
 #![tactic(auto)]
 
 mod fields;
-pub mod layout;
+mod layout;
 mod steps;
 
 pub use fields::{actions, row_count, row_state, rows, states, steps_count};
-pub use layout::{Fault, wrong_layout};
-pub use steps::{allowed_somewhere, has, target_row, waiting_state, withheld, wrong_step};
+pub use layout::{Fault, Part, check_layout};
+pub use steps::{StepFault, allowed_somewhere, has, waiting_state, withheld, wrong_step};

@@ -1,174 +1,103 @@
 // The first action, target or mask that is wrong.
 use crate::fields;
-use place_bytes::{number_at, plus, two_at};
+use place_bytes::{number_at, two_at};
 
-// A place in a tower file: the state and the action that it is about, the place and what is there. `is`
-// says whether there is one.
-#[derive(Drop)]
-pub struct Spot {
+// An action that is wrong, and the byte at which it is: its length is 0, or there is no such kind.
+#[derive(Clone, Copy)]
+pub enum ActionFault {
+    Length {
+        action: usize,
+        at: usize,
+    },
+    Kind {
+        action: usize,
+        at: usize,
+        kind: usize,
+    },
+}
+
+// A target that is no state, and the byte at which it is.
+#[derive(Clone, Copy)]
+pub struct TargetFault {
     pub state: usize,
     pub action: usize,
     pub at: usize,
-    pub value: usize,
-    pub is: bool,
+    pub target: usize,
 }
 
-fn nowhere() -> Spot {
-    Spot {
-        state: 0,
-        action: 0,
-        at: 0,
-        value: 0,
-        is: false,
-    }
+// A mark of a state that the tower does not have, and the byte at which the state's marks begin.
+#[derive(Clone, Copy)]
+pub struct MarkFault {
+    pub state: usize,
+    pub at: usize,
+    pub mark: usize,
 }
 
-fn spot_at(state: usize, action: usize, at: usize, value: usize) -> Spot {
-    Spot {
-        state: state,
-        action: action,
-        at: at,
-        value: value,
-        is: true,
-    }
-}
-
-// What is wrong with an action: its length is 0, or there is no such kind.
-fn action_spot(bytes: &[u8], action: usize) -> Spot {
+// What is wrong with an action.
+fn action_fault(bytes: &[u8], action: usize) -> Option<ActionFault> {
     let at = fields::action_place(action);
     if number_at(bytes, at) == 0 {
-        return spot_at(0, action, at, 0);
+        return Some(ActionFault::Length { action, at });
     }
     let kind = fields::kind(bytes, action);
-    if file_kinds::unknown(kind) {
-        return spot_at(0, action, plus(at, 1), kind);
-    }
-    nowhere()
+    file_kinds::unknown(kind).then(|| ActionFault::Kind {
+        action,
+        at: fields::kind_place(action),
+        kind,
+    })
 }
 
 // The first action that is wrong.
-pub fn bad_action(bytes: &[u8]) -> Spot {
-    let actions = fields::actions(bytes);
-    let mut action = 0;
-    while action < actions {
-        let here = action_spot(bytes, action);
-        if here.is {
-            return here;
-        }
-        action += 1;
-    }
-    nowhere()
+pub fn bad_action(bytes: &[u8]) -> Option<ActionFault> {
+    (0..fields::actions(bytes)).find_map(|action| action_fault(bytes, action))
 }
 
 // A target that is neither a state nor 255.
-fn target_spot(bytes: &[u8], state: usize, at: usize, action: usize) -> Spot {
-    let place = plus(at, plus(2, action));
-    let target = number_at(bytes, place);
-    if target == 255 {
-        return nowhere();
-    }
-    if target < fields::states(bytes) {
-        return nowhere();
-    }
-    spot_at(state, action, place, target)
+fn target_fault(bytes: &[u8], state: usize, action: usize) -> Option<TargetFault> {
+    let target = fields::target(bytes, state, action)?;
+    (fields::states(bytes) <= target).then(|| TargetFault {
+        state,
+        action,
+        at: fields::target_place(bytes, state, action),
+        target,
+    })
 }
 
-// The first bad target of the state that begins at a place.
-fn bad_target_of(bytes: &[u8], state: usize, at: usize) -> Spot {
-    let actions = fields::actions(bytes);
-    let mut action = 0;
-    while action < actions {
-        let here = target_spot(bytes, state, at, action);
-        if here.is {
-            return here;
-        }
-        action += 1;
-    }
-    nowhere()
+// The first target of a state that is wrong.
+fn bad_target_of(bytes: &[u8], state: usize) -> Option<TargetFault> {
+    (0..fields::actions(bytes)).find_map(|action| target_fault(bytes, state, action))
 }
 
 // The first target that is wrong.
-pub fn bad_target(bytes: &[u8]) -> Spot {
-    let states = fields::states(bytes);
-    let mut state = 0;
-    while state < states {
-        let here = bad_target_of(bytes, state, fields::state_place(bytes, state));
-        if here.is {
-            return here;
-        }
-        state += 1;
-    }
-    nowhere()
+pub fn bad_target(bytes: &[u8]) -> Option<TargetFault> {
+    (0..fields::states(bytes)).find_map(|state| bad_target_of(bytes, state))
 }
 
-// Whether a mask has a bit, counted from 0.
-fn has_bit(mask: usize, bit: usize) -> bool {
-    let mut rest = mask;
-    let mut left = bit;
-    while left > 0 {
-        left -= 1;
-        rest = rest / 2;
-    }
-    rest % 2 == 1
+// The lowest mark of a state that the tower does not have.
+fn mark_fault(bytes: &[u8], state: usize) -> Option<MarkFault> {
+    let at = fields::state_place(bytes, state);
+    let mask = two_at(bytes, at);
+    let mark = (fields::marks(bytes)..16).find(|mark| mask >> *mark & 1 == 1)?;
+    Some(MarkFault { state, at, mark })
 }
 
-// The lowest mark of a mask that the tower does not have.
-fn mask_spot(state: usize, at: usize, mask: usize, marks: usize) -> Spot {
-    let mut mark = marks;
-    while mark < 16 {
-        if has_bit(mask, mark) {
-            return spot_at(state, 0, at, mark);
-        }
-        mark += 1;
-    }
-    nowhere()
+// The first state that has a mark which the tower does not have.
+pub fn bad_mark(bytes: &[u8]) -> Option<MarkFault> {
+    (0..fields::states(bytes)).find_map(|state| mark_fault(bytes, state))
 }
 
-// The first state that has a mark which the tower does not have; the value is the mark.
-pub fn bad_mask(bytes: &[u8]) -> Spot {
-    let states = fields::states(bytes);
-    let mut state = 0;
-    while state < states {
-        let at = fields::state_place(bytes, state);
-        let here = mask_spot(state, at, two_at(bytes, at), fields::marks(bytes));
-        if here.is {
-            return here;
-        }
-        state += 1;
-    }
-    nowhere()
-}
-
-// Whether an action is enabled in the state that begins at a place, and counts as going on.
-fn leads_on(bytes: &[u8], at: usize, action: usize) -> bool {
-    if number_at(bytes, plus(at, plus(2, action))) == 255 {
-        return false;
-    }
-    file_kinds::goes_on(fields::kind(bytes, action))
+// Whether an action is enabled in a state, and counts as going on.
+fn leads_on(bytes: &[u8], state: usize, action: usize) -> bool {
+    fields::target(bytes, state, action).is_some()
+        && file_kinds::goes_on(fields::kind(bytes, action))
 }
 
 // Whether some action is.
-fn goes_on(bytes: &[u8], at: usize) -> bool {
-    let actions = fields::actions(bytes);
-    let mut action = 0;
-    while action < actions {
-        if leads_on(bytes, at, action) {
-            return true;
-        }
-        action += 1;
-    }
-    false
+fn goes_on(bytes: &[u8], state: usize) -> bool {
+    (0..fields::actions(bytes)).any(|action| leads_on(bytes, state, action))
 }
 
-// The first state that no action leaves but the player's, or the number of states.
-pub fn stuck(bytes: &[u8]) -> usize {
-    let states = fields::states(bytes);
-    let mut state = 0;
-    while state < states {
-        if !goes_on(bytes, fields::state_place(bytes, state)) {
-            return state;
-        }
-        state += 1;
-    }
-    states
+// The first state that no action leaves but the player's.
+pub fn stuck(bytes: &[u8]) -> Option<usize> {
+    (0..fields::states(bytes)).find(|state| !goes_on(bytes, *state))
 }

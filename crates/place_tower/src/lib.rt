@@ -7,9 +7,6 @@ mod faults;
 mod fields;
 mod sure;
 
-pub use faults::{Spot, bad_action, bad_mask, bad_target, stuck};
-pub use fields::{
-    action_place, actions, kind, marks, start, state_place, state_size, states, states_place,
-    target,
-};
+pub use faults::{ActionFault, MarkFault, TargetFault, bad_action, bad_mark, bad_target, stuck};
+pub use fields::{actions, kind, marks, start, state_place, states, states_place, target};
 pub use sure::sure_copy;

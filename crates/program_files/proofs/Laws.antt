@@ -3,12 +3,12 @@ use Prim.Native.Nat.{ℕ, ◌≤◌}
 use mathlib.Core.Path.{◌≡◌}
 use mathlib.Core.List.{List}
 use lib.ListN.{length, take}
-use Rattle.program_files.specs.declared.reading.Contents.{Contents}
+use Rattle.std.specs.Prelude.{Option, Some}
 use Rattle.program_files.specs.Counts.{HoldsContents}
 
 -- What was read is a part of the area.
-pub contents_within : (r : Contents) (n : ℕ) (area : List ℕ) → r ≡ Contents.Bytes n → HoldsContents r area → n ≤ length area
+pub contents_within : (r : Option ℕ) (n : ℕ) (area : List ℕ) → r ≡ Some n → HoldsContents r area → n ≤ length area
 contents_within r n area e h = (h.counts n e).within
 
-pub contents_taken : (r : Contents) (n : ℕ) (area : List ℕ) → r ≡ Contents.Bytes n → HoldsContents r area → n ≡ length (take n area)
+pub contents_taken : (r : Option ℕ) (n : ℕ) (area : List ℕ) → r ≡ Some n → HoldsContents r area → n ≡ length (take n area)
 contents_taken r n area e h = (h.counts n e).taken

@@ -7,5 +7,5 @@ mod naming;
 mod reading;
 mod writing;
 
-pub use reading::{Contents, argument, argument_count, fill, open, read_file};
+pub use reading::{argument, argument_count, fill, open, read_file};
 pub use writing::{print, save, unchanged};

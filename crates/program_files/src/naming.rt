@@ -4,19 +4,11 @@ ghost use Rattle.base.specs.Bytes.{number_at};
 ghost use Rattle.program_texts.specs.Putting.{PrintedLine};
 ghost use Rattle.program_files.specs.Names.{temporary_name, FolderEnd};
 
-// A byte as a number.
-fn wide(b: u8) -> usize
-    ensures value { result ≡ b }
-    ensures upper_bound { result < 256 }
-{
-    b as usize
-}
-
 // Four bytes as a number, the low byte first.
 fn number(b: &[u8; 4]) -> usize
     ensures { result ≡ number_at 4 b.now 0 }
 {
-    wide(b[0]) + 256 * wide(b[1]) + 65536 * wide(b[2]) + 16777216 * wide(b[3])
+    u32::from_le_bytes(*b) as usize
 }
 
 // The name of a temporary file in the same folder: the file's own, a number and `tmp`. One that is
@@ -34,14 +26,8 @@ pub fn temporary(path: &[u8], random: &[u8; 4], name: &mut [u8; 4096]) -> usize
 pub fn folder_end(path: &[u8]) -> usize
     ensures { FolderEnd result path.now }
 {
-    let mut end = 0;
-    let mut i = 0;
-    while i < path.len() {
-        let at = i;
-        i += 1;
-        if path[at] == b'/' {
-            end = i;
-        }
+    match path.iter().rposition(|b| *b == b'/') {
+        Some(slash) => slash + 1,
+        None => 0,
     }
-    end
 }

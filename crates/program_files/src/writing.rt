@@ -1,94 +1,54 @@
 // Writing: to standard output, and a file that takes the place of another only when it is whole.
-ghost use Rattle.std.specs.Prelude.{◌≤◌, length};
-ghost use Rattle.program_files.specs.Counts.{WritesBytes};
-
 use crate::naming;
 use crate::reading::open_to_read;
-use program_saying::{fail, file_name};
+use program_saying::{fail, file_name, in_file};
 use std::fs::{Files, OpenFile, OpenOptions};
-use std::io::{Eprint, ErrorKind, Print, Write};
+use std::io::{Eprint, Error, ErrorKind, Print, Write};
 use std::random::RandomSource;
 use std::{fs, io};
 
-// How writing goes on after a call: with so many bytes in all, or not at all.
-#[derive(Drop)]
-pub enum Written {
-    On(usize),
-    Failed,
-}
-
-// One call, of the bytes that are left. One that a signal interrupts is to be made again.
-fn write_more<R: Eprint, W: Write>(
-    rt: &R,
-    to: &mut W,
-    path: &[u8],
-    bytes: &[u8],
-    done: usize,
-) -> Written
-    requires { done ≤ length bytes.now }
-    ensures { WritesBytes result (length bytes.now) }
-{
-    let more = match to.write(&bytes[done..]) {
-        Ok(more) => more,
-        Err(why) => {
-            if why.kind() == ErrorKind::Interrupted {
-                return Written::On(done);
-            }
-            fail(rt, path, why);
-            return Written::Failed;
+// All of the bytes. A call that a signal interrupts is made again. The number of calls is bounded, by one
+// that no run reaches.
+fn write_whole<W: Write>(to: &mut W, bytes: &[u8]) -> io::Result<()> {
+    let mut rest = bytes;
+    for _ in 0..u64::MAX {
+        if rest.is_empty() {
+            return Ok(());
         }
-    };
-    if more == 0 {
-        program_saying::in_file(rt, path, b"nothing was written");
-        return Written::Failed;
-    }
-    Written::On(done + more)
-}
-
-// All of the bytes. The number of calls is bounded, by one that no run reaches.
-fn write_whole<R: Eprint, W: Write>(rt: &R, to: &mut W, path: &[u8], bytes: &[u8]) -> bool {
-    let mut done = 0;
-    let mut turns = u64::MAX;
-    while turns > 0 && done < bytes.len() {
-        turns -= 1;
-        match write_more(rt, to, path, bytes, done) {
-            Written::On(next) => {
-                done = next;
-            }
-            Written::Failed => {
-                return false;
-            }
+        match to.write(rest) {
+            Ok(0) => break,
+            Ok(more) => rest = &rest[more..],
+            Err(why) if why.kind() == ErrorKind::Interrupted => {}
+            Err(why) => return Err(why),
         }
     }
-    done == bytes.len()
+    Err(Error::new(ErrorKind::WriteZero, "nothing was written"))
 }
 
-// Writes bytes to standard output, or says that it cannot.
-pub fn print<R: Print + Eprint>(rt: &R, bytes: &[u8]) -> bool {
-    let mut to = io::writer(rt);
-    write_whole(rt, &mut to, b"standard output", bytes)
-}
-
-// Writes to a new file that is open, and closes it: the bytes are on the device. std makes a sync that a
-// signal interrupts again, and what the close answers behind it is lost there.
-fn fill<R: Eprint, F: Write + OpenFile + Drop>(
-    rt: &R,
-    mut file: F,
-    path: &[u8],
-    bytes: &[u8],
-) -> bool {
-    if !write_whole(rt, &mut file, path, bytes) {
-        return false;
-    }
-    if let Err(why) = file.sync_all() {
+// Whether a step was made; says of the file of that name why not.
+fn is_made<R: Eprint>(rt: &R, path: &[u8], step: io::Result<()>) -> bool {
+    if let Err(why) = step {
         fail(rt, path, why);
         return false;
     }
     true
 }
 
+// Writes bytes to standard output, or says that it cannot.
+pub fn print<R: Print + Eprint>(rt: &R, bytes: &[u8]) -> bool {
+    let step = write_whole(&mut io::writer(rt), bytes);
+    is_made(rt, b"standard output", step)
+}
+
+// Writes to a new file that is open, and closes it: the bytes are on the device. std makes a sync that a
+// signal interrupts again, and what the close answers behind it is lost there.
+fn fill<F: Write + OpenFile + Drop>(mut file: F, bytes: &[u8]) -> io::Result<()> {
+    write_whole(&mut file, bytes)?;
+    file.sync_all()
+}
+
 // Opens a folder and waits until its entries have reached their device.
-fn sync_entries<R: Files>(rt: &R, folder: &[u8]) -> io::Result<()> {
+fn sync_folder<R: Files>(rt: &R, folder: &[u8]) -> io::Result<()> {
     let file = open_to_read(rt, folder)?;
     match file.sync_all() {
         // A file system that cannot do this for a folder.
@@ -97,30 +57,20 @@ fn sync_entries<R: Files>(rt: &R, folder: &[u8]) -> io::Result<()> {
     }
 }
 
-// The folder's entries are on the device.
-fn sync_folder<R: Files + Eprint>(rt: &R, folder: &[u8]) -> bool {
-    if let Err(why) = sync_entries(rt, folder) {
-        fail(rt, b"the folder of the table", why);
-        return false;
-    }
-    true
-}
-
 // The folder of a file, synced.
-fn sync_folder_of<R: Files + Eprint>(rt: &R, path: &[u8]) -> bool {
-    let end = naming::folder_end(path);
-    if end == 0 {
-        return sync_folder(rt, b".");
+fn sync_folder_of<R: Files>(rt: &R, path: &[u8]) -> io::Result<()> {
+    match naming::folder_end(path) {
+        0 => sync_folder(rt, b"."),
+        end => sync_folder(rt, &path[..end]),
     }
-    sync_folder(rt, &path[..end])
 }
 
 // Says that nothing was written, and what that means for a file of this name.
 pub fn unchanged<R: Eprint>(rt: &R, path: &[u8]) {
-    program_saying::in_file(
+    in_file(
         rt,
         path,
-        b"no table was written; a file of this name, if there is one, is unchanged and from before",
+        "no table was written; a file of this name, if there is one, is unchanged and from before",
     );
 }
 
@@ -145,57 +95,52 @@ fn rename<R: Files>(rt: &R, from: &[u8], to: &[u8]) -> io::Result<()> {
     fs::rename(rt, file_name(from)?, file_name(to)?)
 }
 
-// The temporary file takes the name.
-fn replace<R: Files + Eprint>(rt: &R, temporary: &[u8], path: &[u8]) -> bool {
-    if let Err(why) = rename(rt, temporary, path) {
-        fail(rt, path, why);
-        remove(rt, temporary);
-        return false;
-    }
-    true
+// Fills the temporary file, which is open, and has it replace the file of that name.
+fn replace_by<R: Files>(
+    rt: &R,
+    file: R::File,
+    temporary: &[u8],
+    path: &[u8],
+    bytes: &[u8],
+) -> io::Result<()> {
+    fill(file, bytes)?;
+    rename(rt, temporary, path)
 }
 
-// Makes the temporary file, fills it, and has it replace the file of that name.
-fn replace_by<R: Files + Eprint>(rt: &R, temporary: &[u8], path: &[u8], bytes: &[u8]) -> bool {
-    let file = match create(rt, temporary) {
-        Ok(file) => file,
-        Err(why) => {
-            fail(rt, path, why);
-            return false;
-        }
-    };
-    if !fill(rt, file, path, bytes) {
+// Makes the temporary file, fills it, and has it replace the file of that name; or leaves none behind.
+fn replace<R: Files>(rt: &R, temporary: &[u8], path: &[u8], bytes: &[u8]) -> io::Result<()> {
+    let file = create(rt, temporary)?;
+    let replaced = replace_by(rt, file, temporary, path, bytes);
+    if replaced.is_err() {
         remove(rt, temporary);
-        return false;
     }
-    replace(rt, temporary, path)
+    replaced
 }
 
 // The same, with a name for the temporary file.
-fn put_in_place<R: Files + RandomSource + Eprint>(rt: &R, path: &[u8], bytes: &[u8]) -> bool {
+fn put_in_place<R: Files + RandomSource>(rt: &R, path: &[u8], bytes: &[u8]) -> io::Result<()> {
     let mut name = [0u8; 4096];
     let mut random = [0u8; 4];
-    if let Err(why) = rt.fill_bytes(&mut random) {
-        fail(rt, path, why);
-        return false;
-    }
+    rt.fill_bytes(&mut random)?;
     let n = naming::temporary(path, &random, &mut name);
-    replace_by(rt, &name[..n], path, bytes)
+    replace(rt, &name[..n], path, bytes)
 }
 
 // Writes a file: first under another name in the same folder, whole and on the device, which then
 // replaces the old one; then the folder is told. So at any moment the old file or the new one is there,
 // whole. Where it fails it says why and which of the two is there, and leaves no other file behind.
 pub fn save<R: Files + RandomSource + Eprint>(rt: &R, path: &[u8], bytes: &[u8]) -> bool {
-    if !put_in_place(rt, path, bytes) {
+    let step = put_in_place(rt, path, bytes);
+    if !is_made(rt, path, step) {
         unchanged(rt, path);
         return false;
     }
-    if !sync_folder_of(rt, path) {
-        program_saying::in_file(
+    let step = sync_folder_of(rt, path);
+    if !is_made(rt, b"the folder of the table", step) {
+        in_file(
             rt,
             path,
-            b"the new table is in place; whether it or the old one is there after a power failure is open, since the folder is not synced",
+            "the new table is in place; whether it or the old one is there after a power failure is open, since the folder is not synced",
         );
         return false;
     }

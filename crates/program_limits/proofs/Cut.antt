@@ -11,7 +11,8 @@ use lib.Seq.{take_all, get_or-take}
 use lib.Dec.{eqb, ltb, leb}
 use borrow.Author.Tests.{lt-ltb, le-ltb, eqb-true, not-false}
 use Rattle.base.specs.Bytes.{number_at}
-use Rattle.base.specs.Answers.{give, refuse, ◌if◌else◌, ◌then◌}
+use Rattle.base.specs.Answers.{◌if◌else◌, ◌then◌}
+use Rattle.std.specs.Prelude.{Err, Ok}
 use Rattle.base.specs.declared.Refusal.TheVariants.{TowerSize, Range, Limit, Layout}
 use Rattle.base.proofs.Bytes.{number_at_take}
 use Rattle.base.proofs.Lists.{whether, and_left, or_fails_left, or_fails_right}
@@ -72,7 +73,7 @@ header_short layout = omega arith
 
 -- A tower that is too long is refused with 2 or 1.
 long_tower_read : (bytes : List ℕ) → longest_tower (layout_of bytes) < length bytes
-    → read_tower bytes ≡ (Range if bad_counts bytes else refuse TowerSize)
+    → read_tower bytes ≡ (Range if bad_counts bytes else Err TowerSize)
 unfolding read_tower no_header
 long_tower_read bytes l =
     if_on TowerSize _ (le-ltb (length bytes) (layout_of bytes).header (omega (arith, header_short (layout_of bytes))))
@@ -126,7 +127,7 @@ pub tower_cut : (bytes : List ℕ) → read_tower (take tower_room bytes) ≡ re
 tower_cut bytes = elim (dec_lt tower_room (length bytes)) [
   | yes l ↦
       long_tower_read (take tower_room bytes) (rw (length-take tower_room bytes, layout_cut bytes) (omega (arith, longest_most bytes)))
-      ∙ ap (λ b. Range if b else refuse TowerSize) (cut_counts bytes) ∙ sym (long_tower_read bytes (omega (arith, longest_most bytes)))
+      ∙ ap (λ b. Range if b else Err TowerSize) (cut_counts bytes) ∙ sym (long_tower_read bytes (omega (arith, longest_most bytes)))
   | no l ↦ ap read_tower (take_all tower_room bytes (omega arith))
 ]
 
@@ -136,7 +137,7 @@ tower_cut bytes = elim (dec_lt tower_room (length bytes)) [
 abbrev book_room : ℕ
 book_room = suc most_bytes
 
-long_book : (marks : ℕ) (text : List ℕ) → most_bytes < length text → read_book marks text ≡ refuse (Limit 0)
+long_book : (marks : ℕ) (text : List ℕ) → most_bytes < length text → read_book marks text ≡ Err (Limit 0)
 unfolding read_book
 long_book marks text l = if_refuses (Limit 0) _ (lt-ltb most_bytes (length text) l)
 
@@ -172,7 +173,7 @@ longest_table_most : (bytes : List ℕ) → longest_table (table_layout bytes) �
 unfolding table_layout
 longest_table_most bytes = omega arith
 
-long_table : (tower : Tower) (bytes : List ℕ) → longest_table narrow < length bytes → read_table tower bytes ≡ refuse Layout
+long_table : (tower : Tower) (bytes : List ℕ) → longest_table narrow < length bytes → read_table tower bytes ≡ Err Layout
 unfolding read_table
 long_table tower bytes l =
     if_refuses Layout _
@@ -189,10 +190,10 @@ table_cut tower bytes = elim (dec_lt table_room (length bytes)) [
 pub made_cut : (tower text : List ℕ) → made_file (take tower_room tower) (take book_room text) ≡ made_file tower text
 unfolding made_file
 made_cut tower text =
-    ap (λ k. read_tower (take tower_room tower) then λ t. read_book t.marks (take book_room text) then λ book. table_for t book then λ table. give (table_file k t.states t.actions table)) (layout_cut tower)
-    ∙ ap (λ o. o then λ t. read_book t.marks (take book_room text) then λ book. table_for t book then λ table. give (table_file (layout_of tower) t.states t.actions table)) (tower_cut tower)
+    ap (λ k. read_tower (take tower_room tower) then λ t. read_book t.marks (take book_room text) then λ book. table_for t book then λ table. Ok (table_file k t.states t.actions table)) (layout_cut tower)
+    ∙ ap (λ o. o then λ t. read_book t.marks (take book_room text) then λ book. table_for t book then λ table. Ok (table_file (layout_of tower) t.states t.actions table)) (tower_cut tower)
     ∙ ap (λ f. read_tower tower then f)
-    (fun_ext λ t. ap (λ o. o then λ book. table_for t book then λ table. give (table_file (layout_of tower) t.states t.actions table)) (book_cut t.marks text))
+    (fun_ext λ t. ap (λ o. o then λ book. table_for t book then λ table. Ok (table_file (layout_of tower) t.states t.actions table)) (book_cut t.marks text))
 
 pub checked_cut : (tower text table : List ℕ) → checked_file (take tower_room tower) (take book_room text) (take table_room table) ≡ checked_file tower text table
 unfolding checked_file

@@ -12,6 +12,9 @@ use mir.Val.{Fits}
 use Rattle.base.specs.Lists.{joined, count_from}
 use Rattle.base.specs.Text.{ascii}
 use Rattle.base.specs.Answers.{row_of, letter_of, refusal_number, refusal_place, refusal_said, reason_said}
+use Rattle.base.specs.Answers.{rejection_said}
+use Rattle.base.specs.declared.Rejection.{Rejection}
+use Rattle.base.specs.declared.LogEnd.{LogEnd}
 use Rattle.base.specs.declared.Reason.{Reason}
 use Rattle.base.specs.declared.Reason.TheVariants.{Start, Withheld, WrongStep, Stopped, Broken}
 use Rattle.base.specs.declared.Refusal.{Refusal}
@@ -23,9 +26,9 @@ use Rattle.file_table.proofs.Laws.{laid_out_known}
 use Rattle.program_texts.specs.Decimal.{decimal}
 use Rattle.program_texts.specs.Putting.{filled, put, Puts, PrintedLine}
 use Rattle.program_texts.proofs.Fitting.{put_append, puts_then, puts_nothing, more, last, line_whole}
-use Rattle.program_listing.specs.Lines.{line_end, head_line, step_text, steps_text, row_line, sizes_line, letter_text, inside_text, refusal_line, refused_line, named_line, log_line}
+use Rattle.program_listing.specs.Lines.{line_end, head_line, step_text, steps_text, row_line, sizes_line, letter_text, inside_text, refusal_line, refused_line, named_line, end_line, log_line}
 use Rattle.program_listing.proofs.Lengths.{head_short, sizes_short, row_short, refusal_short, named_short}
-use Rattle.base.specs.declared.LogAnswer.{LogAnswer}
+use Rattle.base.specs.Answers.{LogAnswer}
 
 -- ---- texts one behind the other
 
@@ -188,6 +191,15 @@ named_way word n o₀ o₁ o₂ o₃ r₁ r₂ r₃ r q p e few a =
     line_whole r₃ (named_line word n) o₀ o₃
     (more r₁ r₃ 0 word (decimal n ∷ line_end ∷ []) o₀ o₁ o₃ p (more r₂ r₃ r₁ (decimal n) (line_end ∷ []) o₁ o₂ o₃ q (last r₃ r₂ line_end o₂ o₃ r)))
     (rw e (named_short word n few a))
+
+-- The line of an end that is known.
+pub end_way : (end known : LogEnd) (r : ℕ) (after : List ℕ) → end ≡ known → PrintedLine r (end_line known) after → PrintedLine r (end_line end) after
+end_way end known r after e h = rw e h
+
+-- The line of a rejection that is known.
+pub rejection_way : (why known : Rejection) (r : ℕ) (after : List ℕ) → why ≡ known → PrintedLine r (refusal_line (rejection_said known)) after
+    → PrintedLine r (refusal_line (rejection_said why)) after
+rejection_way why known r after e h = rw e h
 
 -- The line of an answer that is known.
 pub log_way : (answer known : LogAnswer) (r : ℕ) (after : List ℕ) → answer ≡ known → PrintedLine r (log_line known) after → PrintedLine r (log_line answer) after

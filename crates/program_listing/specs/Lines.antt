@@ -3,9 +3,12 @@ use Rattle.std.specs.Prelude.{ℕ, List, [], ◌∷◌, map, eqb}
 use Rattle.base.specs.Choice.{pick}
 use Rattle.base.specs.Lists.{joined}
 use Rattle.base.specs.Text.{byte, ascii}
-use Rattle.base.specs.Answers.{Said, answered, refused, refusal_said, reason_said}
-use Rattle.base.specs.declared.LogAnswer.{LogAnswer}
-use Rattle.base.specs.declared.LogAnswer.TheVariants as Logged
+use Rattle.base.specs.Answers.{rejection_said, Said, answered, refused, refusal_said, reason_said}
+use Rattle.base.specs.Answers.{LogAnswer}
+use Rattle.std.specs.Prelude.{Ok, Err}
+use Rattle.base.specs.declared.Rejection.TheVariants as Rejected
+use Rattle.base.specs.declared.LogEnd.{LogEnd}
+use Rattle.base.specs.declared.LogEnd.TheVariants as Ends
 use Rattle.logic.specs.Tables.{Step, Row}
 use Rattle.program_texts.specs.Decimal.{decimal}
 
@@ -48,12 +51,15 @@ refusal_line (refused number place inside) =
 unfoldable pub named_line : List ℕ → ℕ → List ℕ
 named_line word n = joined (word ∷ decimal n ∷ line_end ∷ [])
 
--- what a log comes to: the final row, the first line that does not fit, or a refusal
+-- what a log comes to: the final row, or the first line that does not fit
+abbrev pub end_line : LogEnd → List ℕ
+end_line (Ends.Row row) = named_line (ascii "row ") row
+end_line (Ends.Line line) = named_line (ascii "line ") line
+
+-- the same, or why the log was not read
 unfoldable pub log_line : LogAnswer → List ℕ
-log_line (Logged.Row row) = named_line (ascii "row ") row
-log_line (Logged.Line line) = named_line (ascii "line ") line
-log_line (Logged.NotGood reason) = refusal_line (reason_said reason)
-log_line (Logged.Refused r) = refusal_line (refusal_said r)
+log_line (Ok end) = end_line end
+log_line (Err why) = refusal_line (rejection_said why)
 
 -- ---- the same by numbers
 

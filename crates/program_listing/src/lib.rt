@@ -4,13 +4,13 @@
 #![tactic(auto)]
 
 ghost use Rattle.std.specs.Prelude.{◌≤◌, ◌<◌, ◌≡◌, true, length};
-ghost use Rattle.base.specs.Answers.{refusal_said, reason_said};
+ghost use Rattle.base.specs.Answers.{rejection_said, refusal_said, reason_said};
 ghost use Rattle.logic.specs.Tables.{row_at};
 ghost use Rattle.reading.specs.TableReading.{rows_of, laid_out, table_of};
 ghost use Rattle.program_texts.specs.Putting.{Puts, PrintedLine};
-ghost use Rattle.program_listing.specs.Lines.{head_line, step_text, steps_text, row_line, sizes_line, letter_text, refusal_line, refused_line, named_line, log_line};
+ghost use Rattle.program_listing.specs.Lines.{head_line, step_text, steps_text, row_line, sizes_line, letter_text, refusal_line, refused_line, named_line, end_line, log_line};
 
-use base::{LogAnswer, Reason, Refusal};
+use base::{LogAnswer, LogEnd, Reason, Refusal, Rejection};
 use program_texts::{put_byte, put_bytes, put_decimal};
 
 // The counts of a table, the listing's first line.
@@ -41,13 +41,12 @@ fn put_steps(table: &[u8], row: usize, out: &mut [u8], at: usize) -> usize
     ensures { Puts result (steps_text (row_at (table_of table.now) row).steps) out.old at out.new }
 {
     let mut next = at;
-    let mut i = file_table::row_first(table, row);
-    let end = i + file_table::row_count(table, row);
-    while i < end {
+    let first = file_table::row_first(table, row);
+    let end = first + file_table::row_count(table, row);
+    for i in first..end {
         let action = file_table::step_action(table, i);
         let target = file_table::step_target(table, i);
         next = put_step(out, next, action, target);
-        i += 1;
     }
     next
 }
@@ -127,14 +126,32 @@ fn named(word: &[u8], n: usize, out: &mut [u8; 4096]) -> usize
     put_byte(out, b, b'\n')
 }
 
-// What a log comes to: the final row, the first line that does not fit, or a refusal.
+// Why a table is rejected.
+fn rejection(why: Rejection, out: &mut [u8; 4096]) -> usize
+    ensures { PrintedLine result (refusal_line (rejection_said why)) out.new }
+{
+    match why {
+        Rejection::NotGood(reason) => not_good(reason, out),
+        Rejection::Refused(refused) => refusal(refused, out),
+    }
+}
+
+// What a log comes to: the final row, or the first line that does not fit.
+fn log_end(end: LogEnd, out: &mut [u8; 4096]) -> usize
+    ensures { PrintedLine result (end_line end) out.new }
+{
+    match end {
+        LogEnd::Row(row) => named(b"row ", row, out),
+        LogEnd::Line(line) => named(b"line ", line, out),
+    }
+}
+
+// The same, or why the log was not read.
 pub fn log_answer(answer: LogAnswer, out: &mut [u8; 4096]) -> usize
     ensures { PrintedLine result (log_line answer) out.new }
 {
     match answer {
-        LogAnswer::Row(row) => named(b"row ", row, out),
-        LogAnswer::Line(line) => named(b"line ", line, out),
-        LogAnswer::NotGood(reason) => not_good(reason, out),
-        LogAnswer::Refused(why) => refusal(why, out),
+        Ok(end) => log_end(end, out),
+        Err(why) => rejection(why, out),
     }
 }

@@ -1,16 +1,15 @@
 -- A law for each way through the code that reads a log in parts.
 use Prim.Native.Nat.{ℕ, ◌+◌, ◌-◌, ◌≤◌, ◌<◌}
 use native.Mathlib.Omega.{arith}
-use native.Mathlib.Decide.{ℕ_discrete}
 use mathlib.Core.Path.{◌≡◌, refl, ◌∙◌}
 use mathlib.Core.Logic.{◌⊎◌, inl, inr}
 use mathlib.Core.List.{List}
-use lib.ListN.{length, set, length-set, take}
-use lib.Seq.{get_or-set_same, get_or-set_other, length-take-le}
-use Rattle.base.specs.Bytes.{byte_at}
+use lib.ListN.{length, take}
+use lib.Seq.{length-take-le}
+use Rattle.std.specs.List.{CopiedTo}
 use Rattle.logic.specs.declared.Position.{Position}
 use Rattle.reading.proofs.LogReading.{log_inside}
-use Rattle.outcome.specs.declared.Course.{Course}
+use Rattle.outcome.specs.Log.{Course}
 use Rattle.log_course.specs.Following.{Noted, OnRow, LinesFollowed}
 use Rattle.log_course.specs.declared.Followed.{Followed}
 use Rattle.program_log.specs.Parts.{Kept, GoesOn, InPart}
@@ -18,39 +17,13 @@ use Rattle.program_log.specs.declared.Part.{Part}
 
 -- ---- keep
 
--- The first i bytes have been moved, and those from i on are as they were.
-pub record Moving (before : List ℕ) (from count : ℕ) (now_there : List ℕ) (i : ℕ) : Type 0 where
-  pub few : i ≤ count
-  pub same_length : length now_there ≡ length before
-  pub moved : (j : ℕ) → j < i → byte_at now_there j ≡ byte_at before (from + j)
-  pub others : (j : ℕ) → i ≤ j → byte_at now_there j ≡ byte_at before j
-
-module _ (before : List ℕ) (from end count : ℕ) (is_count : count ≡ end - from) where
-  pub moving_start : Moving before from count before 0
-  moving_start = record { few = omega arith; same_length = refl; moved = λ j l. absurd (omega arith); others = λ j l. refl }
-
-  module _ (part : List ℕ) (i : ℕ) (so_far : Moving before from count part i) where
-    pub moving_end : count ≤ i → Kept count from end before part
-    moving_end all = record { all = is_count; moved = λ j l. so_far.moved j (omega arith) }
-
-    module _ (in_order : from ≤ end) (in_part : end ≤ length before) (more : i < count) where
-      pub source_inside : from + i < length part
-      source_inside = omega (arith, so_far.same_length)
-
-      pub place_inside : i < length part
-      place_inside = omega (arith, so_far.same_length)
-
-      pub moving_more : Moving before from count (set part i (byte_at part (from + i))) (i + 1)
-      moving_more =
-          record {
-            few = omega arith;
-            same_length = length-set part i _ ∙ so_far.same_length;
-            moved = λ j l. elim (ℕ_discrete j i) [
-              | yes e ↦ rw e (get_or-set_same part i _ 0 place_inside ∙ so_far.others (from + i) (omega arith))
-              | no e ↦ get_or-set_other part i j _ 0 e ∙ so_far.moved j (omega arith)
-            ];
-            others = λ j l. get_or-set_other part i j _ 0 (λ f. omega arith) ∙ so_far.others j (omega arith);
-          }
+-- The bytes come to stand at the start.
+pub moved_there : (before after : List ℕ) (from end : ℕ) → CopiedTo before after from 0 (end - from) → Kept (end - from) from end before after
+moved_there before after from end copied =
+    record {
+      all = refl;
+      moved = λ j l. let place : j - 0 ≡ j = omega arith in copied j 0 (omega arith) (omega arith) ∙ rw place refl;
+    }
 
 -- ---- read_part
 

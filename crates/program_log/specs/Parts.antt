@@ -2,7 +2,7 @@
 use Rattle.std.specs.Prelude.{ℕ, ◌+◌, ◌-◌, ◌≤◌, ◌<◌, ◌≡◌, ◌⊎◌, List, length, take}
 use Rattle.base.specs.Bytes.{byte_at}
 use Rattle.logic.specs.declared.Position.{Position}
-use Rattle.outcome.specs.declared.Course.{Course}
+use Rattle.outcome.specs.Log.{Course}
 use Rattle.log_course.specs.Following.{OnRow}
 use Rattle.log_course.specs.declared.Followed.{Followed}
 use Rattle.program_log.specs.declared.Part.{Part}

@@ -11,7 +11,6 @@ ghost use Rattle.program_log.specs.Parts.{Kept, GoesOn, InPart};
 use log_course::Followed;
 use logic::Position;
 use outcome::Course;
-use program_files::Contents;
 use std::io::{Eprint, Read};
 
 // The bytes of a part.
@@ -47,13 +46,8 @@ fn keep(part: &mut [u8], from: usize, end: usize) -> usize
     requires end_in_bounds { end ≤ length part.old }
     ensures { Kept result from end part.old part.new }
 {
-    let count = end - from;
-    let mut i = 0;
-    while i < count {
-        part[i] = part[from + i];
-        i += 1;
-    }
-    count
+    part.copy_within(from..end, 0);
+    end - from
 }
 
 // One part: read behind what is held, and followed.
@@ -81,7 +75,7 @@ fn read_part<R: Eprint, F: Read>(
     if MOST_LINES < line.0 {
         return Part::TooLong;
     }
-    let Contents::Bytes(bytes) = program_files::fill(rt, file, path, part, held) else {
+    let Some(bytes) = program_files::fill(rt, file, path, part, held) else {
         return Part::Failed;
     };
     let followed = log_course::follow_lines(tower, table, &part[..bytes], known, line, course);
@@ -120,9 +114,7 @@ fn read_noting<R: Eprint, F: Read>(
     let mut held = 0;
     let mut line = Position(0);
     let mut course = log_course::first();
-    let mut turns = u64::MAX;
-    while turns > 0 {
-        turns -= 1;
+    for turns in (0..u64::MAX).rev() {
         let after = read_part(
             rt, file, path, tower, table, known, part, held, line, course,
         );

@@ -1,7 +1,7 @@
 -- The lines of a run, computed from the definitions: action 0 takes 3 ticks and leads from state 0 to state 1, action 1 takes 5 and leads back.
 use mathlib.Core.Path.{◌≡◌, refl}
 use mathlib.Core.Bool.{false}
-use mathlib.Core.Option.{none, some}
+use Rattle.std.specs.Prelude.{None, Some}
 use mathlib.Core.List.{List, [], ◌∷◌}
 use Prim.Native.Nat.{ℕ, ◌-◌}
 use lib.Dec.{eqb}
@@ -25,7 +25,7 @@ there_and_back =
       kind = λ a. 1;
       step_length = λ x a. pick (eqb a 0) (λ _. ticks 3) (λ _. ticks 5);
       marked = λ x k. false;
-      target = λ x a. pick (eqb x a) (λ _. some (1 - x)) (λ _. none);
+      target = λ x a. pick (eqb x a) (λ _. Some (1 - x)) (λ _. None);
     }
 
 abbrev step : ℕ → List ℕ

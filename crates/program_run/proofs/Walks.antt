@@ -3,8 +3,8 @@ use Prim.Native.Nat.{ℕ, zero, suc, ◌+◌, ◌*◌, ◌≤◌, ◌<◌}
 use native.Mathlib.Omega.{arith}
 use native.Mathlib.Numerals.{add-one}
 use mathlib.Core.Path.{◌≡◌, sym, ◌∙◌, ap, ap₂}
-use mathlib.Core.Option
-use mathlib.Core.Option.{some}
+use Rattle.std.specs.Prelude.{unwrap_or}
+use Rattle.std.specs.Prelude.{Some}
 use mathlib.Core.List.{List, [], ◌∷◌, ◌++◌, map}
 use lib.ListN.{length, get_or, take, drop}
 use lib.Seq.{length-take-le, take-suc, split_at, get_or-take}
@@ -17,9 +17,7 @@ use Rattle.logic.specs.Tower.{Tower, Listed, tower_of, length_of, layout_of}
 use Rattle.logic.specs.Runs.{Moment, leads, IsRun, trace_from, trace, moment, duration, sum_ticks, time_at}
 use Rattle.logic.specs.declared.Tick.{Tick}
 use Rattle.logic.proofs.Leads.{leads_nil, leads_out, append_out, snoc_in}
-use Rattle.file_tower.specs.TowerRead.{target_read}
-use Rattle.file_tower.specs.declared.Reached.{Reached}
-use Rattle.file_tower.specs.declared.Reached.TheVariants.{State, NotEnabled}
+use Rattle.std.specs.Prelude.{Option, None}
 use Rattle.file_tower.proofs.Laws.{fit_bounds, state_reached, none_reached}
 use Rattle.program_run.specs.declared.Point.{Point}
 use Rattle.program_run.specs.Walking.{RunInList, point_at, OnRun}
@@ -31,7 +29,7 @@ leaving x a = record { state = x; action = a }
 
 module _ (tower : Tower) where
   abbrev Led : ℕ → List ℕ → ℕ → Type 0
-  Led x w y = leads tower.target x w ≡ some y
+  Led x w y = leads tower.target x w ≡ Some y
 
   -- the time at position i of a run from state x
   abbrev time_from : ℕ → List ℕ → ℕ → Tick
@@ -61,7 +59,7 @@ module _ (tower : Tower) where
 
   -- A run leads somewhere at each of its positions, and on from there.
   part_led : (w : List ℕ) (i : ℕ) → IsRun tower w → i < length w
-      → (y z : ℕ) × Led tower.start (take i w) y × (tower.target y (get_or w i 0) ≡ some z)
+      → (y z : ℕ) × Led tower.start (take i w) y × (tower.target y (get_or w i 0) ≡ Some z)
   unfolding IsRun
   part_led w i (end, led) l =
       let whole : Led tower.start (take i w ++ (get_or w i 0 ∷ drop (suc i) w)) end =
@@ -101,12 +99,12 @@ module _ (tower run : List ℕ) (n : ℕ) (p : Point) (on : OnRun p tower run n 
   same_action = get_or-take n run i 0 here
 
   -- The i actions before the point lead to its state, and the next one leads on.
-  on_led : (z : ℕ) × Led t t.start (take i w) p.state × (t.target p.state (byte_at run i) ≡ some z)
+  on_led : (z : ℕ) × Led t t.start (take i w) p.state × (t.target p.state (byte_at run i) ≡ Some z)
   unfolding point_at
   on_led =
       let (y, z, led, step) = part_led t w i in_list.is inside in
-      let state : p.state ≡ y = ap (λ (q : Point). q.state) on.is ∙ ap (λ o. Option.get_or o t.start) led in
-      (z, led ∙ ap some (sym state), ap₂ t.target state (sym same_action) ∙ step)
+      let state : p.state ≡ y = ap (λ (q : Point). q.state) on.is ∙ ap (λ o. unwrap_or o t.start) led in
+      (z, led ∙ ap Some (sym state), ap₂ t.target state (sym same_action) ∙ step)
 
   pub action_low : byte_at run i < t.actions
   unfolding Listed
@@ -132,8 +130,8 @@ module _ (tower run : List ℕ) (n : ℕ) (p : Point) (on : OnRun p tower run n 
     pub time_fits : Fits w64 (p.time.0 + d.0)
     time_fits = omega (arith, short, on.soon, in_list.few)
 
-    module _ (r : Reached) (y : ℕ) (reads : r ≡ target_read (t.target p.state (byte_at run i))) (to : r ≡ State y) where
-      goes : t.target p.state (byte_at run i) ≡ some y
+    module _ (r : Option ℕ) (y : ℕ) (reads : r ≡ (t.target p.state (byte_at run i))) (to : r ≡ Some y) where
+      goes : t.target p.state (byte_at run i) ≡ Some y
       goes = state_reached (t.target p.state (byte_at run i)) r y reads to
 
       state_next : Led t t.start (take (suc i) w) y
@@ -155,15 +153,15 @@ module _ (tower run : List ℕ) (n : ℕ) (p : Point) (on : OnRun p tower run n 
       walk_on =
           record {
             is = ap₂ (λ k s. record { position = position k; time = ticks (p.time.0 + d.0); state = s }) (add-one i)
-                (sym (ap (λ o. Option.get_or o t.start) state_next))
-                ∙ ap (λ s. record { position = position (suc i); time = s; state = Option.get_or (leads t.target t.start (take (suc i) w)) t.start }) time_next;
+                (sym (ap (λ o. unwrap_or o t.start) state_next))
+                ∙ ap (λ s. record { position = position (suc i); time = s; state = unwrap_or (leads t.target t.start (take (suc i) w)) t.start }) time_next;
             inside = omega arith;
             low = (fit_bounds in_list.fit).targets p.state (byte_at run i) y on.low goes;
             soon = omega (arith, short, on.soon);
           }
 
   -- The action is enabled there.
-  pub walk_enabled : (r : Reached) → r ≡ target_read (t.target p.state (byte_at run i)) → r ≡ NotEnabled
+  pub walk_enabled : (r : Option ℕ) → r ≡ (t.target p.state (byte_at run i)) → r ≡ None
       → OnRun p tower run n (after p.position)
   walk_enabled r reads to =
       let (z, led, step) = on_led in

@@ -1,6 +1,6 @@
 -- A walk along a run that is held as bytes.
 use Rattle.std.specs.Prelude.{ℕ, ◌*◌, ◌≤◌, ◌<◌, ◌≡◌, List, length, take}
-use Rattle.std.proofs.Math.Option.{get_or}
+use Rattle.std.specs.Prelude.{unwrap_or}
 use Rattle.logic.specs.Tower.{Tower, FitTower, tower_of}
 use Rattle.logic.specs.Runs.{leads, IsRun, trace, time_at}
 use Rattle.logic.specs.declared.Position.{Position}
@@ -19,7 +19,7 @@ point_at tower w i =
     record {
       position = i;
       time = time_at tower (trace tower w) i;
-      state = get_or (leads tower.target tower.start (take i.0 w)) tower.start;
+      state = unwrap_or (leads tower.target tower.start (take i.0 w)) tower.start;
     }
 
 -- The point is that of position i; its state is one of the tower's, and no step takes more than 65,536 ticks.

@@ -12,7 +12,6 @@ ghost use Rattle.program_texts.specs.Putting.{Puts, PrintedLine};
 ghost use Rattle.program_run.specs.RunLines.{broken_line, numbers_line, step_line};
 ghost use Rattle.program_run.specs.Walking.{RunInList, OnRun};
 
-use file_tower::Reached;
 use logic::{Position, Tick};
 use program_texts::{put_byte, put_bytes, put_decimal};
 
@@ -46,7 +45,7 @@ pub fn next(tower: &[u8], run: &[u8], n: usize, point: Point) -> Point
     let at = point.position.0;
     let action = run[at] as usize;
     let length = file_tower::step_length(tower, point.state, action);
-    let Reached::State(state) = file_tower::target(tower, point.state, action) else {
+    let Some(state) = file_tower::target(tower, point.state, action) else {
         return point;
     };
     Point {

@@ -4,48 +4,40 @@
 
 ghost use Rattle.std.specs.Prelude.{◌≡◌, ◌≤◌, ◌⊎◌, length, IfOk, IfErr, IsUtf8};
 
-use std::io::{Cursor, Eprint, Error, ErrorKind, Write};
-use std::{io, str};
+use arrayvec::ArrayString;
+use std::fmt::{Display, Formatter, Write};
+use std::io::{Eprint, Error, ErrorKind};
+use std::{fmt, io, str};
 
-// Writes a byte; one that is not ASCII is a question mark.
-fn say_byte<R: Eprint>(rt: &R, byte: u8) {
-    let shown = if byte < 128 { byte as char } else { '?' };
-    let _ = rt.eprint(shown);
-}
+// Bytes as they are shown, such as the name of a file: where they are not UTF-8, one that is not ASCII is
+// a question mark.
+#[derive(Clone, Copy)]
+pub struct Shown<'a>(pub &'a [u8]);
 
-// Writes a text that is not UTF-8, byte by byte.
-fn say_bytes<R: Eprint>(rt: &R, text: &[u8]) {
-    for byte in text {
-        say_byte(rt, *byte);
-    }
-}
-
-// Writes a text.
-pub fn say<R: Eprint>(rt: &R, text: &[u8]) {
-    match str::from_utf8(text) {
-        Ok(words) => {
-            let _ = rt.eprint(words);
+impl<'a> Display for Shown<'a> {
+    fn fmt<W: Write>(&self, f: &mut Formatter<W>) -> fmt::Result {
+        if let Ok(text) = str::from_utf8(self.0) {
+            return f.write_str(text);
         }
-        Err(_) => say_bytes(rt, text),
+        for byte in self.0 {
+            f.write_char(if byte.is_ascii() {
+                char::from(*byte)
+            } else {
+                '?'
+            })?;
+        }
+        Ok(())
     }
 }
 
-// Writes a number in decimal digits.
-pub fn say_number<R: Eprint>(rt: &R, n: usize) {
-    let _ = rt.eprint(n);
-}
-
-// Begins a sentence about a file.
-pub fn of_file<R: Eprint>(rt: &R, file: &[u8]) {
-    say(rt, file);
-    say(rt, b": ");
+// Writes words.
+pub fn say<R: Eprint>(rt: &R, words: impl Display + Drop) {
+    let _ = rt.eprint(words);
 }
 
 // Says what is wrong with a file.
-pub fn in_file<R: Eprint>(rt: &R, file: &[u8], text: &[u8]) {
-    of_file(rt, file);
-    say(rt, text);
-    say(rt, b"\n");
+pub fn in_file<R: Eprint>(rt: &R, file: &[u8], words: impl Display + Drop) {
+    say(rt, format_args!("{}: {words}\n", Shown(file)));
 }
 
 // The words of an error without the number that std puts behind those of the system.
@@ -56,29 +48,11 @@ fn words_of(text: &str) -> &str {
     }
 }
 
-// Puts an error as std shows it into an area, and answers where it ends.
-fn put_error(why: Error, area: &mut [u8]) -> usize {
-    let mut out = Cursor::new(area);
-    let _ = write!(out, "{why}");
-    out.position() as usize
-}
-
-// Writes why a call of the system failed.
-fn say_error<R: Eprint>(rt: &R, why: Error) {
-    let mut area = [0u8; 320];
-    let n = put_error(why, &mut area);
-    if n <= area.len() {
-        if let Ok(text) = str::from_utf8(&area[..n]) {
-            let _ = rt.eprint(words_of(text));
-        }
-    }
-}
-
 // Says why a call of the system on a file failed.
 pub fn fail<R: Eprint>(rt: &R, file: &[u8], why: Error) {
-    of_file(rt, file);
-    say_error(rt, why);
-    say(rt, b"\n");
+    let mut text = ArrayString::<320>::new();
+    let _ = write!(text, "{why}");
+    in_file(rt, file, words_of(text.as_str()));
 }
 
 // A path of so many bytes is too long for the system.
@@ -96,8 +70,8 @@ pub fn file_name(file: &[u8]) -> io::Result<&str>
     if TOO_LONG <= file.len() {
         return Err(Error::from_raw_os_error(NAME_TOO_LONG));
     }
-    match str::from_utf8(file) {
-        Ok(name) => Ok(name),
-        Err(_) => Err(Error::new(ErrorKind::InvalidFilename, "the name is not UTF-8")),
-    }
+    str::from_utf8(file).map_err(|_| Error::new(
+        ErrorKind::InvalidFilename,
+        "the name is not UTF-8",
+    ))
 }

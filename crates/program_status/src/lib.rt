@@ -5,47 +5,40 @@
 ghost use Rattle.std.specs.Prelude.{◌<◌};
 ghost use Rattle.program_status.specs.Paths.{Ended};
 
-use std::fs::{Files, Metadata};
-use std::os::unix::fs::MetadataExt;
+use std::fs::{FileType, Files, Metadata};
+use std::os::unix::fs::{FileTypeExt, MetadataExt};
 use std::{fs, io};
 
-// The kind of file is in the mode; 0, which is no file's, where the system answers nothing, and
-// `failure` then says why.
+// The kinds of files that are told apart.
 #[derive(Clone, Copy)]
-pub struct Status {
-    pub mode: u32,
-    pub device: u64,
-    pub number: u64,
-    pub failure: Option<io::Error>,
+pub enum Kind {
+    Regular,
+    Folder,
+    Pipe,
+    Device,
+    Other,
 }
 
-// The bits of a mode that say the kind of file, and the kinds that are told apart.
-const KINDS: u32 = 0o170000;
+// Which file it is: the device, and the number on it.
+#[derive(Clone, Copy, PartialEq, Eq)]
+pub struct Identity {
+    pub device: u64,
+    pub number: u64,
+}
 
-pub const REGULAR: u32 = 0o100000;
-
-pub const FOLDER: u32 = 0o040000;
-
-pub const PIPE: u32 = 0o010000;
-
-pub const CHARACTER_DEVICE: u32 = 0o020000;
-
-pub const BLOCK_DEVICE: u32 = 0o060000;
+#[derive(Clone, Copy)]
+pub struct Status {
+    pub kind: Kind,
+    pub identity: Identity,
+}
 
 // The path as C takes it, as much as goes before the last byte, which is a zero.
 fn ended(path: &[u8]) -> [u8; 4096]
     ensures { Ended result }
 {
     let mut out = [0u8; 4096];
-    let mut i = 0;
-    while i < path.len() {
-        if 4095 <= i {
-            break;
-        }
-        out[i] = path[i];
-        i += 1;
-    }
-    out[4095] = 0;
+    let n = path.len().min(4095);
+    out[..n].copy_from_slice(&path[..n]);
     out
 }
 
@@ -54,11 +47,7 @@ fn name_length(path: &[u8; 4096]) -> usize
     requires { Ended path.now }
     ensures { result < 4096 }
 {
-    let mut n = 0;
-    while path[n] != 0 {
-        n += 1;
-    }
-    n
+    path.iter().position(|b| *b == 0).unwrap()
 }
 
 // Asks the system. Links are followed.
@@ -70,45 +59,30 @@ fn look<R: Files>(rt: &R, path: &[u8; 4096]) -> io::Result<Metadata>
     fs::metadata(rt, name)
 }
 
-// An answer that no file has.
-fn nothing(failure: io::Error) -> Status {
-    Status {
-        mode: 0,
-        device: 0,
-        number: 0,
-        failure: Some(failure),
+// The kind of a file.
+fn kind_of(file: FileType) -> Kind {
+    if file.is_file() {
+        Kind::Regular
+    } else if file.is_dir() {
+        Kind::Folder
+    } else if file.is_fifo() {
+        Kind::Pipe
+    } else if file.is_char_device() || file.is_block_device() {
+        Kind::Device
+    } else {
+        Kind::Other
     }
 }
 
 // The status of the file at a path; links are followed. A path that is too long for the system is
 // left to the call that opens it.
-pub fn status_of<R: Files>(rt: &R, path: &[u8]) -> Status {
-    let whole = ended(path);
-    match look(rt, &whole) {
-        Ok(about) => Status {
-            mode: about.mode(),
+pub fn status_of<R: Files>(rt: &R, path: &[u8]) -> io::Result<Status> {
+    let about = look(rt, &ended(path))?;
+    Ok(Status {
+        kind: kind_of(about.file_type()),
+        identity: Identity {
             device: about.dev(),
             number: about.ino(),
-            failure: None,
         },
-        Err(failure) => nothing(failure),
-    }
-}
-
-// The system answered.
-pub fn is_known(status: Status) -> bool {
-    status.mode != 0
-}
-
-// Two names lead to one file.
-pub fn same(a: Status, b: Status) -> bool {
-    if a.device != b.device {
-        return false;
-    }
-    a.number == b.number
-}
-
-// The kind of file, one of those above or another.
-pub fn kind(status: Status) -> u32 {
-    status.mode & KINDS
+    })
 }

@@ -6,11 +6,8 @@
 
 ghost use Rattle.checker_rows.specs.RowVerdict.{RowsJudgeable};
 
-use base::LogAnswer;
-use checker_files::Tested;
+use base::{LogAnswer, Rejection};
 use log_course::Followed;
-use outcome::Course;
-use program_files::Contents;
 use program_log::Part;
 use std::env::Env;
 use std::fs::Files;
@@ -31,14 +28,15 @@ fn explain<R: Eprint>(rt: &R, followed: Followed, log: &[u8], bytes: &[u8], tabl
         words_log::form(rt, log, line.0, bytes, next);
         return;
     }
-    let course = followed.course;
-    if let Course::Fails {
-        line: first,
-        place,
-        stroke,
-    } = course
-    {
-        words_log::misfit(rt, log, first.0, place, stroke, table_bytes);
+    if let Err(misfit) = followed.course {
+        words_log::misfit(
+            rt,
+            log,
+            misfit.line.0,
+            misfit.place,
+            misfit.stroke,
+            table_bytes,
+        );
     }
 }
 
@@ -75,7 +73,7 @@ fn read_open<R: Print + Eprint, F: Read>(
             program_saying::in_file(
                 rt,
                 log,
-                b"the log has more lines than can be counted; nothing was answered",
+                "the log has more lines than can be counted; nothing was answered",
             );
         }
     }
@@ -92,15 +90,15 @@ fn read_from<R: Print + Eprint, F: Read>(
     table_bytes: &[u8],
 ) {
     match checker_files::test_files(tower_bytes, table_bytes) {
-        Tested::Sound => read_open(rt, file, log, tower_bytes, table_bytes),
-        Tested::NotGood(reason) => words_refusal::not_good(
+        Ok(()) => read_open(rt, file, log, tower_bytes, table_bytes),
+        Err(Rejection::NotGood(reason)) => words_refusal::not_good(
             rt,
             reason,
             table,
             tower_bytes,
             table_bytes,
         ),
-        Tested::Refused(why) => words_refusal::refuse(
+        Err(Rejection::Refused(why)) => words_refusal::refuse(
             rt,
             why,
             tower,
@@ -131,32 +129,32 @@ fn run_read<R: Files + Print + Eprint>(
 // Reads tower and table. In each area there is room for one byte more than the longest file that is
 // fit, so that a longer one is refused for its length.
 fn run<R: Files + Print + Eprint>(rt: &R, tower: &[u8], table: &[u8], log: &[u8]) {
-    let mut tower_bytes = [0u8; program_limits::TOWER];
-    let Contents::Bytes(t) = program_files::read_file(rt, tower, &mut tower_bytes) else {
+    let mut tower_area = [0u8; program_limits::TOWER];
+    let Some(tower_bytes) = program_files::read_file(rt, tower, &mut tower_area) else {
         return;
     };
-    let mut table_bytes = [0u8; program_limits::TABLE];
-    let Contents::Bytes(n) = program_files::read_file(rt, table, &mut table_bytes) else {
+    let mut table_area = [0u8; program_limits::TABLE];
+    let Some(table_bytes) = program_files::read_file(rt, table, &mut table_area) else {
         return;
     };
-    run_read(rt, tower, table, log, &tower_bytes[..t], &table_bytes[..n]);
+    run_read(rt, tower, table, log, tower_bytes, table_bytes);
 }
 
 // The names are the arguments.
 fn run_named<R: Env + Files + Print + Eprint>(rt: &R) {
-    let mut tower = [0u8; 4096];
-    let Contents::Bytes(t) = program_files::argument(rt, 1, b"TOWER", &mut tower) else {
+    let mut tower_area = [0u8; 4096];
+    let Some(tower) = program_files::argument(rt, 1, b"TOWER", &mut tower_area) else {
         return;
     };
-    let mut table = [0u8; 4096];
-    let Contents::Bytes(n) = program_files::argument(rt, 2, b"TABLE", &mut table) else {
+    let mut table_area = [0u8; 4096];
+    let Some(table) = program_files::argument(rt, 2, b"TABLE", &mut table_area) else {
         return;
     };
-    let mut log = [0u8; 4096];
-    let Contents::Bytes(l) = program_files::argument(rt, 3, b"LOG", &mut log) else {
+    let mut log_area = [0u8; 4096];
+    let Some(log) = program_files::argument(rt, 3, b"LOG", &mut log_area) else {
         return;
     };
-    run(rt, &tower[..t], &table[..n], &log[..l]);
+    run(rt, tower, table, log);
 }
 
 fn main(rt: HostRuntime) {
@@ -169,5 +167,5 @@ fn main(rt: HostRuntime) {
         run_named(&rt);
         return;
     }
-    program_saying::say(&rt, b"usage: read_log [TOWER TABLE LOG]\n");
+    program_saying::say(&rt, "usage: read_log [TOWER TABLE LOG]\n");
 }

@@ -1,7 +1,7 @@
 -- What the program answers for the contents of a tower file and a book.
 use Rattle.std.specs.Prelude.{ℕ, List}
 use Rattle.base.specs.Answers.{◌then◌}
-use Rattle.base.specs.declared.BookAnswer.{BookAnswer}
+use Rattle.base.specs.Answers.{BookAnswer}
 use Rattle.reading.specs.TowerReading.{read_tower}
 use Rattle.reading.specs.BookReading.{read_book}
 use Rattle.outcome.specs.ReadBook.{book_answer}

@@ -7,8 +7,6 @@ ghost use Rattle.std.specs.Prelude.{◌≡◌};
 ghost use Rattle.read_rules.specs.Rules.{rules_answer};
 
 use base::BookAnswer;
-use file_tower::TowerRead;
-use program_files::Contents;
 use std::env::Env;
 use std::fs::Files;
 use std::io::{Eprint, Print};
@@ -23,14 +21,14 @@ fn tell<R: Print + Eprint>(
     text: &[u8],
 ) {
     match answer {
-        BookAnswer::Read { lines, nodes } => {
+        Ok(size) => {
             let mut line = [0u8; 4096];
-            let n = program_listing::sizes(lines, nodes, &mut line);
+            let n = program_listing::sizes(size.lines, size.nodes, &mut line);
             if program_files::print(rt, &line[..n]) {
-                words_notes::left_out(rt, book, text, lines);
+                words_notes::left_out(rt, book, text, size.lines);
             }
         }
-        BookAnswer::Refused(why) => {
+        Err(why) => {
             words_refusal::refuse(rt, why, tower, book, b"", tower_bytes, text, b"");
         }
     }
@@ -41,10 +39,7 @@ fn tell<R: Print + Eprint>(
 fn read(tower: &[u8], text: &[u8]) -> BookAnswer
     ensures { result ≡ rules_answer tower.now text.now }
 {
-    let fit = file_tower::read_tower(tower);
-    if let TowerRead::Refused(why) = fit {
-        return BookAnswer::Refused(why);
-    }
+    file_tower::read_tower(tower)?;
     let mut nodes = [0u8; 512];
     book_reader::read_book(file_tower::marks(tower), text, &mut nodes)
 }
@@ -58,28 +53,28 @@ fn answer<R: Print + Eprint>(rt: &R, tower: &[u8], book: &[u8], tower_bytes: &[u
 // Reads the files. Each area has room for one byte more than the longest file that is fit, so that a
 // longer one is refused for its length.
 fn run<R: Files + Print + Eprint>(rt: &R, tower: &[u8], book: &[u8]) {
-    let mut tower_bytes = [0u8; program_limits::TOWER];
-    let Contents::Bytes(t) = program_files::read_file(rt, tower, &mut tower_bytes) else {
+    let mut tower_area = [0u8; program_limits::TOWER];
+    let Some(tower_bytes) = program_files::read_file(rt, tower, &mut tower_area) else {
         return;
     };
-    let mut text = [0u8; program_limits::BOOK];
-    let Contents::Bytes(b) = program_files::read_file(rt, book, &mut text) else {
+    let mut text_area = [0u8; program_limits::BOOK];
+    let Some(text) = program_files::read_file(rt, book, &mut text_area) else {
         return;
     };
-    answer(rt, tower, book, &tower_bytes[..t], &text[..b]);
+    answer(rt, tower, book, tower_bytes, text);
 }
 
 // The names are the arguments.
 fn run_named<R: Env + Files + Print + Eprint>(rt: &R) {
-    let mut tower = [0u8; 4096];
-    let Contents::Bytes(t) = program_files::argument(rt, 1, b"TOWER", &mut tower) else {
+    let mut tower_area = [0u8; 4096];
+    let Some(tower) = program_files::argument(rt, 1, b"TOWER", &mut tower_area) else {
         return;
     };
-    let mut book = [0u8; 4096];
-    let Contents::Bytes(b) = program_files::argument(rt, 2, b"BOOK", &mut book) else {
+    let mut book_area = [0u8; 4096];
+    let Some(book) = program_files::argument(rt, 2, b"BOOK", &mut book_area) else {
         return;
     };
-    run(rt, &tower[..t], &book[..b]);
+    run(rt, tower, book);
 }
 
 fn main(rt: HostRuntime) {
@@ -92,5 +87,5 @@ fn main(rt: HostRuntime) {
         run_named(&rt);
         return;
     }
-    program_saying::say(&rt, b"usage: read_rules [TOWER BOOK]\n");
+    program_saying::say(&rt, "usage: read_rules [TOWER BOOK]\n");
 }

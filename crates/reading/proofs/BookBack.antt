@@ -11,7 +11,8 @@ use Rattle.base.specs.Lists.{begins, joined}
 use Rattle.base.specs.Text.{ascii}
 use Rattle.base.specs.Recursion.{run}
 use Rattle.base.specs.Recursion as Deep
-use Rattle.base.specs.Answers.{Answer, refuse, give, ◌if◌else◌, ◌then◌}
+use Rattle.base.specs.Answers.{Answer, ◌if◌else◌, ◌then◌}
+use Rattle.std.specs.Prelude.{Err, Ok}
 use Rattle.base.specs.declared.Refusal.TheVariants.{Grammar, Limit}
 use Rattle.base.proofs.Lists.{joined_append}
 use Rattle.base.proofs.Answers.{if_on}
@@ -82,7 +83,7 @@ record FitRule (marks : ℕ) (rule : Rule) : Type 0 where
 
 -- A line within the limits is judged well.
 judged_well : (marks : ℕ) (before : Book) (rule : Rule) (b q : ℕ) → FitRule marks rule → length (nodes before) + size rule.formula ≤ 60 → b ≤ 16
-    → judge_line marks before (Reading.line rule.form rule.formula b q) ≡ give (record { rules = before ++ (rule ∷ []); place = q })
+    → judge_line marks before (Reading.line rule.form rule.formula b q) ≡ Ok (record { rules = before ++ (rule ∷ []); place = q })
 unfolding judge_line ◌if◌else◌ over_limit most_nodes most_brackets
 judged_well marks before rule b q fit few low =
     rw (fit.numbers, fit.propositions, le-ltb 60 (length (nodes before) + size rule.formula) few, le-ltb 16 b low, fit.timed)
@@ -96,13 +97,13 @@ line_some (spells_line at_start i spelled) = omega arith
 module _ (marks : ℕ) (s : List ℕ) where
   -- the lines from here on, at most n deep
   unfoldable pub lines_deep : ℕ → ReadSoFar → Answer Book
-  lines_deep n here = Deep.to_depth (λ (h : ReadSoFar). length s - h.place) (λ h. refuse (Grammar (length h.rules))) (lines_step usual_bound marks s) n here
+  lines_deep n here = Deep.to_depth (λ (h : ReadSoFar). length s - h.place) (λ h. Err (Grammar (length h.rules))) (lines_step usual_bound marks s) n here
 
-  lines_end : (n : ℕ) (before : Book) (p : ℕ) → length s ≤ p → lines_deep (suc n) (record { rules = before; place = p }) ≡ give before
+  lines_end : (n : ℕ) (before : Book) (p : ℕ) → length s ≤ p → lines_deep (suc n) (record { rules = before; place = p }) ≡ Ok before
   unfolding lines_deep Deep.to_depth lines_step
   lines_end n before p le = rw (le-leb (length s) p le)
 
-  lines_on : (n : ℕ) (before : Book) (p : ℕ) (on : ReadSoFar) → p < length s → judge_line marks before (line_at usual_bound s p) ≡ give on
+  lines_on : (n : ℕ) (before : Book) (p : ℕ) (on : ReadSoFar) → p < length s → judge_line marks before (line_at usual_bound s p) ≡ Ok on
       → lines_deep (suc n) (record { rules = before; place = p }) ≡ lines_deep n on
   unfolding lines_deep Deep.to_depth lines_step ◌then◌
   lines_on n before p on lt e = rw (lt-leb (length s) p lt, e)
@@ -154,9 +155,9 @@ module _ {marks : ℕ} {text : List ℕ} {before : Book} {b : ℕ} {begun : List
       (fit_rules limits) limits.few_nodes limits.few_brackets r after
 
 -- A book that is spelled within the limits is read back.
-pub book_read : {marks : ℕ} {text : List ℕ} {book : Book} → BookOf marks text book → read_book marks text ≡ give book
-book_read {marks} {text} {book} h = read_through [] h.spells h.limits h.few_bytes (sym (append-nil text)) (give book) last
+pub book_read : {marks : ℕ} {text : List ℕ} {book : Book} → BookOf marks text book → read_book marks text ≡ Ok book
+book_read {marks} {text} {book} h = read_through [] h.spells h.limits h.few_bytes (sym (append-nil text)) (Ok book) last
   where
-    last : (m : ℕ) → length text - length text < m → lines_deep marks text m (record { rules = book; place = length text }) ≡ give book
+    last : (m : ℕ) → length text - length text < m → lines_deep marks text m (record { rules = book; place = length text }) ≡ Ok book
     last zero lt = absurd (omega arith)
     last (suc m) lt = lines_end marks text m book (length text) (omega arith)

@@ -13,16 +13,14 @@ use borrow.Author.Tests.{not-false, ltb-false}
 use Rattle.base.specs.Choice.{pick}
 use Rattle.base.specs.Lists.{joined}
 use Rattle.base.specs.Recursion.{to_depth, run}
-use Rattle.base.specs.Answers.{Answer, refuse, give, ◌then◌}
+use Rattle.base.specs.Answers.{Answer, ◌then◌}
+use Rattle.std.specs.Prelude.{Err, Ok}
 use Rattle.base.specs.declared.Refusal.TheVariants.{Grammar, Number, Mark, Limit, Timed}
 use Rattle.base.proofs.Lists.{or_fails_left, joined_append}
-use Rattle.base.proofs.Answers.{gives_not_refuses, if_gives, then_gives}
+use Rattle.base.proofs.Answers.{give_one, gives_not_refuses, if_gives, then_gives}
 use Rattle.logic.specs.Book.{Formula, parts, size, timed_right, nodes, Rule, Book, FitBook}
 use Rattle.reading.specs.BookReading.{Line, no_line, line, line_at, over_number, over_mark, over_limit, judge_line, lines_step, read_lines, read_book}
 use Rattle.reading.specs.BookReading.{ReadSoFar, most_bytes, most_nodes, most_brackets, usual_bound}
-
-give_one : {A : Type 0} {x y : A} → give x ≡ give y → x ≡ y
-give_one e = cc
 
 -- A rule that was judged well behind others.
 pub record JudgedWell (marks : ℕ) (before : Book) (rule : Rule) : Type 0 where
@@ -40,7 +38,7 @@ with_rule before rule = before ++ (rule ∷ [])
 
 module _ (P : Book → Type 0) (marks : ℕ) (along : (before : Book) (rule : Rule) → JudgedWell marks before rule → P before → P (with_rule before rule))
     (text : List ℕ) where
-  along_line : (before : Book) (l : Line) (here : ReadSoFar) → P before → judge_line marks before l ≡ give here → P here.rules
+  along_line : (before : Book) (l : Line) (here : ReadSoFar) → P before → judge_line marks before l ≡ Ok here → P here.rules
   unfolding judge_line
   along_line before no_line here p e = gives_not_refuses e refl
   along_line before (line form f brackets q) here p e =
@@ -57,9 +55,9 @@ module _ (P : Book → Type 0) (marks : ℕ) (along : (before : Book) (rule : Ru
   left here = length text - here.place
 
   stuck : ReadSoFar → Answer Book
-  stuck here = refuse (Grammar (length here.rules))
+  stuck here = Err (Grammar (length here.rules))
 
-  along_rest : (n : ℕ) (here : ReadSoFar) (book : Book) → P here.rules → to_depth left stuck (lines_step usual_bound marks text) n here ≡ give book → P book
+  along_rest : (n : ℕ) (here : ReadSoFar) (book : Book) → P here.rules → to_depth left stuck (lines_step usual_bound marks text) n here ≡ Ok book → P book
   unfolding to_depth stuck lines_step
   along_rest zero here book p e = gives_not_refuses e refl
   along_rest (suc n) here book p e = go (leb (length text) here.place) (λ on. along_rest n on book) e
@@ -67,15 +65,15 @@ module _ (P : Book → Type 0) (marks : ℕ) (along : (before : Book) (rule : Ru
       more : ReadSoFar → Answer Book
       more on = to_depth left stuck (lines_step usual_bound marks text) n on
 
-      go : (b : Bool) → ((on : ReadSoFar) → P on.rules → more on ≡ give book → P book)
-          → pick b (λ _. give here.rules) (λ _. judge_line marks here.rules (line_at usual_bound text here.place) then more) ≡ give book → P book
+      go : (b : Bool) → ((on : ReadSoFar) → P on.rules → more on ≡ Ok book → P book)
+          → pick b (λ _. Ok here.rules) (λ _. judge_line marks here.rules (line_at usual_bound text here.place) then more) ≡ Ok book → P book
       go true rest f = subst P (give_one f) p
       go false rest f =
           let (on, g, h) = then_gives (judge_line marks here.rules (line_at usual_bound text here.place)) more f in
           rest on (along_line here.rules (line_at usual_bound text here.place) on p g) h
 
   -- What passes along every line holds of the book that was read.
-  pub along_lines : P [] → (book : Book) → read_book marks text ≡ give book → P book
+  pub along_lines : P [] → (book : Book) → read_book marks text ≡ Ok book → P book
   unfolding read_book read_lines run left stuck
   along_lines p book e =
       let (a, f) = if_gives (Limit 0) (ltb most_bytes (length text)) _ e in
@@ -83,7 +81,7 @@ module _ (P : Book → Type 0) (marks : ℕ) (along : (before : Book) (rule : Ru
 
 -- What a judgement says of each rule alone holds of every rule of the book that was read.
 pub each_rule : (Q : Rule → Type 0) (marks : ℕ) → ((before : Book) (rule : Rule) → JudgedWell marks before rule → Q rule)
-    → (text : List ℕ) (book : Book) → read_book marks text ≡ give book → (rule : Rule) → Memᴰ rule book → Q rule
+    → (text : List ℕ) (book : Book) → read_book marks text ≡ Ok book → (rule : Rule) → Memᴰ rule book → Q rule
 each_rule Q marks one text book e =
     along_lines All marks next text (λ rule m. absurd (Memᴰ.not-nil m)) book e
   where
@@ -100,7 +98,7 @@ each_rule Q marks one text book e =
 -- ---- what is so known
 
 -- A book that was read has its timed formulas where they may be.
-pub book_fit : (marks : ℕ) (text : List ℕ) (book : Book) → read_book marks text ≡ give book → FitBook book
+pub book_fit : (marks : ℕ) (text : List ℕ) (book : Book) → read_book marks text ≡ Ok book → FitBook book
 unfolding FitBook
 book_fit marks text book e = each_rule (λ rule. timed_right rule.formula ≡ true) marks (λ before rule well. well.timed) text book e
 
@@ -122,6 +120,6 @@ few_more marks before rule well few =
     omega (arith, nodes_more before rule)
 
 -- A book that was read has at most 60 nodes.
-pub book_few : (marks : ℕ) (text : List ℕ) (book : Book) → read_book marks text ≡ give book → length (nodes book) ≤ 60
+pub book_few : (marks : ℕ) (text : List ℕ) (book : Book) → read_book marks text ≡ Ok book → length (nodes book) ≤ 60
 unfolding nodes joined
 book_few marks text book e = along_lines (λ rules. length (nodes rules) ≤ 60) marks (few_more marks) text (omega arith) book e

@@ -14,11 +14,12 @@ use borrow.Author.Tests.{leb-true, leb-false, ltb-true, ltb-false, lt-ltb, lt-le
 use Rattle.base.specs.Lists.{joined}
 use Rattle.base.specs.Recursion.{run}
 use Rattle.base.specs.Recursion as Deep
-use Rattle.base.specs.Answers.{Answer, refuse, give, ◌if◌else◌, ◌then◌}
+use Rattle.base.specs.Answers.{Answer, ◌if◌else◌, ◌then◌}
+use Rattle.std.specs.Prelude.{Err, Ok}
 use Rattle.base.specs.declared.Refusal.{Refusal}
 use Rattle.base.specs.declared.Refusal.TheVariants.{Grammar, Number, Mark, Limit, Timed}
 use Rattle.base.proofs.Lists.{or_fails_left, or_fails_right}
-use Rattle.base.proofs.Answers.{gives_not_refuses, if_refuses}
+use Rattle.base.proofs.Answers.{give_one, gives_not_refuses, if_refuses}
 use Rattle.logic.specs.Book.{Formula, size, nodes, timed_right, Form, Rule, Book, FitBook}
 use Rattle.reading.specs.BookReading as Reading
 use Rattle.reading.specs.BookReading.{most_bytes, most_nodes, most_brackets, usual_bound, line_at, over_number, over_mark, over_limit, ReadSoFar, judge_line, lines_step, read_lines, read_book}
@@ -29,15 +30,12 @@ use Rattle.reading.proofs.BookBack.{lines_deep, read_through, book_read, nodes_a
 use Rattle.reading.proofs.Spelled.{book_spells}
 use Rattle.reading.proofs.ReadBack.{line_back, line_spelled, no_line_exactly}
 
-give_one : {A : Type 0} {x y : A} → give x ≡ give y → x ≡ y
-give_one e = cc
-
 -- ---- a right answer is the reader's
 
 module _ (marks : ℕ) (text : List ℕ) where
   -- a line that is turned down behind lines that were read
-  turned_down : (before : Book) (p m : ℕ) (w : Refusal) → p < length text → length text - p < m → judge_line marks before (line_at usual_bound text p) ≡ refuse w
-      → lines_deep marks text m (record { rules = before; place = p }) ≡ refuse w
+  turned_down : (before : Book) (p m : ℕ) (w : Refusal) → p < length text → length text - p < m → judge_line marks before (line_at usual_bound text p) ≡ Err w
+      → lines_deep marks text m (record { rules = before; place = p }) ≡ Err w
   unfolding lines_deep Deep.to_depth lines_step ◌then◌
   turned_down before p zero w lt l e = absurd (omega arith)
   turned_down before p (suc m) w lt l e = rw (lt-leb (length text) p lt, e)
@@ -47,9 +45,9 @@ module _ (marks : ℕ) (text : List ℕ) where
   behind_begun begun rest all = ap (drop (length begun)) all ∙ drop-append_seam begun rest
 
   refused_at : (before : Book) (rest : List ℕ) (h : BegunWith marks text before rest) (w : Refusal)
-      → judge_line marks before (line_at usual_bound text (length h.begun)) ≡ refuse w → read_book marks text ≡ refuse w
+      → judge_line marks before (line_at usual_bound text (length h.begun)) ≡ Err w → read_book marks text ≡ Err w
   refused_at before rest h w e =
-      read_through rest h.spells h.limits h.few_bytes h.all (refuse w) (λ m l.
+      read_through rest h.spells h.limits h.few_bytes h.all (Err w) (λ m l.
       turned_down before (length h.begun) m w (omega (arith, ap (λ z. length z) h.all, length-append h.begun rest, h.more_bytes)) l e)
 
   -- the next line, as it is read
@@ -58,34 +56,34 @@ module _ (marks : ℕ) (text : List ℕ) where
   next_read before rest rule b h k = line_back k.spells text (length h.begun) k.behind (behind_begun h.begun rest h.all ∙ k.all)
 
   judged : (before : Book) (rule : Rule) (b p q : ℕ) (w : Refusal) → line_at usual_bound text p ≡ Reading.line rule.form rule.formula b q
-      → judge_line marks before (Reading.line rule.form rule.formula b q) ≡ refuse w → judge_line marks before (line_at usual_bound text p) ≡ refuse w
+      → judge_line marks before (Reading.line rule.form rule.formula b q) ≡ Err w → judge_line marks before (line_at usual_bound text p) ≡ Err w
   judged before rule b p q w at e = ap (judge_line marks before) at ∙ e
 
-  too_long_read : most_bytes < length text → read_book marks text ≡ refuse (Limit 0)
+  too_long_read : most_bytes < length text → read_book marks text ≡ Err (Limit 0)
   unfolding read_book
   too_long_read l = if_refuses (Limit 0) (read_lines usual_bound marks text) (lt-ltb most_bytes (length text) l)
 
 -- what a line is turned down with
 module _ (marks : ℕ) (before : Book) (form : Form) (f : Formula) (b q : ℕ) where
-  down_number : over_number f ≡ true → judge_line marks before (Reading.line form f b q) ≡ refuse (Number (length before))
+  down_number : over_number f ≡ true → judge_line marks before (Reading.line form f b q) ≡ Err (Number (length before))
   unfolding judge_line ◌if◌else◌
   down_number n = rw n
 
-  down_mark : over_number f ≡ false → over_mark marks f ≡ true → judge_line marks before (Reading.line form f b q) ≡ refuse (Mark (length before))
+  down_mark : over_number f ≡ false → over_mark marks f ≡ true → judge_line marks before (Reading.line form f b q) ≡ Err (Mark (length before))
   unfolding judge_line ◌if◌else◌
   down_mark n m = rw (n, m)
 
   down_limit : over_number f ≡ false → over_mark marks f ≡ false → over_limit before f b ≡ true
-      → judge_line marks before (Reading.line form f b q) ≡ refuse (Limit (length before))
+      → judge_line marks before (Reading.line form f b q) ≡ Err (Limit (length before))
   unfolding judge_line ◌if◌else◌
   down_limit n m l = rw (n, m, l)
 
   down_timed : over_number f ≡ false → over_mark marks f ≡ false → over_limit before f b ≡ false → timed_right f ≡ false
-      → judge_line marks before (Reading.line form f b q) ≡ refuse (Timed (length before))
+      → judge_line marks before (Reading.line form f b q) ≡ Err (Timed (length before))
   unfolding judge_line ◌if◌else◌
   down_timed n m l t = rw (n, m, l, t)
 
-down_grammar : (marks : ℕ) (before : Book) (l : Reading.Line) → l ≡ Reading.no_line → judge_line marks before l ≡ refuse (Grammar (length before))
+down_grammar : (marks : ℕ) (before : Book) (l : Reading.Line) → l ≡ Reading.no_line → judge_line marks before l ≡ Err (Grammar (length before))
 unfolding judge_line
 down_grammar marks before l e = rw e
 
@@ -212,7 +210,7 @@ module _ (marks : ℕ) (text : List ℕ) (short : length text ≤ most_bytes) wh
         few_bytes = short;
       }
 
-  whole : (before : Book) (p : ℕ) → UpTo marks text before p → length text ≤ p → RightBook marks text (give before)
+  whole : (before : Book) (p : ℕ) → UpTo marks text before p → length text ≤ p → RightBook marks text (Ok before)
   whole before p h le =
       let e : text ≡ h.begun = h.all ∙ ap (λ z. h.begun ++ z) (drop_of_length-le text le) ∙ append-nil h.begun in
       whole_book before
@@ -283,7 +281,7 @@ right_book marks text =
 -- ---- books
 
 -- a right answer that gives a book
-right_gives : (marks : ℕ) (text : List ℕ) (a : Answer Book) → RightBook marks text a → (book : Book) → a ≡ give book → BookOf marks text book
+right_gives : (marks : ℕ) (text : List ℕ) (a : Answer Book) → RightBook marks text a → (book : Book) → a ≡ Ok book → BookOf marks text book
 right_gives marks text _ (too_long l) book e = gives_not_refuses e refl
 right_gives marks text _ (no_line_there before rest h k) book e = gives_not_refuses e refl
 right_gives marks text _ (number_over before rest rule b h k n) book e = gives_not_refuses e refl
@@ -294,12 +292,12 @@ right_gives marks text _ (whole_book other h) book e = subst (BookOf marks text)
 
 -- A text is read as a book exactly if it is one of that book, by the rules and within the limits.
 pub book_exactly : (marks : ℕ) (text : List ℕ) (book : Book)
-    → (BookOf marks text book → read_book marks text ≡ give book) × (read_book marks text ≡ give book → BookOf marks text book)
+    → (BookOf marks text book → read_book marks text ≡ Ok book) × (read_book marks text ≡ Ok book → BookOf marks text book)
 book_exactly marks text book = (book_read, right_gives marks text (read_book marks text) (right_book marks text) book)
 
 -- Every book within the limits is read back as it is written down.
 pub book_text_back : (marks : ℕ) → marks ≤ 100 → (book : Book) → WithinLimits marks book (book_brackets book) → length (book_text book) ≤ most_bytes
-    → read_book marks (book_text book) ≡ give book
+    → read_book marks (book_text book) ≡ Ok book
 book_text_back marks le book limits short =
     book_read
     (record {

@@ -3,7 +3,7 @@ use Prim.Native.Nat.{ℕ, zero, suc, ◌+◌, ◌-◌, ◌*◌, ◌≤◌, ◌<�
 use native.Mathlib.Omega.{arith}
 use mathlib.Core.Path.{◌≡◌, refl, ◌∙◌, ap}
 use mathlib.Core.Bool.{Bool, true, false}
-use mathlib.Core.Option.{some}
+use Rattle.std.specs.Prelude.{Some}
 use mathlib.Core.List.{List, [], ◌∷◌, ◌++◌}
 use lib.ListN.{length, length-append}
 use lib.Dec.{eqb}
@@ -159,11 +159,11 @@ module _ (usual : ℕ) where
     unfolding unit_at stands led connectives connective
     unit_false e = rw (e, e)
 
-    unit_mark : (t : Token Formula) → byte_at s p ≡ 112 → mark_at true s p ≡ some t → unit_at usual s p read ≡ got t.said 0 t.next
+    unit_mark : (t : Token Formula) → byte_at s p ≡ 112 → mark_at true s p ≡ Some t → unit_at usual s p read ≡ got t.said 0 t.next
     unfolding unit_at stands mark_token marked_unit
     unit_mark t e m = rw (e, m)
 
-    unit_negated : (t : Token Formula) → byte_at s p ≡ 33 → mark_at false s (p + 1) ≡ some t → unit_at usual s p read ≡ got t.said 0 t.next
+    unit_negated : (t : Token Formula) → byte_at s p ≡ 33 → mark_at false s (p + 1) ≡ Some t → unit_at usual s p read ≡ got t.said 0 t.next
     unfolding unit_at stands mark_token marked_unit
     unit_negated t e m = rw (e, m)
 
@@ -171,22 +171,22 @@ module _ (usual : ℕ) where
     unfolding unit_at stands
     unit_bracketed e = rw e
 
-    unit_next : (w : BoundRead) (g : Formula) (b e : ℕ) → byte_at s p ≡ 78 → bound_at usual compared s (p + 1) ≡ some w
+    unit_next : (w : BoundRead) (g : Formula) (b e : ℕ) → byte_at s p ≡ 78 → bound_at usual compared s (p + 1) ≡ Some w
         → read unit_level (skip s w.next) ≡ got g b e → unit_at usual s p read ≡ got (next w.comparison w.amount g) b e
     unfolding unit_at stands led connectives connective with_bound onward formula_one
     unit_next w g b e h k o = rw (h, h, k, o)
 
-    unit_always : (w : BoundRead) (g : Formula) (b e : ℕ) → byte_at s p ≡ 65 → bound_at usual optional s (p + 1) ≡ some w
+    unit_always : (w : BoundRead) (g : Formula) (b e : ℕ) → byte_at s p ≡ 65 → bound_at usual optional s (p + 1) ≡ Some w
         → read unit_level (skip s w.next) ≡ got g b e → unit_at usual s p read ≡ got (always_for w.amount g) b e
     unfolding unit_at stands led connectives connective with_bound onward formula_one
     unit_always w g b e h k o = rw (h, h, k, o)
 
-    unit_within : (w : BoundRead) (g : Formula) (b e : ℕ) → byte_at s p ≡ 69 → bound_at usual optional s (p + 1) ≡ some w
+    unit_within : (w : BoundRead) (g : Formula) (b e : ℕ) → byte_at s p ≡ 69 → bound_at usual optional s (p + 1) ≡ Some w
         → read unit_level (skip s w.next) ≡ got g b e → unit_at usual s p read ≡ got (within w.amount g) b e
     unfolding unit_at stands led connectives connective with_bound onward formula_one
     unit_within w g b e h k o = rw (h, h, k, o)
 
-    unit_until : (w : BoundRead) (r : Parsed) → byte_at s p ≡ 85 → bound_at usual optional s (p + 1) ≡ some w
+    unit_until : (w : BoundRead) (r : Parsed) → byte_at s p ≡ 85 → bound_at usual optional s (p + 1) ≡ Some w
         → two_parts s w.next read (until w.amount) ≡ r → unit_at usual s p read ≡ r
     unfolding unit_at stands led connectives connective with_bound formula_two
     unit_until w r h k o = rw (h, h, k) o
@@ -212,7 +212,7 @@ module _ (usual : ℕ) where
   -- a mark behind its `!`
   mark_back : {count k : ℕ} {number : List ℕ} → Digits count k number → count ≤ 2 → (wanted : Bool)
       → {s : List ℕ} {p : ℕ} {rest : List ℕ} {e : ℕ} → Pieces s p (ascii "p" ∷ number ∷ []) rest e → is_digit (byte_at rest 0) ≡ false
-      → mark_at wanted s p ≡ some (record { said = proposition wanted k; next = e })
+      → mark_at wanted s p ≡ Some (record { said = proposition wanted k; next = e })
   unfolding mark_at mark_named stands ascii
   mark_back d few wanted {s} {p} h stop =
       let number = numeral_back d 2 few (last_piece (behind_piece h)) stop in
@@ -233,7 +233,7 @@ module _ (usual : ℕ) where
     -- a comparison before a number
     comparison_back : (c : Comparison) {count k : ℕ} {number : List ℕ} → Digits count k number → (j : ℕ) {ts : List (List ℕ)}
         → Pieces s p (sign c ∷ spaces j ∷ number ∷ ts) rest e
-        → comparison_token s p ≡ some (record { said = c; next = p + length (sign c) })
+        → comparison_token s p ≡ Some (record { said = c; next = p + length (sign c) })
     unfolding comparison_token with_equals stands sign ascii
     comparison_back no_more d j h = rw (span_at (piece h) 0 p (omega arith), span_at (piece h) 1 (p + 1) refl)
     comparison_back no_less d j h = rw (span_at (piece h) 0 p (omega arith), span_at (piece h) 1 (p + 1) refl)
@@ -252,7 +252,7 @@ module _ (usual : ℕ) where
   -- A bound at p is read back, and this stands behind it.
   record BoundBack (kind : Bound) (c : Comparison) (t : ℕ) (s : List ℕ) (p : ℕ) (ts : List (List ℕ)) (rest : List ℕ) (e : ℕ) : Type 0 where
     place : ℕ
-    says : bound_at usual kind s p ≡ some (record { comparison = c; amount = ticks t; next = place })
+    says : bound_at usual kind s p ≡ Some (record { comparison = c; amount = ticks t; next = place })
     behind_it : Pieces s place ts rest e
     ahead : p ≤ place
 
@@ -384,7 +384,7 @@ module _ (usual : ℕ) where
 
   -- `A` or `E`
   back_bounded : (letter : ℕ) (make : Tick → Formula → Formula) → eqb 32 letter ≡ false → is_digit letter ≡ false
-      → ((s : List ℕ) (p : ℕ) (read : Reader) (w : BoundRead) (g : Formula) (b e : ℕ) → byte_at s p ≡ letter → bound_at usual optional s (p + 1) ≡ some w
+      → ((s : List ℕ) (p : ℕ) (read : Reader) (w : BoundRead) (g : Formula) (b e : ℕ) → byte_at s p ≡ letter → bound_at usual optional s (p + 1) ≡ Some w
       → read unit_level (skip s w.next) ≡ got g b e → unit_at usual s p read ≡ got (make w.amount g) b e)
       → {t : ℕ} {bound : List ℕ} (k : ℕ) {g : Formula} {b : ℕ} {part : List ℕ} → BoundText usual t bound → Back one_unit g b part
       → Back one_unit (make (ticks t) g) b (joined ((letter ∷ []) ∷ bound ∷ spaces k ∷ part ∷ []))

@@ -3,7 +3,7 @@ use Prim.Native.Nat.{ℕ, ◌+◌, ◌-◌, ◌≤◌}
 use native.Mathlib.Omega.{arith}
 use native.Mathlib.Nat.{add-zero}
 use mathlib.Core.Path.{◌≡◌, refl, sym, ◌∙◌, ap}
-use mathlib.Core.Option.{none, some}
+use Rattle.std.specs.Prelude.{None, Some}
 use mathlib.Core.List.{List, [], ◌∷◌, ◌++◌, append_assoc, append_cancel_right, append-nil}
 use lib.ListN.{length, drop, length-append, length-drop}
 use lib.Seq.{drop-append-le, drop-drop}
@@ -28,12 +28,12 @@ spelled_length (spells_stroke {tick = tick} {action = action} d few small f two)
     omega (arith, length-append tick (32 ∷ (action ++ (10 ∷ []))), length-append action (10 ∷ []))
 
 -- A line that is read has at most 14 bytes.
-pub line_length : (s : List ℕ) (p : ℕ) (t : Token Stroke) → stroke_at s p ≡ some t → t.next ≤ p + 14
+pub line_length : (s : List ℕ) (p : ℕ) (t : Token Stroke) → stroke_at s p ≡ Some t → t.next ≤ p + 14
 line_length s p t e = let there = line_spelled s p t e in omega (arith, there.passage.ends, spelled_length there.spells)
 
 -- The same bytes are the same line elsewhere, whatever follows them.
-line_elsewhere : (s : List ℕ) (p : ℕ) (u : List ℕ) (q : ℕ) (b : List ℕ) → drop q u ≡ drop p s ++ b → (t : Token Stroke) → stroke_at s p ≡ some t
-    → stroke_at u q ≡ some (record { said = t.said; next = q + (t.next - p) })
+line_elsewhere : (s : List ℕ) (p : ℕ) (u : List ℕ) (q : ℕ) (b : List ℕ) → drop q u ≡ drop p s ++ b → (t : Token Stroke) → stroke_at s p ≡ Some t
+    → stroke_at u q ≡ Some (record { said = t.said; next = q + (t.next - p) })
 line_elsewhere s p u q b same t e =
     let there = line_spelled s p t e in
     line_back there.spells
@@ -43,14 +43,14 @@ line_elsewhere s p u q b same t e =
     })
 
 -- A line stays read, whatever follows.
-pub line_stays : (a b : List ℕ) (p : ℕ) (t : Token Stroke) → stroke_at a p ≡ some t → stroke_at (a ++ b) p ≡ some t
+pub line_stays : (a b : List ℕ) (p : ℕ) (t : Token Stroke) → stroke_at a p ≡ Some t → stroke_at (a ++ b) p ≡ Some t
 line_stays a b p t e =
     let (far, inside) = stroke_ahead a p t e in
     let at : p + (t.next - p) ≡ t.next = omega arith in
-    line_elsewhere a p (a ++ b) p b (drop-append-le p a b (omega arith)) t e ∙ ap (λ q. some (record { said = t.said; next = q })) at
+    line_elsewhere a p (a ++ b) p b (drop-append-le p a b (omega arith)) t e ∙ ap (λ q. Some (record { said = t.said; next = q })) at
 
 -- What is no line within 14 bytes stays none, whatever follows.
-pub stays_bad : (a b : List ℕ) (p : ℕ) → p + 14 ≤ length a → stroke_at a p ≡ none → stroke_at (a ++ b) p ≡ none
+pub stays_bad : (a b : List ℕ) (p : ℕ) → p + 14 ≤ length a → stroke_at a p ≡ None → stroke_at (a ++ b) p ≡ None
 stays_bad a b p long bad =
     whether_there (stroke_at (a ++ b) p) (λ e. e) (λ t e.
     let there = line_spelled (a ++ b) p t e in
@@ -61,15 +61,15 @@ stays_bad a b p long bad =
     (line_back there.spells (record { text = append_cancel_right (drop p a) (there.line ++ drop t.next a) b all; ends = there.passage.ends })))
 
 -- A line of the rest behind n bytes stands n bytes further on,
-line_moved : (s : List ℕ) (n p : ℕ) (t : Token Stroke) → stroke_at (drop n s) p ≡ some t → stroke_at s (n + p) ≡ some (record { said = t.said; next = n + t.next })
+line_moved : (s : List ℕ) (n p : ℕ) (t : Token Stroke) → stroke_at (drop n s) p ≡ Some t → stroke_at s (n + p) ≡ Some (record { said = t.said; next = n + t.next })
 line_moved s n p t e =
     let (far, inside) = stroke_ahead (drop n s) p t e in
     let at : n + p + (t.next - p) ≡ n + t.next = omega arith in
     line_elsewhere (drop n s) p s (n + p) [] (sym (append-nil (drop p (drop n s)) ∙ drop-drop p n s)) t e
-    ∙ ap (λ q. some (record { said = t.said; next = q })) at
+    ∙ ap (λ q. Some (record { said = t.said; next = q })) at
 
 -- and what is no line there is none.
-none_moved : (s : List ℕ) (n p : ℕ) → stroke_at (drop n s) p ≡ none → stroke_at s (n + p) ≡ none
+none_moved : (s : List ℕ) (n p : ℕ) → stroke_at (drop n s) p ≡ None → stroke_at s (n + p) ≡ None
 none_moved s n p bad =
     whether_there (stroke_at s (n + p)) (λ e. e) (λ t e.
     none-some bad (line_elsewhere s (n + p) (drop n s) p [] (drop-drop p n s ∙ sym (append-nil (drop (n + p) s))) t e))

@@ -6,7 +6,7 @@ use native.Mathlib.Decide.{dec_lt}
 use mathlib.Core.Path.{◌≡◌, refl, sym, ◌∙◌, ap, subst}
 use mathlib.Core.Logic.{◌↔◌}
 use mathlib.Core.Bool.{true, false}
-use mathlib.Core.Option.{none, some}
+use Rattle.std.specs.Prelude.{None, Some}
 use mathlib.Core.List.{List, [], ◌∷◌, ◌++◌, append-nil}
 use lib.ListN.{length, drop, length-append, length-drop, drop_of_length-le}
 use lib.Seq.{drop-append_seam}
@@ -14,7 +14,8 @@ use lib.Dec.{ltb}
 use borrow.Author.Tests.{ltb-true, ltb-false, lt-ltb, le-ltb}
 use Rattle.base.specs.Text.{byte, ascii}
 use Rattle.base.specs.Bytes.{byte_at}
-use Rattle.base.specs.Answers.{Answer, give, ◌if◌else◌}
+use Rattle.base.specs.Answers.{Answer, ◌if◌else◌}
+use Rattle.std.specs.Prelude.{Ok}
 use Rattle.base.specs.declared.Refusal.TheVariants.{Log}
 use Rattle.base.proofs.Lists.{none-some, whether_there}
 use Rattle.base.proofs.Answers.{if_on, if_refuses}
@@ -78,7 +79,7 @@ digits_are s (suc n) (suc most) p le all stop =
 -- A number that is spelled is read back, where it has no more digits than may be read and no digit follows it.
 decimal_back : {count k : ℕ} {number : List ℕ} → Decimal count k number → (most : ℕ) → count ≤ most
     → {s : List ℕ} {p : ℕ} {rest : List ℕ} {e : ℕ} → Span s p number rest e → is_digit (byte_at s e) ≡ false
-    → numeral most s p ≡ some (record { said = k; next = e })
+    → numeral most s p ≡ Some (record { said = k; next = e })
 decimal_back {count} {k} h most few {s} {p} {e = e} span stop =
     let (long, one) = decimal_length h in
     let at : e ≡ p + count = omega (arith, span.ends) in
@@ -115,7 +116,7 @@ number_at s p (suc (suc n)) one all =
     record { number = _; written = digit_more front.written _ low; passage = passage_append front.passage here }
 
 -- What is read as a number was spelled.
-number_spelled : (most : ℕ) → 1 ≤ most → (s : List ℕ) (p : ℕ) {t : Token ℕ} → numeral most s p ≡ some t → (n : ℕ) × (n ≤ most) × NumberThere s p n t
+number_spelled : (most : ℕ) → 1 ≤ most → (s : List ℕ) (p : ℕ) {t : Token ℕ} → numeral most s p ≡ Some t → (n : ℕ) × (n ≤ most) × NumberThere s p n t
 unfolding numeral
 number_spelled most one s p e =
     let (d, same) = picked (is_digit (byte_at s p)) _ e in
@@ -127,7 +128,7 @@ number_spelled most one s p e =
 -- A field that is spelled is read back.
 field_back : {count k : ℕ} {number : List ℕ} → Decimal count k number → (most behind : ℕ) → count ≤ most → is_digit behind ≡ false
     → {s : List ℕ} {p : ℕ} {more : List (List ℕ)} {rest : List ℕ} {e : ℕ} → Pieces s p (number ∷ (behind ∷ []) ∷ more) rest e
-    → field_at most behind s p ≡ some (record { said = k; next = p + length number + 1 })
+    → field_at most behind s p ≡ Some (record { said = k; next = p + length number + 1 })
 field_back {number = number} h most behind few stop {s} {p} there =
     let here = piece_byte (behind_piece there) in
     field_of most behind s p _ (decimal_back h most few (piece there) (ap is_digit here ∙ stop)) (is_there s (p + length number) behind here)
@@ -141,7 +142,7 @@ record FieldThere (most behind : ℕ) (s : List ℕ) (p : ℕ) (t : Token ℕ) :
   before : {ts : List (List ℕ)} {e : ℕ} → Passages s t.next ts e → Passages s p (number ∷ (behind ∷ []) ∷ ts) e
 
 -- A field that is read was spelled.
-field_spelled : (most behind : ℕ) → 1 ≤ most → 1 ≤ behind → (s : List ℕ) (p : ℕ) {t : Token ℕ} → field_at most behind s p ≡ some t
+field_spelled : (most behind : ℕ) → 1 ≤ most → 1 ≤ behind → (s : List ℕ) (p : ℕ) {t : Token ℕ} → field_at most behind s p ≡ Some t
     → FieldThere most behind s p t
 field_spelled most behind one some_byte s p e =
     let (n, number, there, same) = field_parts most behind s p e in
@@ -157,7 +158,7 @@ field_spelled most behind one some_byte s p e =
 
 -- A line that is spelled is read back.
 pub line_back : {stroke : Stroke} {line : List ℕ} → SpellsStroke stroke line → {s : List ℕ} {p : ℕ} {rest : List ℕ} {e : ℕ} → Span s p line rest e
-    → stroke_at s p ≡ some (record { said = stroke; next = e })
+    → stroke_at s p ≡ Some (record { said = stroke; next = e })
 unfolding is_digit ascii
 line_back (spells_stroke d few small f two) {s} {p} {rest} {e} span =
     let all = pieces _ span in
@@ -172,7 +173,7 @@ pub record LineThere (s : List ℕ) (p : ℕ) (t : Token Stroke) : Type 0 where
   pub passage : Passage s p line t.next
 
 -- A line that is read was spelled.
-pub line_spelled : (s : List ℕ) (p : ℕ) (t : Token Stroke) → stroke_at s p ≡ some t → LineThere s p t
+pub line_spelled : (s : List ℕ) (p : ℕ) (t : Token Stroke) → stroke_at s p ≡ Some t → LineThere s p t
 unfolding ascii
 line_spelled s p t e =
     let (n, first, small, (a, second, same)) = stroke_parts s p e in
@@ -241,7 +242,7 @@ read_log_right text =
 -- Behind lines that are spelled nothing more is read: the answer.
 answer_behind : {before : List Stroke} {begun : List ℕ} → SpellsLog before begun → (text rest : List ℕ) → text ≡ begun ++ rest
     → log_from text (length begun) ≡ record { strokes = []; next = length begun }
-    → read_log text ≡ (Log (length before) if ltb (length begun) (length text) else give before)
+    → read_log text ≡ (Log (length before) if ltb (length begun) (length text) else Ok before)
 unfolding read_log lines_before
 answer_behind {before} {begun} h text rest all stops =
     let span : Span text 0 begun rest (length begun) = record { text = all; ends = omega arith } in
@@ -251,13 +252,13 @@ answer_behind {before} {begun} h text rest all stops =
 pub read_log_only : (text : List ℕ) (o : Answer (List Stroke)) → RightLog text o → read_log text ≡ o
 read_log_only text _ (whole_log strokes h) =
     answer_behind h text [] (sym (append-nil text)) (log_end text (length text) (omega arith))
-    ∙ if_on (Log (length strokes)) (give strokes) (le-ltb (length text) (length text) (omega arith))
+    ∙ if_on (Log (length strokes)) (Ok strokes) (le-ltb (length text) (length text) (omega arith))
 read_log_only text _ (bad_line before begun rest h all some_bytes none_there) =
     let inside : length begun < length text = omega (arith, ap length all, length-append begun rest) in
     answer_behind h text rest all (log_bad text (length begun) inside bad)
-    ∙ if_refuses (Log (length before)) (give before) (lt-ltb (length begun) (length text) inside)
+    ∙ if_refuses (Log (length before)) (Ok before) (lt-ltb (length begun) (length text) inside)
   where
-    bad : stroke_at text (length begun) ≡ none
+    bad : stroke_at text (length begun) ≡ None
     bad =
         whether_there (stroke_at text (length begun)) (λ e. e) (λ t e.
         let there = line_spelled text (length begun) t e in

@@ -9,7 +9,8 @@ use Rattle.base.specs.Lists.{leading, begins, joined}
 use Rattle.base.specs.Text.{ascii}
 use Rattle.base.specs.Recursion.{run}
 use Rattle.base.specs.Recursion as Deep
-use Rattle.base.specs.Answers.{Answer, refuse, give, ◌if◌else◌, ◌then◌}
+use Rattle.base.specs.Answers.{Answer, ◌if◌else◌, ◌then◌}
+use Rattle.std.specs.Prelude.{Err, Ok}
 use Rattle.base.specs.declared.Refusal.TheVariants.{Grammar, Number, Mark, Limit, Timed}
 use Rattle.logic.specs.Time.{ticks}
 use Rattle.logic.specs.Book.{no_more, less, no_less, more, Formula, constant, proposition, and, or, next, always_for, until, within, at_start, everywhere}
@@ -182,20 +183,20 @@ answers_read :
     ∷ "start T\nstart A 255 p3\nalways &\n"
     ∷ "start T\nstart p3 & E 1 (A 1 T)\n"
     ∷ [])
-    ≡ give []
-    ∷ give
+    ≡ Ok []
+    ∷ Ok
     (record { form = everywhere; formula = or (proposition false 0) (until (ticks 3) (constant true) (p 1)) }
     ∷ record { form = at_start; formula = next no_more (ticks 1) (constant true) }
     ∷ [])
-    ∷ refuse (Grammar 0)
-    ∷ refuse (Number 0)
-    ∷ refuse (Mark 0)
-    ∷ refuse (Limit 0)
-    ∷ refuse (Timed 0)
-    ∷ give
+    ∷ Err (Grammar 0)
+    ∷ Err (Number 0)
+    ∷ Err (Mark 0)
+    ∷ Err (Limit 0)
+    ∷ Err (Timed 0)
+    ∷ Ok
     (record { form = at_start; formula = or (until (ticks 1) (constant true) (p 0)) (until (ticks 1) (constant true) (p 1)) } ∷ [])
-    ∷ refuse (Number 1)
-    ∷ refuse (Mark 1)
+    ∷ Err (Number 1)
+    ∷ Err (Mark 1)
     ∷ []
 unfolding answer_there
 answers_read = refl

@@ -3,7 +3,7 @@ use Prim.Native.Nat.{ℕ, zero, suc, ◌+◌, ◌≤◌, ◌<◌, max}
 use native.Mathlib.Omega.{arith}
 use mathlib.Core.Path.{◌≡◌, refl, sym, subst}
 use mathlib.Core.Bool.{true, false}
-use mathlib.Core.Option.{Option, none, some}
+use Rattle.std.specs.Prelude.{Option, None, Some}
 use mathlib.Core.List.{List, [], ◌∷◌}
 use lib.ListN.{length}
 use lib.Dec.{eqb}
@@ -114,7 +114,7 @@ module _ (usual : ℕ) (s : List ℕ) (read : Reader) (sound : (level : Level) (
       record { text = _; spells = spells_mark true d few; passage = passages_joined (passage_before (passage_empty p) r) }))
 
   -- `T`, `F`, or what the row of the table says
-  row_sound : (p : ℕ) (c : Connective) → Sound usual s unit_level p (with_bound s c (bound_at usual c.bound s (p + 1)) read) → Sound usual s unit_level p (led usual s p (some c) read)
+  row_sound : (p : ℕ) (c : Connective) → Sound usual s unit_level p (with_bound s c (bound_at usual c.bound s (p + 1)) read) → Sound usual s unit_level p (led usual s p (Some c) read)
   unfolding led Sound Found ascii
   row_sound p c h =
       pick_by (Sound usual s unit_level p) (stands s p 84) _ _ (λ st. record { text = _; spells = spells_true; passage = stands_passage s p 84 (omega arith) st }) (λ _.
@@ -171,7 +171,7 @@ module _ (usual : ℕ) (s : List ℕ) (read : Reader) (sound : (level : Level) (
   unfolding with_bound bound_at Sound
   no_row p c = tt
 
-  not_led : (p : ℕ) → Sound usual s unit_level p (led usual s p none read)
+  not_led : (p : ℕ) → Sound usual s unit_level p (led usual s p None read)
   unfolding led Sound
   not_led p = tt
 

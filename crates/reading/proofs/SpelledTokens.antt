@@ -7,7 +7,7 @@ use native.Mathlib.Numerals.{add-one}
 use native.Mathlib.Decide.{dec_lt}
 use mathlib.Core.Path.{◌≡◌, refl, sym, ◌∙◌, ap, ap₂, subst}
 use mathlib.Core.Bool.{Bool, true, false}
-use mathlib.Core.Option.{Option, none, some}
+use Rattle.std.specs.Prelude.{Option, None, Some}
 use mathlib.Core.List.{List, [], ◌∷◌, ◌++◌, append_assoc}
 use lib.ListN.{length, drop, length-append, length-drop, length-replicate, get_or-eq_default}
 use lib.Seq.{drop-cons, drop-drop}
@@ -192,8 +192,8 @@ number_at s p (suc (suc (suc zero))) one few all =
 number_at s p (suc (suc (suc (suc n)))) one few all = absurd (omega arith)
 
 -- What holds of nothing, and of every number that is spelled there, holds of what is read.
-pub numeral_by : (Q : Option (Token ℕ) → Type 0) (most : ℕ) → 1 ≤ most → most ≤ 3 → (s : List ℕ) (p : ℕ) → Q none
-    → ((count k e : ℕ) (number : List ℕ) → Digits count k number → count ≤ most → Passage s p number e → Q (some (record { said = k; next = e })))
+pub numeral_by : (Q : Option (Token ℕ) → Type 0) (most : ℕ) → 1 ≤ most → most ≤ 3 → (s : List ℕ) (p : ℕ) → Q None
+    → ((count k e : ℕ) (number : List ℕ) → Digits count k number → count ≤ most → Passage s p number e → Q (Some (record { said = k; next = e })))
     → Q (numeral most s p)
 unfolding numeral
 numeral_by Q most one few s p nothing something =
@@ -205,15 +205,15 @@ numeral_by Q most one few s p nothing something =
 
 -- ---- comparisons, marks and bounds
 
-pub comparison_by : (Q : Option (Token Comparison) → Type 0) (s : List ℕ) (p : ℕ) → Q none
-    → ((c : Comparison) (e : ℕ) → Passage s p (sign c) e → Q (some (record { said = c; next = e }))) → Q (comparison_token s p)
+pub comparison_by : (Q : Option (Token Comparison) → Type 0) (s : List ℕ) (p : ℕ) → Q None
+    → ((c : Comparison) (e : ℕ) → Passage s p (sign c) e → Q (Some (record { said = c; next = e }))) → Q (comparison_token s p)
 unfolding comparison_token with_equals sign ascii
 comparison_by Q s p nothing something =
     pick_by Q (stands s p 60) _ _ (λ a.
-    pick_by (λ t. Q (some t)) (stands s (p + 1) 61) _ _
+    pick_by (λ t. Q (Some t)) (stands s (p + 1) 61) _ _
     (λ b. something no_more (p + 2) (two 60 (omega arith) a b)) (λ b. something less (p + 1) (stands_passage s p 60 (omega arith) a))) (λ _.
     pick_by Q (stands s p 62) _ _ (λ a.
-    pick_by (λ t. Q (some t)) (stands s (p + 1) 61) _ _
+    pick_by (λ t. Q (Some t)) (stands s (p + 1) 61) _ _
     (λ b. something no_less (p + 2) (two 62 (omega arith) a b)) (λ b. something more (p + 1) (stands_passage s p 62 (omega arith) a))) (λ _. nothing))
   where
     two : (c : ℕ) → 1 ≤ c → stands s p c ≡ true → stands s (p + 1) 61 ≡ true → Passage s p (c ∷ 61 ∷ []) (p + 2)
@@ -223,9 +223,9 @@ comparison_by Q s p nothing something =
         passage_append (stands_passage s p c one a) h
 
 -- a mark behind its `!`
-pub mark_by : (Q : Option (Token Formula) → Type 0) (wanted : Bool) (s : List ℕ) (p : ℕ) → Q none
+pub mark_by : (Q : Option (Token Formula) → Type 0) (wanted : Bool) (s : List ℕ) (p : ℕ) → Q None
     → ((count k e : ℕ) (number : List ℕ) → Digits count k number → count ≤ 2 → Passages s p (ascii "p" ∷ number ∷ []) e
-    → Q (some (record { said = proposition wanted k; next = e })))
+    → Q (Some (record { said = proposition wanted k; next = e })))
     → Q (mark_at wanted s p)
 unfolding mark_at mark_named ascii
 mark_by Q wanted s p nothing something =
@@ -234,10 +234,10 @@ mark_by Q wanted s p nothing something =
     something count k e number d few (passage_before (stands_passage s p 112 (omega arith) a) (passage_before r (passages_end e))))) (λ _. nothing)
 
 -- the bound of N
-pub compared_by : (Q : Option BoundRead → Type 0) (usual : ℕ) (s : List ℕ) (p : ℕ) → Q none
+pub compared_by : (Q : Option BoundRead → Type 0) (usual : ℕ) (s : List ℕ) (p : ℕ) → Q None
     → ((i : ℕ) (c : Comparison) (j count t e : ℕ) (number : List ℕ) → Digits count t number
     → ((ts : List (List ℕ)) (q : ℕ) → Passages s e ts q → Passages s p (spaces i ∷ sign c ∷ spaces j ∷ number ∷ ts) q)
-    → Q (some (record { comparison = c; amount = ticks t; next = e })))
+    → Q (Some (record { comparison = c; amount = ticks t; next = e })))
     → Q (bound_at usual compared s p)
 unfolding bound_at compared_with bounded number_token
 compared_by Q usual s p nothing something =
@@ -248,7 +248,7 @@ compared_by Q usual s p nothing something =
 
 -- the bound of A, E or U
 pub optional_by : (Q : Option BoundRead → Type 0) (usual : ℕ) (s : List ℕ) (p : ℕ)
-    → ((t e : ℕ) (bound : List ℕ) → BoundText usual t bound → Passage s p bound e → Q (some (record { comparison = no_more; amount = ticks t; next = e })))
+    → ((t e : ℕ) (bound : List ℕ) → BoundText usual t bound → Passage s p bound e → Q (Some (record { comparison = no_more; amount = ticks t; next = e })))
     → Q (bound_at usual optional s p)
 unfolding bound_at number_or_usual bounded number_token
 optional_by Q usual s p something =

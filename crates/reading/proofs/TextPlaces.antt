@@ -4,7 +4,7 @@ use native.Mathlib.Omega.{arith}
 use native.Mathlib.Nat.{add-zero}
 use mathlib.Core.Path.{◌≡◌, refl, sym, ◌∙◌, ap}
 use mathlib.Core.Bool.{true, false}
-use mathlib.Core.Option.{some}
+use Rattle.std.specs.Prelude.{Some}
 use mathlib.Core.List.{List, [], ◌∷◌, ◌++◌, append_assoc}
 use lib.ListN.{length, drop, get_or, length-append, length-drop, length-replicate}
 use lib.Seq.{get_or-drop, drop-drop, drop-append_seam}
@@ -170,14 +170,14 @@ module _ (s : List ℕ) (p : ℕ) where
 
   -- so many digits of such a value make a numeral
   pub numeral_of : (most n k : ℕ) → is_digit (byte_at s p) ≡ true → digits most s p ≡ n → value n s p ≡ k
-      → numeral most s p ≡ some (record { said = k; next = p + n })
+      → numeral most s p ≡ Some (record { said = k; next = p + n })
   unfolding numeral
   numeral_of most n k h e f = rw (h, e, f)
 
 -- A number that is written is read back, where it has no more digits than may be read and no digit follows it.
 pub numeral_back : {count k : ℕ} {number : List ℕ} → Digits count k number → (most : ℕ) → count ≤ most
     → {s : List ℕ} {p : ℕ} {rest : List ℕ} {e : ℕ} → Span s p number rest e → is_digit (byte_at rest 0) ≡ false
-    → numeral most s p ≡ some (record { said = k; next = e })
+    → numeral most s p ≡ Some (record { said = k; next = e })
 numeral_back (one_digit a x) zero le {s} {p} {rest} {e} h stop = absurd (omega arith)
 numeral_back (one_digit a x) (suc n) le {s} {p} {rest} {e} h stop =
     let one = ap is_digit (span_at h 0 p (omega arith)) ∙ digit_is a x in

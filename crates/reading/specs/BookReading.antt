@@ -4,7 +4,8 @@ use Rattle.base.specs.Choice.{pick}
 use Rattle.base.specs.Lists.{begins}
 use Rattle.base.specs.Text.{byte, ascii}
 use Rattle.base.specs.Recursion.{run}
-use Rattle.base.specs.Answers.{Answer, refuse, give, ◌if◌else◌, ◌then◌}
+use Rattle.base.specs.Answers.{Answer, ◌if◌else◌, ◌then◌}
+use Rattle.std.specs.Prelude.{Err, Ok}
 use Rattle.base.specs.declared.Refusal.TheVariants.{Grammar, Number, Mark, Limit, Timed}
 use Rattle.logic.specs.Book.{Formula, constant, proposition, and, or, next, always_for, until, timed_right, size, nodes, Form, at_start, everywhere, Book}
 use Rattle.reading.specs.Tokens.{stands, skip}
@@ -79,24 +80,24 @@ pub record ReadSoFar : Type 0 where
 
 -- a line in number order: 6, 7, 8, 9, 10, its number as place; or how far the reading has come with it
 unfoldable pub judge_line : ℕ → Book → Line → Answer ReadSoFar
-judge_line marks before no_line = refuse (Grammar (length before))
+judge_line marks before no_line = Err (Grammar (length before))
 judge_line marks before (line form f brackets p) =
     Number (length before) if over_number f else
     Mark (length before) if over_mark marks f else
     Limit (length before) if over_limit before f brackets else
     Timed (length before) if not (timed_right f) else
-    give (record { rules = before ++ (record { form = form; formula = f } ∷ []); place = p })
+    Ok (record { rules = before ++ (record { form = form; formula = f } ∷ []); place = p })
 
 -- the lines from here on, one after the other, to the end of the text
 unfoldable pub lines_step : ℕ → ℕ → List ℕ → ReadSoFar → (ReadSoFar → Answer Book) → Answer Book
 lines_step usual marks s here more =
     pick (leb (length s) here.place)
-    (λ _. give here.rules)
+    (λ _. Ok here.rules)
     (λ _. judge_line marks here.rules (line_at usual s here.place) then more)
 
 unfoldable pub read_lines : ℕ → ℕ → List ℕ → Answer Book
 read_lines usual marks s =
-    run (λ here. length s - here.place) (λ here. refuse (Grammar (length here.rules))) (lines_step usual marks s) (record { rules = []; place = 0 })
+    run (λ here. length s - here.place) (λ here. Err (Grammar (length here.rules))) (lines_step usual marks s) (record { rules = []; place = 0 })
 
 -- the book of a text under P marks: 9 for its length first, then by line
 unfoldable pub read_book : ℕ → List ℕ → Answer Book

@@ -1,7 +1,7 @@
 -- 01, 'Rule book': the grammar. Or-level, and_level and unit readers call each other; `read_step` is one call of any of them.
 -- `usual` is the bound in ticks where a number is left out after A, E or U.
 use Rattle.std.specs.Prelude.{ℕ, suc, ◌+◌, ◌-◌, ◌*◌, max, true, false, List, [], ◌∷◌, length, eqb}
-use Rattle.std.proofs.Math.Option.{Option, none, some}
+use Rattle.std.specs.Prelude.{Option, None, Some}
 use Rattle.base.specs.Choice.{pick}
 use Rattle.base.specs.Text.{byte}
 use Rattle.base.specs.Bytes.{byte_at}
@@ -36,8 +36,8 @@ connectives =
 
 -- the connective with this letter
 unfoldable pub connective : List Connective → ℕ → Option Connective
-connective [] b = none
-connective (c ∷ rows) b = pick (eqb c.letter b) (λ _. some c) (λ _. connective rows b)
+connective [] b = None
+connective (c ∷ rows) b = pick (eqb c.letter b) (λ _. Some c) (λ _. connective rows b)
 
 -- What reading at a position gives: nothing of the grammar, or a formula, how many brackets stand open in it at most, and the position after it.
 pub data Parsed : Type 0 where
@@ -61,22 +61,22 @@ pub record BoundRead : Type 0 where
 
 -- a number token as a bound
 unfoldable pub bounded : Comparison → Option (Token ℕ) → Option BoundRead
-bounded c none = none
-bounded c (some t) = some (record { comparison = c; amount = ticks t.said; next = t.next })
+bounded c None = None
+bounded c (Some t) = Some (record { comparison = c; amount = ticks t.said; next = t.next })
 
 -- behind a comparison, spaces passed over, its number
 unfoldable pub compared_with : List ℕ → Option (Token Comparison) → Option BoundRead
-compared_with s none = none
-compared_with s (some c) = bounded c.said (number_token s (skip s c.next))
+compared_with s None = None
+compared_with s (Some c) = bounded c.said (number_token s (skip s c.next))
 
 -- the number at q, or the usual bound where none is written; then nothing of the text is used
 unfoldable pub number_or_usual : ℕ → ℕ → Option (Token ℕ) → Option BoundRead
-number_or_usual usual p none = some (record { comparison = no_more; amount = ticks usual; next = p })
-number_or_usual usual p (some t) = bounded no_more (some t)
+number_or_usual usual p None = Some (record { comparison = no_more; amount = ticks usual; next = p })
+number_or_usual usual p (Some t) = bounded no_more (Some t)
 
 -- the bound behind a connective's letter, which ends at p
 unfoldable pub bound_at : ℕ → Bound → List ℕ → ℕ → Option BoundRead
-bound_at usual no_bound s p = none
+bound_at usual no_bound s p = None
 bound_at usual compared s p = compared_with s (comparison_token s (skip s p))
 bound_at usual optional s p = number_or_usual usual p (number_token s (skip s p))
 
@@ -127,24 +127,24 @@ two_parts s p read make =
 
 -- the parts of a connective whose bound was read
 unfoldable pub with_bound : List ℕ → Connective → Option BoundRead → Reader → Parsed
-with_bound s c none read = bad
-with_bound s c (some b) read =
+with_bound s c None read = bad
+with_bound s c (Some b) read =
     pick (eqb c.parts 1)
     (λ _. onward (read unit_level (skip s b.next)) (λ g brackets q. got (formula_one c.letter b g) brackets q))
     (λ _. two_parts s b.next read (formula_two b))
 
 -- a unit that is led by the letter of a connective at p
 unfoldable pub led : ℕ → List ℕ → ℕ → Option Connective → Reader → Parsed
-led usual s p none read = bad
-led usual s p (some c) read =
+led usual s p None read = bad
+led usual s p (Some c) read =
     pick (stands s p (byte "T")) (λ _. got (constant true) 0 (p + 1)) (λ _.
     pick (stands s p (byte "F")) (λ _. got (constant false) 0 (p + 1)) (λ _.
     with_bound s c (bound_at usual c.bound s (p + 1)) read))
 
 -- a mark, if one stands there
 unfoldable pub marked_unit : Option (Token Formula) → Parsed
-marked_unit none = bad
-marked_unit (some t) = got t.said 0 t.next
+marked_unit None = bad
+marked_unit (Some t) = got t.said 0 t.next
 
 -- a unit at p: a formula in brackets, a mark, or what a connective leads
 unfoldable pub unit_at : ℕ → List ℕ → ℕ → Reader → Parsed

@@ -2,7 +2,8 @@
 use Rattle.std.specs.Prelude.{ℕ, suc, ◌+◌, ◌*◌, ◌≤◌, ◌<◌, ◌≡◌, List, [], ◌∷◌, ◌++◌, length}
 use Rattle.base.specs.Lists.{joined}
 use Rattle.base.specs.Text.{ascii}
-use Rattle.base.specs.Answers.{Answer, refuse, give}
+use Rattle.base.specs.Answers.{Answer}
+use Rattle.std.specs.Prelude.{Err, Ok}
 use Rattle.base.specs.declared.Refusal.TheVariants.{Log}
 use Rattle.logic.specs.Time.{ticks}
 use Rattle.reading.specs.Spelling.{digit}
@@ -36,6 +37,6 @@ pub record BeginsLine (rest : List ℕ) : Type 0 where
 -- The right answer for a text and why it is the right one: the lines of the whole log; or 19 at the first line that is not of the form, which
 -- begins behind the lines before it, is not empty, and begins with no line of a log.
 pub data RightLog (text : List ℕ) : Answer (List Stroke) → Type 0 where
-  whole_log : (strokes : List Stroke) → SpellsLog strokes text → RightLog text (give strokes)
+  whole_log : (strokes : List Stroke) → SpellsLog strokes text → RightLog text (Ok strokes)
   bad_line : (before : List Stroke) (begun rest : List ℕ) → SpellsLog before begun → text ≡ begun ++ rest → 1 ≤ length rest → (BeginsLine rest → ⊥)
-      → RightLog text (refuse (Log (length before)))
+      → RightLog text (Err (Log (length before)))

@@ -1,6 +1,7 @@
 -- 01, 'Why a call is turned down', of the book: the right answer for a text, in the words of the rules by which books are spelled.
 use Rattle.std.specs.Prelude.{ℕ, ◌≤◌, ◌<◌, ◌≡◌, true, false, List, ◌++◌, length}
-use Rattle.base.specs.Answers.{Answer, refuse, give}
+use Rattle.base.specs.Answers.{Answer}
+use Rattle.std.specs.Prelude.{Err, Ok}
 use Rattle.base.specs.declared.Refusal.TheVariants.{Grammar, Number, Mark, Limit, Timed}
 use Rattle.logic.specs.Book.{timed_right, Rule, Book}
 use Rattle.reading.specs.BookReading.{most_bytes, usual_bound, over_number, over_mark, over_limit}
@@ -25,17 +26,17 @@ pub record NextLine (rest : List ℕ) (rule : Rule) (brackets : ℕ) : Type 0 wh
 
 -- The right answer and why it is the right one: 9 for the length first, and then the first line that is turned down, by the first number that fits it.
 pub data RightBook (marks : ℕ) (text : List ℕ) : Answer Book → Type 0 where
-  too_long : most_bytes < length text → RightBook marks text (refuse (Limit 0))
+  too_long : most_bytes < length text → RightBook marks text (Err (Limit 0))
   no_line_there : (before : Book) (rest : List ℕ) → BegunWith marks text before rest → ((rule : Rule) (b : ℕ) → NextLine rest rule b → ⊥)
-      → RightBook marks text (refuse (Grammar (length before)))
+      → RightBook marks text (Err (Grammar (length before)))
   number_over : (before : Book) (rest : List ℕ) (rule : Rule) (b : ℕ) → BegunWith marks text before rest → NextLine rest rule b
-      → over_number rule.formula ≡ true → RightBook marks text (refuse (Number (length before)))
+      → over_number rule.formula ≡ true → RightBook marks text (Err (Number (length before)))
   mark_over : (before : Book) (rest : List ℕ) (rule : Rule) (b : ℕ) → BegunWith marks text before rest → NextLine rest rule b
-      → over_number rule.formula ≡ false → over_mark marks rule.formula ≡ true → RightBook marks text (refuse (Mark (length before)))
+      → over_number rule.formula ≡ false → over_mark marks rule.formula ≡ true → RightBook marks text (Err (Mark (length before)))
   limit_over : (before : Book) (rest : List ℕ) (rule : Rule) (b : ℕ) → BegunWith marks text before rest → NextLine rest rule b
       → over_number rule.formula ≡ false → over_mark marks rule.formula ≡ false → over_limit before rule.formula b ≡ true
-      → RightBook marks text (refuse (Limit (length before)))
+      → RightBook marks text (Err (Limit (length before)))
   timed_wrong : (before : Book) (rest : List ℕ) (rule : Rule) (b : ℕ) → BegunWith marks text before rest → NextLine rest rule b
       → over_number rule.formula ≡ false → over_mark marks rule.formula ≡ false → over_limit before rule.formula b ≡ false
-      → timed_right rule.formula ≡ false → RightBook marks text (refuse (Timed (length before)))
-  whole_book : (book : Book) → BookOf marks text book → RightBook marks text (give book)
+      → timed_right rule.formula ≡ false → RightBook marks text (Err (Timed (length before)))
+  whole_book : (book : Book) → BookOf marks text book → RightBook marks text (Ok book)

@@ -2,7 +2,8 @@
 use Rattle.std.specs.Prelude.{ℕ, zero, suc, ◌+◌, ◌*◌, Bool, true, ◌&&◌, not, List, map, length, leb, ltb, eqb}
 use Rattle.base.specs.Lists.{below, count_from}
 use Rattle.base.specs.Bytes.{byte_at, number_at}
-use Rattle.base.specs.Answers.{Answer, give, ◌if◌else◌}
+use Rattle.base.specs.Answers.{Answer, ◌if◌else◌}
+use Rattle.std.specs.Prelude.{Ok}
 use Rattle.base.specs.declared.Refusal.TheVariants.{Layout}
 use Rattle.logic.specs.declared.FileLayout.{FileLayout}
 use Rattle.logic.specs.Tower.{Tower, most_actions, in_range, narrow}
@@ -105,4 +106,4 @@ unfoldable pub read_table : Tower → List ℕ → Answer Table
 read_table tower bytes =
     Layout if not (laid_out bytes) else
     Layout if not (eqb (table_states bytes) tower.states && eqb (table_actions bytes) tower.actions) else
-    give (table_of bytes)
+    Ok (table_of bytes)

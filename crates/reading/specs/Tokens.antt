@@ -1,6 +1,6 @@
 -- 01, 'Rule book': tokens, each read as long as it can be. Positions here are those of bytes in the book; past its end every byte is 0, which no token has.
 use Rattle.std.specs.Prelude.{ℕ, zero, suc, ◌+◌, ◌-◌, ◌*◌, Bool, true, false, ◌&&◌, List, drop, leb, eqb}
-use Rattle.std.proofs.Math.Option.{Option, none, some}
+use Rattle.std.specs.Prelude.{Option, None, Some}
 use Rattle.base.specs.Choice.{pick}
 use Rattle.base.specs.Lists.{leading}
 use Rattle.base.specs.Text.{byte}
@@ -37,8 +37,8 @@ pub record Token (A : Type 0) : Type 0 where
 unfoldable pub numeral : ℕ → List ℕ → ℕ → Option (Token ℕ)
 numeral most s p =
     pick (is_digit (byte_at s p))
-    (λ _. some (record { said = value (digits most s p) s p; next = p + digits most s p }))
-    (λ _. none)
+    (λ _. Some (record { said = value (digits most s p) s p; next = p + digits most s p }))
+    (λ _. None)
 
 -- a number: one to three digits
 unfoldable pub number_token : List ℕ → ℕ → Option (Token ℕ)
@@ -46,12 +46,12 @@ number_token s p = numeral 3 s p
 
 -- a mark's number, wanted on the state or not
 unfoldable pub mark_named : Bool → Option (Token ℕ) → Option (Token Formula)
-mark_named wanted none = none
-mark_named wanted (some t) = some (record { said = proposition wanted t.said; next = t.next })
+mark_named wanted None = None
+mark_named wanted (Some t) = Some (record { said = proposition wanted t.said; next = t.next })
 
 -- `p` and one or two digits
 unfoldable pub mark_at : Bool → List ℕ → ℕ → Option (Token Formula)
-mark_at wanted s p = pick (stands s p (byte "p")) (λ _. mark_named wanted (numeral 2 s (p + 1))) (λ _. none)
+mark_at wanted s p = pick (stands s p (byte "p")) (λ _. mark_named wanted (numeral 2 s (p + 1))) (λ _. None)
 
 -- a mark, negated by `!` before it; all of it is one token
 unfoldable pub mark_token : List ℕ → ℕ → Option (Token Formula)
@@ -67,5 +67,5 @@ with_equals s p long short =
 -- one of `<=` `<` `>=` `>`
 unfoldable pub comparison_token : List ℕ → ℕ → Option (Token Comparison)
 comparison_token s p =
-    pick (stands s p (byte "<")) (λ _. some (with_equals s p no_more less)) (λ _.
-    pick (stands s p (byte ">")) (λ _. some (with_equals s p no_less more)) (λ _. none))
+    pick (stands s p (byte "<")) (λ _. Some (with_equals s p no_more less)) (λ _.
+    pick (stands s p (byte ">")) (λ _. Some (with_equals s p no_less more)) (λ _. None))

@@ -1,6 +1,7 @@
 -- 01, 'Tower file' and 'Why a call is turned down': the tower of a file, or why there is none.
 use Rattle.std.specs.Prelude.{ℕ, List}
-use Rattle.base.specs.Answers.{Answer, give, ◌if◌else◌}
+use Rattle.base.specs.Answers.{Answer, ◌if◌else◌}
+use Rattle.std.specs.Prelude.{Ok}
 use Rattle.base.specs.declared.Refusal.TheVariants.{TowerSize, Range, Action, Target, Mask}
 use Rattle.logic.specs.Tower.{Tower, tower_of, no_header, bad_counts, bad_size, bad_actions, bad_targets, bad_masks}
 
@@ -13,4 +14,4 @@ read_tower bytes =
     Action if bad_actions bytes else
     Target if bad_targets bytes else
     Mask if bad_masks bytes else
-    give (tower_of bytes)
+    Ok (tower_of bytes)

@@ -2,7 +2,7 @@
 use Prim.Native.Nat.{ℕ, zero, suc, ◌<◌}
 use mathlib.Core.Path.{◌≡◌, refl, sym, ◌∙◌}
 use mathlib.Core.Bool.{Bool, true, ◌&&◌, not}
-use mathlib.Core.Option.{Option, none, some}
+use Rattle.std.specs.Prelude.{Option, None, Some}
 use lib.Dec.{eqb}
 use borrow.Author.Tests.{eqb-true, eq-eqb, not-true}
 use Rattle.base.specs.Lists.{every, some_of, below, same_option}
@@ -133,7 +133,7 @@ module _ (graph : Graph) (safe : ℕ → Bool) where
 
   module _ (targets : Targets graph) where
     -- An allowed step from a row leads to a row.
-    led_safe : (i a j : ℕ) → SafePair graph safe i → a < graph.actions → step i a ≡ some j → SafePair graph safe j
+    led_safe : (i a j : ℕ) → SafePair graph safe i → a < graph.actions → step i a ≡ Some j → SafePair graph safe j
     led_safe i a j s l e =
         let (leads, ends) = allowed_out safe (graph.move i a) j e in
         record { there = targets i a j s.there l leads; is_safe = ends }
@@ -148,10 +148,10 @@ module _ (graph : Graph) (safe : ℕ → Bool) where
       where
         go : (a : ℕ) → a < graph.actions → (o p : Option ℕ) → step i a ≡ o → step j a ≡ p → same_option same o p ≡ true
             → same_option other o p ≡ true
-        go a l none none f g e = refl
-        go a l none (some y) f g e = never_both e refl
-        go a l (some x) none f g e = never_both e refl
-        go a l (some x) (some y) f g e = more x y (led_safe i a x si l f) (led_safe j a y sj l g) e
+        go a l None None f g e = refl
+        go a l None (Some y) f g e = never_both e refl
+        go a l (Some x) None f g e = never_both e refl
+        go a l (Some x) (Some y) f g e = more x y (led_safe i a x si l f) (led_safe j a y sj l g) e
 
     -- A pass keeps together more rows where more are.
     pass_more : (same other : ℕ → ℕ → Bool)

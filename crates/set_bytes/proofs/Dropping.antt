@@ -7,8 +7,6 @@ use mathlib.Core.Bool.{Bool, true, false}
 use mathlib.Core.List.{List, [], ◌∷◌, ◌++◌, Memᴰ, append-nil}
 use lib.ListN.{length, get_or, set, length-set}
 use lib.Seq.{get_or-set_same, get_or-set_other}
-use mir.Syntax.{w8, w64}
-use mir.Val.{Fits}
 use Rattle.base.specs.Choice.{pick}
 use Rattle.base.proofs.Lists.{mem_get_or, mem_index, some_of_mem, none_of}
 use Rattle.logic.specs.Book.{Formula}
@@ -17,6 +15,8 @@ use Rattle.alternatives.specs.Least.{without}
 use Rattle.alternatives.specs.Alternatives.{asks_no_more, earlier}
 use Rattle.book_progression.specs.Promises.{AreNodes}
 use Rattle.alternative_bytes.specs.Promises.{NoMore, Related}
+use Rattle.alternative_bytes.specs.declared.Relation.{Relation}
+use Rattle.alternative_bytes.specs.declared.Relation.TheVariants as Told
 use Rattle.set_bytes.specs.SetBytes.{alternative_size, candidate, chosen}
 use Rattle.set_bytes.specs.Promises.{Below, IsCovered, Without, LookedOver}
 use Rattle.set_bytes.proofs.Chosen.{chosen_length, chosen_at, chosen_next, chosen_set}
@@ -192,50 +192,51 @@ drop_stays bytes n room order m c i going answer low few =
 -- ---- how the chosen are related to a candidate
 
 -- None of the first i covers candidate c, and all of them stay if none was found of which it asks no more.
-pub record LookingOver (bytes : List ℕ) (n : ℕ) (room order : List ℕ) (m c i found : ℕ) : Type 0 where
+pub record LookingOver (bytes : List ℕ) (n : ℕ) (room order : List ℕ) (m c i : ℕ) (found : Relation) : Type 0 where
   pub low : i ≤ m
-  pub needed : found ≡ 1 → ⊥
+  pub needed : found ≡ Told.NoMore → ⊥
   pub none : NoneCovers bytes n room order i c
-  pub stay : found ≡ 0 → Dropping bytes n room order m c order i i
+  pub stay : found ≡ Told.Apart → Dropping bytes n room order m c order i i
 
-pub look_start : (bytes : List ℕ) (n : ℕ) (room order : List ℕ) (m c : ℕ) → LookingOver bytes n room order m c 0 0
+pub look_start : (bytes : List ℕ) (n : ℕ) (room order : List ℕ) (m c : ℕ) → LookingOver bytes n room order m c 0 Told.Apart
 look_start bytes n room order m c =
     record {
       low = omega arith;
-      needed = λ e. omega arith;
+      needed = λ e. absurd (cc);
       none = covers_none bytes n room order c;
       stay = λ e. drop_start bytes n room order m c;
     }
 
-module _ (bytes : List ℕ) (n : ℕ) (room order : List ℕ) (m c i r : ℕ) (one : Related r bytes n room (60 * get_or order i 0) (60 * c)) where
-  pub look_covered : r ≡ 1 → i < m → m ≤ length order → LookedOver 1 bytes n room order m c
+module _ (bytes : List ℕ) (n : ℕ) (room order : List ℕ) (m c i : ℕ) (r : Relation) (one : Related r bytes n room (60 * get_or order i 0) (60 * c)) where
+  pub look_covered : r ≡ Told.NoMore → i < m → m ≤ length order → LookedOver Told.NoMore bytes n room order m c
   look_covered is low few =
       record {
         covered = λ e. covers_found true bytes n room order i m c (one.no_more is) refl low few;
         needed = λ other. absurd (other refl);
-        apart = λ e. absurd (omega arith);
+        apart = λ e. absurd (cc);
       }
 
-  pub look_needless : (found : ℕ) → LookingOver bytes n room order m c i found → (r ≡ 1 → ⊥) → i < m → LookingOver bytes n room order m c (i + 1) 2
-  look_needless found going other low =
+  pub look_needless : (found : Relation) → LookingOver bytes n room order m c i found → r ≡ Told.NoLess → i < m
+      → LookingOver bytes n room order m c (i + 1) Told.NoLess
+  look_needless found going is low =
       record {
         low = omega arith;
-        needed = λ e. omega arith;
-        none = covers_not false bytes n room order i c going.none (one.more other) refl;
-        stay = λ e. absurd (omega arith);
+        needed = λ e. absurd (cc);
+        none = covers_not false bytes n room order i c going.none (one.more (λ e. absurd (cc))) refl;
+        stay = λ e. absurd (cc);
       }
 
-  pub look_apart : (found : ℕ) → LookingOver bytes n room order m c i found → r ≡ 0 → i < m → m ≤ length order
+  pub look_apart : (found : Relation) → LookingOver bytes n room order m c i found → r ≡ Told.Apart → i < m → m ≤ length order
       → LookingOver bytes n room order m c (i + 1) found
   look_apart found going is low few =
       record {
         low = omega arith;
         needed = going.needed;
-        none = covers_not false bytes n room order i c going.none (one.more (λ e. omega arith)) refl;
+        none = covers_not false bytes n room order i c going.none (one.more (λ e. absurd (cc))) refl;
         stay = λ e. drop_stays bytes n room order m c i (going.stay e) (one.apart is) low few;
       }
 
-pub look_end : (bytes : List ℕ) (n : ℕ) (room order : List ℕ) (m c i found : ℕ) → LookingOver bytes n room order m c i found → m ≤ i
+pub look_end : (bytes : List ℕ) (n : ℕ) (room order : List ℕ) (m c i : ℕ) (found : Relation) → LookingOver bytes n room order m c i found → m ≤ i
     → m ≤ length order → LookedOver found bytes n room order m c
 look_end bytes n room order m c i found going all few =
     let e : i ≡ m = omega (arith, going.low) in
@@ -244,22 +245,3 @@ look_end bytes n room order m c i found going all few =
       needed = λ other. covers_end bytes n room order i m c going.none all few;
       apart = λ is. rw e at (drop_end bytes n room order m c order i i (going.stay is) all);
     }
-
--- The next number is a byte,
-pub drop_cast : (bytes : List ℕ) (n : ℕ) (room first : List ℕ) (m c : ℕ) (order : List ℕ) (i left : ℕ) → Dropping bytes n room first m c order i left
-    → ((j : ℕ) → Fits w8 (get_or first j 0)) → Fits w64 (get_or order i 0)
-drop_cast bytes n room first m c order i left going are = omega (arith, going.rest i (omega arith), are i)
-
-pub drop_fits : (bytes : List ℕ) (n : ℕ) (room first : List ℕ) (m c : ℕ) (order : List ℕ) (i left : ℕ) → Dropping bytes n room first m c order i left
-    → ((j : ℕ) → Fits w8 (get_or first j 0)) → Fits w64 (60 * get_or order i 0)
-drop_fits bytes n room first m c order i left going are = omega (arith, going.rest i (omega arith), are i)
-
--- so that its candidate lies in the room,
-pub drop_inside : (bytes : List ℕ) (n : ℕ) (room first : List ℕ) (m c : ℕ) (order : List ℕ) (i left : ℕ) → Dropping bytes n room first m c order i left
-    → ((j : ℕ) → Fits w8 (get_or first j 0)) → n ≤ 60 → 15360 ≤ length room → 60 * get_or order i 0 + n ≤ length room
-drop_inside bytes n room first m c order i left going are nodes fits = omega (arith, going.rest i (omega arith), are i)
-
--- and there is a place for it.
-pub drop_low : (bytes : List ℕ) (n : ℕ) (room first : List ℕ) (m c : ℕ) (order : List ℕ) (i left : ℕ) → Dropping bytes n room first m c order i left
-    → i < m → m ≤ length first → left < length order
-drop_low bytes n room first m c order i left going low few = omega (arith, going.size, going.fewer)

@@ -1,4 +1,4 @@
--- A candidate takes its place among the chosen: where it belongs, how the place is made, and what is then there.
+-- A candidate takes its place among the chosen: where it belongs, and what is there behind the place that was made.
 use Prim.Native.Nat.{ℕ, zero, suc, ◌+◌, ◌-◌, ◌*◌, ◌≤◌, ◌<◌}
 use native.Mathlib.Omega.{arith}
 use native.Mathlib.Decide.{dec_lt}
@@ -44,58 +44,7 @@ pub place_end : (n : ℕ) (room order : List ℕ) (i m c : ℕ) → NotEarlier n
 place_end n room order i m c going all =
     record { most = omega arith; before = λ j l. going.says j (omega arith); at = λ l. absurd (omega arith) }
 
--- ---- how the place is made
-
--- The numbers from i on are one place on.
-pub record MakingPlace (first : List ℕ) (m at : ℕ) (order : List ℕ) (i : ℕ) : Type 0 where
-  pub size : length order ≡ length first
-  pub low : at ≤ i
-  pub high : i ≤ m
-  pub before : (j : ℕ) → j < i → get_or order j 0 ≡ get_or first j 0
-  pub behind : (j : ℕ) → i ≤ j → j < m → get_or order (j + 1) 0 ≡ get_or first j 0
-
-pub move_start : (order : List ℕ) (m at : ℕ) → at ≤ m → MakingPlace order m at order m
-move_start order m at le =
-    record { size = refl; low = le; high = omega arith; before = λ j l. refl; behind = λ j l k. absurd (omega arith) }
-
-pub move_next : (first : List ℕ) (m at : ℕ) (order : List ℕ) (i : ℕ) → MakingPlace first m at order i → at < i → m < length first
-    → MakingPlace first m at (set order i (get_or order (i - 1) 0)) (i - 1)
-move_next first m at order i going low fits =
-    record {
-      size = length-set order i v ∙ going.size;
-      low = omega arith;
-      high = omega (arith, going.high);
-      before = λ j l. get_or-set_other order i j v 0 (λ e. omega arith) ∙ going.before j (omega arith);
-      behind = λ j l k. moved j l k (dec_lt j i);
-    }
-  where
-    v : ℕ
-    v = get_or order (i - 1) 0
-
-    moved : (j : ℕ) → i - 1 ≤ j → j < m → Dec (j < i) → get_or (set order i (get_or order (i - 1) 0)) (j + 1) 0 ≡ get_or first j 0
-    moved j l k (yes d) =
-        let e : j ≡ i - 1 = omega arith in
-        let f : j + 1 ≡ i = omega arith in
-        ap (λ (p : ℕ). get_or (set order i v) p 0) f ∙ get_or-set_same order i v 0 (omega (arith, going.size, going.high))
-        ∙ going.before (i - 1) (omega arith) ∙ ap (λ (p : ℕ). get_or first p 0) (sym e)
-    moved j l k (no d) = get_or-set_other order i (j + 1) v 0 (λ e. omega arith) ∙ going.behind j (omega arith) k
-
-pub move_end : (first : List ℕ) (m at : ℕ) (order : List ℕ) (i : ℕ) → MakingPlace first m at order i → i ≤ at → Moved first m at order
-move_end first m at order i going all =
-    record {
-      size = going.size;
-      before = λ j l. going.before j (omega (arith, going.low));
-      behind = λ j l k. going.behind j (omega arith) k;
-    }
-
--- There are such places.
-pub move_to : (first : List ℕ) (m at : ℕ) (order : List ℕ) (i : ℕ) → MakingPlace first m at order i → m < length first → i < length order
-move_to first m at order i going fits = omega (arith, going.size, going.high)
-
-pub move_from : (first : List ℕ) (m at : ℕ) (order : List ℕ) (i : ℕ) → MakingPlace first m at order i → m < length first → i - 1 < length order
-move_from first m at order i going fits = omega (arith, going.size, going.high)
-
--- ---- what is then there
+-- ---- what is there behind the place that was made
 
 map_take : {X : Type 0} (f : ℕ → X) (k : ℕ) (xs : List ℕ) → map f (take k xs) ≡ take k (map f xs)
 map_take f zero xs = refl

@@ -18,6 +18,8 @@ use Rattle.alternatives.proofs.Least.{more_append}
 use Rattle.set_bytes.specs.SetBytes.{answered, set_in, candidate, chosen, pairs_of}
 use Rattle.book_progression.specs.Promises.{AreNodes}
 use Rattle.book_progression.proofs.Areas.{beside_none}
+use Rattle.alternative_bytes.specs.declared.Relation.{Relation}
+use Rattle.alternative_bytes.specs.declared.Relation.TheVariants as Told
 use Rattle.set_bytes.specs.Promises.{LookedOver, Without, Placed, Replaced, Added, Gathered, EitherGathered, PutOut, Finished, Leaves, Combines, NothingToDrop, JoinsSets, SetsReady, RoomFor}
 use Rattle.set_bytes.proofs.Chosen.{chosen_length}
 use Rattle.set_bytes.proofs.Sets.{answered_these, answered_over}
@@ -25,7 +27,7 @@ use Rattle.set_bytes.proofs.Sets.{answered_these, answered_over}
 -- ---- one more candidate
 
 -- One of the chosen asks no more: they stay as they are.
-pub add_covered : (r : ℕ) (bytes : List ℕ) (n : ℕ) (room order : List ℕ) (m c : ℕ) → LookedOver r bytes n room order m c → r ≡ 1
+pub add_covered : (r : Relation) (bytes : List ℕ) (n : ℕ) (room order : List ℕ) (m c : ℕ) → LookedOver r bytes n room order m c → r ≡ Told.NoMore
     → Added m bytes n room order m c order
 unfolding with_one_more
 add_covered r bytes n room order m c seen is =
@@ -51,8 +53,8 @@ replaced bytes n room order m c left mid after stay there =
     }
 
 -- None of the chosen asks no more: some may be dropped,
-pub add_replaced : (r : ℕ) (bytes : List ℕ) (n : ℕ) (room order : List ℕ) (m c left : ℕ) (after : List ℕ) → Replaced left bytes n room order m c after
-    → LookedOver r bytes n room order m c → (r ≡ 1 → ⊥) → Added left bytes n room order m c after
+pub add_replaced : (r : Relation) (bytes : List ℕ) (n : ℕ) (room order : List ℕ) (m c left : ℕ) (after : List ℕ) → Replaced left bytes n room order m c after
+    → LookedOver r bytes n room order m c → (r ≡ Told.NoMore → ⊥) → Added left bytes n room order m c after
 unfolding with_one_more
 add_replaced r bytes n room order m c left after there seen other =
     record {
@@ -66,10 +68,10 @@ add_replaced r bytes n room order m c left after there seen other =
     }
 
 -- or all stay.
-pub add_apart : (r : ℕ) (bytes : List ℕ) (n : ℕ) (room order : List ℕ) (m c : ℕ) (after : List ℕ) → Placed n room order m c after
-    → LookedOver r bytes n room order m c → r ≡ 0 → Added (m + 1) bytes n room order m c after
+pub add_apart : (r : Relation) (bytes : List ℕ) (n : ℕ) (room order : List ℕ) (m c : ℕ) (after : List ℕ) → Placed n room order m c after
+    → LookedOver r bytes n room order m c → r ≡ Told.Apart → Added (m + 1) bytes n room order m c after
 add_apart r bytes n room order m c after there seen is =
-    add_replaced r bytes n room order m c (m + 1) after (replaced bytes n room order m c m order after (seen.apart is) there) seen (λ e. omega arith)
+    add_replaced r bytes n room order m c (m + 1) after (replaced bytes n room order m c m order after (seen.apart is) there) seen (λ e. absurd (cc))
 
 -- ---- what is left
 

@@ -6,6 +6,8 @@ use Rattle.pending.specs.Pending.{Pending}
 use Rattle.alternatives.specs.Least.{without, placed, with_one_more, with_more}
 use Rattle.alternatives.specs.Alternatives.{Alternatives, broken, asks_no_more, earlier, counted, combined, joined_with}
 use Rattle.book_progression.specs.Promises.{AreNodes, Beside}
+use Rattle.alternative_bytes.specs.declared.Relation.{Relation}
+use Rattle.alternative_bytes.specs.declared.Relation.TheVariants as Told
 use Rattle.set_bytes.specs.SetBytes.{alternative_size, set_size, candidates_size, set_in, answered, candidate, chosen}
 
 -- ---- the chosen candidates
@@ -27,11 +29,11 @@ pub record Without (r : ℕ) (bytes : List ℕ) (n : ℕ) (room order : List ℕ
   pub says : (fs : List Formula) → AreNodes bytes n fs
       → chosen room n after r ≡ without (asks_no_more fs) earlier (candidate room n c) (chosen room n order m)
 
--- How the chosen are related to candidate c: 1 exactly if it is covered; 0 only if all stay beside it. 2 leaves that open.
-pub record LookedOver (answer : ℕ) (bytes : List ℕ) (n : ℕ) (room order : List ℕ) (m c : ℕ) : Type 0 where
-  pub covered : answer ≡ 1 → IsCovered true bytes n room order m c
-  pub needed : (answer ≡ 1 → ⊥) → IsCovered false bytes n room order m c
-  pub apart : answer ≡ 0 → Without m bytes n room order m c order
+-- How the chosen are related to candidate c: NoMore exactly if it is covered; Apart only if all stay beside it. NoLess leaves that open.
+pub record LookedOver (answer : Relation) (bytes : List ℕ) (n : ℕ) (room order : List ℕ) (m c : ℕ) : Type 0 where
+  pub covered : answer ≡ Told.NoMore → IsCovered true bytes n room order m c
+  pub needed : (answer ≡ Told.NoMore → ⊥) → IsCovered false bytes n room order m c
+  pub apart : answer ≡ Told.Apart → Without m bytes n room order m c order
 
 -- Candidate c belongs at place r among the chosen: before the first that it is earlier than.
 pub record IsPlace (r n : ℕ) (room order : List ℕ) (m c : ℕ) : Type 0 where

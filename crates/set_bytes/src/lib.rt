@@ -9,7 +9,7 @@ ghost use Rattle.book_progression.specs.Promises.{HasNodes};
 ghost use Rattle.set_bytes.specs.SetBytes.{alternative_size, set_size, most_candidates, candidates_size, copy_of, copies_of, pair_of, row_of, pairs_of};
 ghost use Rattle.set_bytes.specs.Promises.{LookedOver, Without, IsPlace, Moved, Placed, Replaced, Added, Gathered, AllTaken, EitherGathered, PutOut, Finished, Combines, JoinsSets, SetsReady, RoomFor};
 
-use alternative_bytes::{APART, NO_LESS, NO_MORE, related};
+use alternative_bytes::{Relation, related};
 
 // From one alternative to the next.
 const SIZE: usize = 60;
@@ -21,9 +21,9 @@ pub const OVER: usize = 17;
 
 // ---- the chosen candidates
 
-// How the m chosen are related to candidate c: NO_MORE if one of them asks no more; else APART if of
-// none of them c asks no more, and NO_LESS if of some.
-fn look_over(book: &[u8], n: usize, room: &[u8], order: &[u8], m: usize, c: usize) -> u8
+// How the m chosen are related to candidate c: NoMore if one of them asks no more; else Apart if of none
+// of them c asks no more, and NoLess if of some.
+fn look_over(book: &[u8], n: usize, room: &[u8], order: &[u8], m: usize, c: usize) -> Relation
     requires has_nodes { HasNodes book.now n }
     requires n_le_alternative_size { n ≤ alternative_size }
     requires candidates_size_in_bounds { candidates_size ≤ length room.now }
@@ -31,17 +31,12 @@ fn look_over(book: &[u8], n: usize, room: &[u8], order: &[u8], m: usize, c: usiz
     requires c_lt_most_candidates { c < most_candidates }
     ensures { LookedOver result book.now n room.now order.now m c }
 {
-    let mut i = 0;
-    let mut found = APART;
-    while i < m {
-        let at = i;
-        i += 1;
-        let one = related(book, n, room, SIZE * (order[at] as usize), SIZE * c);
-        if one == NO_MORE {
-            return NO_MORE;
-        }
-        if one != APART {
-            found = NO_LESS;
+    let mut found = Relation::Apart;
+    for i in 0..m {
+        match related(book, n, room, SIZE * (order[i] as usize), SIZE * c) {
+            Relation::NoMore => return Relation::NoMore,
+            Relation::NoLess => found = Relation::NoLess,
+            Relation::Apart => {}
         }
     }
     found
@@ -56,12 +51,9 @@ fn drop_needless(book: &[u8], n: usize, room: &[u8], order: &mut [u8], m: usize,
     requires c_lt_most_candidates { c < most_candidates }
     ensures { Without result book.now n room.now order.old m c order.new }
 {
-    let mut i = 0;
     let mut left = 0;
-    while i < m {
-        let at = i;
-        i += 1;
-        let number = order[at];
+    for i in 0..m {
+        let number = order[i];
         if !alternative_bytes::asks_no_more(book, n, room, SIZE * c, SIZE * (number as usize)) {
             order[left] = number;
             left += 1;
@@ -78,12 +70,10 @@ fn place_of(n: usize, room: &[u8], order: &[u8], m: usize, c: usize) -> usize
     requires c_lt_most_candidates { c < most_candidates }
     ensures { IsPlace result n room.now order.now m c }
 {
-    let mut i = 0;
-    while i < m {
+    for i in 0..m {
         if alternative_bytes::comes_earlier(n, room, SIZE * c, SIZE * (order[i] as usize)) {
             return i;
         }
-        i += 1;
     }
     m
 }
@@ -94,11 +84,7 @@ fn make_place(order: &mut [u8], m: usize, at: usize)
     requires at_le_m { at ≤ m }
     ensures { Moved order.old m at order.new }
 {
-    let mut i = m;
-    while at < i {
-        order[i] = order[i - 1];
-        i -= 1;
-    }
+    order.copy_within(at..m, at + 1);
 }
 
 // Candidate c takes its place among the m chosen.
@@ -139,15 +125,14 @@ pub fn add(book: &[u8], n: usize, room: &[u8], order: &mut [u8], m: usize, c: us
     requires c_lt_most_candidates { c < most_candidates }
     ensures { Added result book.now n room.now order.old m c order.new }
 {
-    let found = look_over(book, n, room, order, m, c);
-    if found == NO_MORE {
-        return m;
+    match look_over(book, n, room, order, m, c) {
+        Relation::NoMore => m,
+        Relation::NoLess => replace(book, n, room, order, m, c),
+        Relation::Apart => {
+            place(n, room, order, m, c);
+            m + 1
+        }
     }
-    if found == APART {
-        place(n, room, order, m, c);
-        return m + 1;
-    }
-    replace(book, n, room, order, m, c)
 }
 
 // ---- sets
@@ -197,10 +182,8 @@ fn gather_row(
     ensures { Gathered result book.now n (row_of sets.now n p q b) room.old order.old m c b room.new order.new }
 {
     let mut left = m;
-    let mut j = 0;
-    while j < b {
+    for j in 0..b {
         left = gather_pair(book, n, sets, p, q + SIZE * j, room, order, left, c + j);
-        j += 1;
     }
     left
 }
@@ -226,10 +209,8 @@ fn gather_pairs(
     ensures { Gathered result book.now n (pairs_of sets.now n p a q b) room.old order.old 0 0 (b * a) room.new order.new }
 {
     let mut left = 0;
-    let mut i = 0;
-    while i < a {
+    for i in 0..a {
         left = gather_row(book, n, sets, p + SIZE * i, q, b, room, order, left, b * i);
-        i += 1;
     }
     left
 }
@@ -273,10 +254,8 @@ fn gather_copies(
     ensures { Gathered result book.now n (copies_of sets.now n p a) room.old order.old m c a room.new order.new }
 {
     let mut left = m;
-    let mut i = 0;
-    while i < a {
+    for i in 0..a {
         left = gather_copy(book, n, sets, p + SIZE * i, room, order, left, c + i);
-        i += 1;
     }
     left
 }
@@ -288,11 +267,9 @@ fn take_copies(n: usize, sets: &[u8], p: usize, a: usize, room: &mut [u8], order
     requires a_bound { a ≤ 16 }
     ensures { AllTaken n sets.now p a room.old order.old room.new order.new }
 {
-    let mut i = 0;
-    while i < a {
+    for i in 0..a {
         alternative_bytes::copy(n, sets, p + SIZE * i, room, SIZE * i);
         order[i] = i as u8;
-        i += 1;
     }
 }
 
@@ -329,10 +306,8 @@ fn put_out(n: usize, room: &[u8], order: &[u8], r: usize, sets: &mut [u8], to: u
     requires set_size_in_bounds { to + set_size ≤ length sets.old }
     ensures { PutOut n room.now order.now r sets.old to sets.new }
 {
-    let mut i = 0;
-    while i < r {
+    for i in 0..r {
         alternative_bytes::copy(n, room, SIZE * (order[i] as usize), sets, to + SIZE * i);
-        i += 1;
     }
 }
 

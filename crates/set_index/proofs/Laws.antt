@@ -24,8 +24,9 @@ use Rattle.area_bytes.proofs.Clearing.{cleared_byte}
 use Rattle.area_chains.specs.Chains.{head_in, link_in}
 use Rattle.area_chains.proofs.Walks.{chained_stands}
 use Rattle.area_chains.proofs.Additions.{cleared_chains}
+use Rattle.std.specs.Prelude.{Some, None}
 use Rattle.set_index.specs.Entries.{alternative_bytes, most_entries, most_alternatives, alternatives_room, entry_heads, entries_size}
-use Rattle.set_index.specs.Entries.{entry_number, entry_first, alternative_at, alternatives_at, Entry, entry_at, entries_of, same_entry}
+use Rattle.set_index.specs.Entries.{entry_number, entry_first, alternative_at, alternatives_at, Entry, entry_at, entries_of, same_entry, FoundEntry, no_entry}
 use Rattle.set_index.specs.Entries.{Headed, Heads, SameBefore, buckets, hash_of, hashed, IsNew, Indexed}
 
 -- ---- alternatives
@@ -441,5 +442,5 @@ indexed_cleared area index size e =
     record { chained = cleared_chains (hashed area) buckets 0 6160 size index e; distinct = λ j l. absurd (omega arith) }
 
 -- An entry that was not found is a new one.
-pub not_found_new : (area : List ℕ) (n r : ℕ) → r ≡ place_of (same_entry (entry_at area n)) (entries_of area n) → n ≤ r → IsNew area n
-not_found_new area n r is_r l = record { other = λ i k same. found_first area n r i is_r (omega arith) same }
+pub not_found_new : (area : List ℕ) (n : ℕ) → FoundEntry area n None → IsNew area n
+not_found_new area n (no_entry is_n) = record { other = λ i k same. found_first area n n i is_n k same }

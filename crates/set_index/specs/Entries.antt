@@ -1,9 +1,9 @@
 -- Entries in a lent area, each a number and one alternative or more, and an index by which one is found again without a comparison with all of
 -- them. The alternatives lie one behind the other, 60 bytes each; behind them every entry has a head: its number, and its first alternative. The
 -- alternatives of an entry end where those of the next begin.
-use Rattle.std.specs.Prelude.{ℕ, zero, suc, ◌+◌, ◌-◌, ◌*◌, ◌%◌, ◌≤◌, ◌<◌, ◌≡◌, Bool, ◌&&◌, List, map, length, take, drop, eqb}
+use Rattle.std.specs.Prelude.{ℕ, zero, suc, ◌+◌, ◌-◌, ◌*◌, ◌%◌, ◌≤◌, ◌<◌, ◌≡◌, Bool, ◌&&◌, List, map, length, take, drop, eqb, Option, Some, None}
 use Rattle.base.specs.Bytes.{byte_at, number_at}
-use Rattle.base.specs.Lists.{count_from, below, same_list, total}
+use Rattle.base.specs.Lists.{count_from, below, place_of, same_list, total}
 use Rattle.area_chains.specs.Chains.{Chained, head_in, link_in}
 
 -- ---- where things lie
@@ -129,6 +129,11 @@ heads_at = 0
 
 abbrev pub links_at : ℕ
 links_at = 6160
+
+-- The answer of a search for entry n among the first n: the first of them that is equal to it, if one is.
+pub data FoundEntry (area : List ℕ) (n : ℕ) : Option ℕ → Type 0 where
+  found_entry : (r : ℕ) → r < n → r ≡ place_of (same_entry (entry_at area n)) (entries_of area n) → FoundEntry area n (Some r)
+  no_entry : n ≡ place_of (same_entry (entry_at area n)) (entries_of area n) → FoundEntry area n None
 
 -- Entry n is equal to none before it.
 pub record IsNew (area : List ℕ) (n : ℕ) : Type 0 where

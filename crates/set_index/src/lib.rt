@@ -6,20 +6,15 @@
 ghost use Rattle.std.specs.Prelude.{◌+◌, ◌*◌, ◌<◌, ◌≤◌, ◌≡◌, length, eqb};
 ghost use Rattle.std.proofs.lemmas.List.Edits.{sets};
 ghost use Rattle.base.specs.Bytes.{number_bytes};
-ghost use Rattle.base.specs.Lists.{place_of, same_list};
+ghost use Rattle.base.specs.Lists.{same_list};
 ghost use Rattle.area_chains.specs.Chains.{head_in, link_in};
 ghost use Rattle.set_index.specs.Entries.{alternatives_room, most_entries, entry_heads, entries_size, index_size, heads_at, links_at};
-ghost use Rattle.set_index.specs.Entries.{entry_number, entry_first, alternative_at, alternatives_at, entry_at, entries_of, same_entry, Headed, alternative_hash, hash_of, IsNew, Indexed};
-
-use area_bytes::eight_bytes;
+ghost use Rattle.set_index.specs.Entries.{entry_number, entry_first, alternative_at, alternatives_at, entry_at, same_entry, FoundEntry, Headed, alternative_hash, hash_of, IsNew, Indexed};
 
 // The bytes of an alternative, and where the heads of the entries begin: number and first alternative.
 const SIZE: usize = 60;
 
 const HEADS: usize = 60960;
-
-// Where the last eight bytes of an alternative begin.
-const LAST_EIGHT: usize = 52;
 
 // How many four-byte numbers an alternative has, and what they are multiplied by. No product waits for
 // another one.
@@ -76,11 +71,9 @@ fn alternative_hash(entries: &[u8], s: usize) -> usize
     let start = SIZE * s;
     let mut h = 0;
     let mut m = MULTIPLIER;
-    let mut k = 0;
-    while k < FOURS {
+    for k in 0..FOURS {
         h += m * area_bytes::four_bytes(entries, start + 4 * k);
         m = m * MULTIPLIER % MODULUS;
-        k += 1;
     }
     h % BUCKETS
 }
@@ -94,16 +87,13 @@ pub fn hash(entries: &[u8], i: usize) -> usize
 {
     let end = first(entries, i + 1);
     let mut h = FIRST_MULTIPLIER * number(entries, i);
-    let mut s = first(entries, i);
-    while s < end {
+    for s in first(entries, i)..end {
         h += alternative_hash(entries, s);
-        s += 1;
     }
     h % BUCKETS
 }
 
-// Whether alternatives s and t are equal: eight bytes at a time, and the last eight, some of them again.
-// Most that are compared are equal, so the loop goes on where they differ.
+// Whether alternatives s and t are equal.
 fn same_alternative(entries: &[u8], s: usize, t: usize) -> bool
     requires s_lt_alternatives_room { s < alternatives_room }
     requires t_lt_alternatives_room { t < alternatives_room }
@@ -112,16 +102,7 @@ fn same_alternative(entries: &[u8], s: usize, t: usize) -> bool
 {
     let one = SIZE * s;
     let other = SIZE * t;
-    let last = eight_bytes(entries, one + LAST_EIGHT);
-    let mut equal = last == eight_bytes(entries, other + LAST_EIGHT);
-    let mut offset = 0;
-    while offset < LAST_EIGHT {
-        if eight_bytes(entries, one + offset) != eight_bytes(entries, other + offset) {
-            equal = false;
-        }
-        offset += 8;
-    }
-    equal
+    entries[one..one + SIZE] == entries[other..other + SIZE]
 }
 
 // Whether so many alternatives from s on and from t on are equal, each to each.
@@ -131,12 +112,10 @@ fn same_alternatives(entries: &[u8], s: usize, t: usize, count: usize) -> bool
     requires entries_size_in_bounds { entries_size ≤ length entries.now }
     ensures { result ≡ same_list (same_list eqb) (alternatives_at entries.now s count) (alternatives_at entries.now t count) }
 {
-    let mut k = 0;
-    while k < count {
+    for k in 0..count {
         if !same_alternative(entries, s + k, t + k) {
             return false;
         }
-        k += 1;
     }
     true
 }
@@ -180,25 +159,25 @@ fn link(index: &[u8], i: usize) -> usize
     area_chains::link(index, LINKS_AT, i)
 }
 
-// The number of the one among n entries that is equal to entry n, whose hash is h; or n if there is none.
-pub fn find(entries: &[u8], index: &[u8], n: usize, h: usize) -> usize
+// The number of the one among n entries that is equal to entry n, whose hash is h, if there is one.
+pub fn find(entries: &[u8], index: &[u8], n: usize, h: usize) -> Option<usize>
     requires indexed { Indexed entries.now index.now n }
     requires h_value { h ≡ hash_of (entry_at entries.now n) }
     requires headed { Headed entries.now n }
     requires n_le_most_entries { n ≤ most_entries }
     requires entries_size_in_bounds { entries_size ≤ length entries.now }
     requires index_size_in_bounds { index_size ≤ length index.now }
-    ensures { result ≡ place_of (same_entry (entry_at entries.now n)) (entries_of entries.now n) }
+    ensures { FoundEntry entries.now n result }
 {
     let mut at = head(entries, index, n, h);
     while 0 < at {
         let i = at - 1;
         if same(entries, n, i) {
-            return i;
+            return Some(i);
         }
         at = link(index, i);
     }
-    n
+    None
 }
 
 // Brings entry n, whose hash is h, into the index; it is a new one.

@@ -3,10 +3,7 @@ use Prim.Native.Nat.{ℕ}
 use mathlib.Core.Path.{◌≡◌, sym}
 use mathlib.Core.List.{List}
 use Rattle.base.specs.Answers.{Said, book_said, make_said, verdict_said, why_said}
-use Rattle.base.specs.declared.BookAnswer.{BookAnswer}
-use Rattle.base.specs.declared.MakeAnswer.{MakeAnswer}
-use Rattle.base.specs.declared.Verdict.{Verdict}
-use Rattle.base.specs.declared.WhyAnswer.{WhyAnswer}
+use Rattle.base.specs.Answers.{BookAnswer, MakeAnswer, Verdict, WhyAnswer}
 use Rattle.answer_numbers.specs.Shown.{shown}
 use Rattle.answer_numbers.specs.declared.Answer.{Answer}
 use Rattle.answer_numbers.proofs.Laws.{shown_by}

@@ -8,7 +8,6 @@ ghost use Rattle.testing.specs.Said.{tower_said};
 
 use crate::NOTHING;
 use answer_numbers::Answer;
-use file_tower::{Reached, TowerRead};
 
 // The fields, by number.
 const STATES: u32 = 0;
@@ -37,14 +36,14 @@ pub fn test_read_tower(tower: &[u8]) -> Answer
     ensures { result ≡ shown (tower_said (tower_read (read_tower tower.now))) }
 {
     match file_tower::read_tower(tower) {
-        TowerRead::Fit => answer_numbers::yes(),
-        TowerRead::Refused(refusal) => answer_numbers::refused(refusal),
+        Ok(()) => answer_numbers::yes(),
+        Err(refusal) => answer_numbers::refused(refusal),
     }
 }
 
 // A field of a fit tower, of state x, or of number i: an action, and for MARKED a mark.
 pub fn test_tower_field(tower: &[u8], which: u32, x: usize, i: usize) -> usize {
-    let TowerRead::Fit = file_tower::read_tower(tower) else {
+    let Ok(()) = file_tower::read_tower(tower) else {
         return NOTHING;
     };
     match which {
@@ -82,10 +81,7 @@ fn step_field(tower: &[u8], which: u32, x: usize, i: usize) -> usize
         let length = file_tower::step_length(tower, x, i);
         return length.0 as usize;
     }
-    match file_tower::target(tower, x, i) {
-        Reached::State(y) => y,
-        Reached::NotEnabled => NOTHING,
-    }
+    file_tower::target(tower, x, i).unwrap_or(NOTHING)
 }
 
 // The mask of state x, or whether it has mark i, as 1 or 0.

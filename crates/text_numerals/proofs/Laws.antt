@@ -6,9 +6,10 @@ use native.Mathlib.Numerals.{add-one}
 use native.Mathlib.Decide.{dec_lt}
 use mathlib.Core.Path.{◌≡◌, refl, sym, ◌∙◌, ap, subst}
 use mathlib.Core.Bool.{Bool, true, false, not}
-use mathlib.Core.Option.{Option, none, some}
+use Rattle.std.specs.Prelude.{Option, None, Some}
 use mathlib.Core.List.{List, [], ◌∷◌}
 use mir.Syntax.{w8, w64}
+use Rattle.std.specs.Int.{from_bool}
 use mir.Val.{Fits}
 use lib.ListN.{length, get_or, get_or-eq_default}
 use lib.Dec.{leb, ltb}
@@ -19,7 +20,6 @@ use Rattle.reading.specs.Tokens.{is_digit, digits, value, Token, numeral}
 use Rattle.reading.proofs.LogReading.{picked}
 use Rattle.text_numerals.specs.Numerals.{numeral_told, spelled, Ahead, Stops, Spelling}
 use Rattle.text_numerals.specs.declared.Number.{Number}
-use Rattle.text_numerals.specs.declared.Number.TheVariants.{Missing, Read}
 
 -- ---- bytes
 
@@ -41,9 +41,13 @@ pub digit_below : (b : ℕ) → b < 48 → false ≡ is_digit b
 unfolding is_digit
 digit_below b lt = rw (lt-leb 48 b lt)
 
-pub digit_above : (b : ℕ) → 48 ≤ b → leb b 57 ≡ is_digit b
+pub digit_between : (b : ℕ) → 48 ≤ b → b ≤ 57 → true ≡ is_digit b
 unfolding is_digit
-digit_above b le = rw (le-leb 48 b le)
+digit_between b from to = rw (le-leb 48 b from, le-leb b 57 to)
+
+pub digit_above : (b : ℕ) → 57 < b → false ≡ is_digit b
+unfolding is_digit
+digit_above b lt = let low : 48 ≤ b = omega arith in rw (le-leb 48 b low, lt-leb b 57 lt)
 
 pub digit_low : (b : ℕ) → is_digit b ≡ true → 48 ≤ b
 unfolding is_digit
@@ -56,11 +60,11 @@ not_both b e f = let z : ◌≡◌ {A = ℕ} 0 1 = cc in omega arith
 is_one : (s : List ℕ) (p b : ℕ) (d : Bool) → b ≡ byte_at s p → d ≡ is_digit b → not d ≡ false → is_digit (byte_at s p) ≡ true
 is_one s p b d e f g = sym (ap is_digit e) ∙ sym f ∙ not-false d g
 
-pub spelled_none : (n said next : ℕ) → n ≡ 0 → Missing ≡ spelled n said next
+pub spelled_none : (n said next : ℕ) → n ≡ 0 → None ≡ spelled n said next
 unfolding spelled
 spelled_none n said next e = rw e
 
-pub spelled_some : (n said next : ℕ) → (n ≡ 0 → ⊥) → Read said next ≡ spelled n said next
+pub spelled_some : (n said next : ℕ) → (n ≡ 0 → ⊥) → Some (record { said = said; next = next }) ≡ spelled n said next
 unfolding spelled
 spelled_some zero said next h = absurd (h refl)
 spelled_some (suc n) said next h = refl
@@ -100,13 +104,13 @@ value_more : (s : List ℕ) (at n said next b : ℕ) → said ≡ value n s at �
 unfolding value
 value_more s at n said next b f g e = rw (f, e, g)
 
-pub spelling_more : (s : List ℕ) (at most n said next b : ℕ) (d : Bool) → Spelling s at most n said next → n < most → b ≡ byte_at s next
-    → d ≡ is_digit b → not d ≡ false → Spelling s at most (n + 1) (10 * said + (b - 48)) (next + 1)
-spelling_more s at most n said next b d h lt e f g =
+pub spelling_more : (s : List ℕ) (at most n said next b x : ℕ) (d : Bool) → Spelling s at most n said next → n < most → b ≡ byte_at s next
+    → d ≡ is_digit b → not d ≡ false → x ≡ b - 48 → Spelling s at most (n + 1) (10 * said + x) (next + 1)
+spelling_more s at most n said next b x d h lt e f g is-x =
     record {
       few = omega arith;
       here = omega arith;
-      told = rw (add-one n) (value_more s at n said next b h.told h.here e);
+      told = rw (add-one n, is-x) (value_more s at n said next b h.told h.here e);
       rest = h.rest ∙ rest_more (is_one s next b d e f g);
     }
   where
@@ -125,7 +129,7 @@ spelling_end s at most (suc n) said next h k e =
     let g : digits most s at ≡ suc n = omega arith in
     rw (digits_some s at most n g, g, k.told, k.here)
 
-pub numeral_stopped : (s : List ℕ) (at most n said next b : ℕ) (d : Bool) (r : Number) → 1 ≤ most → Spelling s at most n said next
+pub numeral_stopped : (s : List ℕ) (at most n said next b : ℕ) (d : Bool) (r : Option Number) → 1 ≤ most → Spelling s at most n said next
     → b ≡ byte_at s next → d ≡ is_digit b → not d ≡ true → r ≡ spelled n said next → r ≡ numeral_told (numeral most s at)
 numeral_stopped s at most n said next b d r h k e f g t =
     t ∙ spelling_end s at most n said next h k (digits_stop s next (most - n) (sym (ap is_digit e) ∙ sym f ∙ not-true d g))
@@ -134,7 +138,7 @@ no_digits : (s : List ℕ) (p : ℕ) → digits 0 s p ≡ 0
 unfolding digits
 no_digits s p = refl
 
-pub numeral_full : (s : List ℕ) (at most n said next : ℕ) (r : Number) → 1 ≤ most → Spelling s at most n said next → most ≤ n
+pub numeral_full : (s : List ℕ) (at most n said next : ℕ) (r : Option Number) → 1 ≤ most → Spelling s at most n said next → most ≤ n
     → r ≡ spelled n said next → r ≡ numeral_told (numeral most s at)
 numeral_full s at most n said next r h k le t =
     let z : most - n ≡ 0 = omega arith in
@@ -168,9 +172,6 @@ digit_inside s next b d e f g l =
 pub digit_from : (b : ℕ) (d : Bool) → d ≡ is_digit b → not d ≡ false → 48 ≤ b
 digit_from b d f g = digit_low b (sym f ∙ not-false d g)
 
-pub digit_cast : (s : List ℕ) (next : ℕ) → ((j : ℕ) → Fits w8 (get_or s j 0)) → Fits w64 (byte_at s next - 48)
-digit_cast s next h = omega (arith, h next)
-
 -- ---- where such a byte is ahead
 
 module _ (Such : ℕ → Type 0) (s : List ℕ) where
@@ -203,7 +204,7 @@ module _ (Such : ℕ → Type 0) (s : List ℕ) where
         further k = omega arith
 
     -- and behind a number.
-    pub behind_numeral : (most p : ℕ) {n : Token ℕ} → Ahead Such s p → numeral most s p ≡ some n → Ahead Such s n.next
+    pub behind_numeral : (most p : ℕ) {n : Token ℕ} → Ahead Such s p → numeral most s p ≡ Some n → Ahead Such s n.next
     unfolding numeral
     behind_numeral most p h e =
         let (there, same) = picked (is_digit (byte_at s p)) _ e in subst (Ahead Such s) (ap (λ t. t.next) same) (behind_digits most p h)
@@ -216,13 +217,10 @@ stops_behind s p b d h e f g = ahead_behind _ s p h (not_both (is_digit (byte_at
 
 -- ---- one digit or two
 
-pub count_one : (b : ℕ) (d : Bool) → d ≡ is_digit b → d ≡ true → 1 ≡ digits 1 (b ∷ []) 0
+pub digit_counted : (b n : ℕ) (d : Bool) → d ≡ is_digit b → n ≡ from_bool d → n ≡ digits 1 (b ∷ []) 0
 unfolding digits
-count_one b d e f = rw (← e, f)
-
-pub count_none : (b : ℕ) (d : Bool) → d ≡ is_digit b → d ≡ false → 0 ≡ digits 1 (b ∷ []) 0
-unfolding digits
-count_none b d e f = rw (← e, f)
+digit_counted b n true e f = rw (← e, f)
+digit_counted b n false e f = rw (← e, f)
 
 digits_few : (n : ℕ) (s : List ℕ) (p : ℕ) → digits n s p ≤ n
 unfolding digits
@@ -248,7 +246,7 @@ module _ (b more : ℕ) (count : more ≡ digits 1 (b ∷ []) 0) where
   short_fits s at there small = omega (arith, one_at_most)
 
 module _ (s : List ℕ) (at a : ℕ) (d : Bool) (first : a ≡ byte_at s at) (is_d : d ≡ is_digit a) where
-  pub short_missing : not d ≡ true → Missing ≡ numeral_told (numeral 2 s at)
+  pub short_missing : not d ≡ true → None ≡ numeral_told (numeral 2 s at)
   unfolding numeral numeral_told
   short_missing e = rw (← first, ← is_d, not-true d e)
 
@@ -265,7 +263,7 @@ module _ (s : List ℕ) (at a : ℕ) (d : Bool) (first : a ≡ byte_at s at) (is
     same_value (suc zero) le = rw (first, second, add-zero at)
     same_value (suc (suc n)) le = absurd (omega arith)
 
-    pub short_read : (said : ℕ) → said ≡ value (suc more) (a ∷ b ∷ []) 0 → Read said (at + 1 + more) ≡ numeral_told (numeral 2 s at)
+    pub short_read : (said : ℕ) → said ≡ value (suc more) (a ∷ b ∷ []) 0 → Some (record { said = said; next = at + 1 + more }) ≡ numeral_told (numeral 2 s at)
     unfolding numeral numeral_told
     short_read said e =
         let far : at + 1 + more ≡ at + suc more = omega arith in
@@ -273,12 +271,12 @@ module _ (s : List ℕ) (at a : ℕ) (d : Bool) (first : a ≡ byte_at s at) (is
 
 -- ---- answers
 
-pub numeral_missing : (o : Option (Token ℕ)) (r : Number) → r ≡ numeral_told o → r ≡ Missing → o ≡ none
+pub numeral_missing : (o : Option (Token ℕ)) → None ≡ numeral_told o → o ≡ None
 unfolding numeral_told
-numeral_missing none r e f = refl
-numeral_missing (some t) r e f = let z : ◌≡◌ {A = ℕ} 0 1 = cc in absurd (omega arith)
+numeral_missing None e = refl
+numeral_missing (Some t) e = cc
 
-pub numeral_read : (o : Option (Token ℕ)) (r : Number) (v q : ℕ) → r ≡ numeral_told o → r ≡ Read v q → o ≡ some (record { said = v; next = q })
+pub numeral_read : (o : Option (Token ℕ)) (n : Number) → Some n ≡ numeral_told o → o ≡ Some (record { said = n.said; next = n.next })
 unfolding numeral_told
-numeral_read none r v q e f = let z : ◌≡◌ {A = ℕ} 0 1 = cc in absurd (omega arith)
-numeral_read (some t) r v q e f = let a : t.said ≡ v = cc in let b : t.next ≡ q = cc in rw (← a, ← b)
+numeral_read None n e = cc
+numeral_read (Some t) n e = let same : n ≡ record { said = t.said; next = t.next } = cc in rw same

@@ -1,19 +1,18 @@
 -- What the reader of numbers answers: the definition of reading/specs/Tokens.antt, as a value of the code's type; and what it asks for.
 use Rattle.std.specs.Prelude.{ℕ, zero, suc, ◌+◌, ◌-◌, ◌≤◌, ◌<◌, ◌≡◌, false, List, length}
-use Rattle.std.proofs.Math.Option.{Option, none, some}
+use Rattle.std.specs.Prelude.{Option, None, Some}
 use Rattle.base.specs.Bytes.{byte_at}
 use Rattle.reading.specs.Tokens.{Token, is_digit, digits, value}
 use Rattle.text_numerals.specs.declared.Number.{Number}
-use Rattle.text_numerals.specs.declared.Number.TheVariants.{Missing, Read}
 
-unfoldable pub numeral_told : Option (Token ℕ) → Number
-numeral_told none = Missing
-numeral_told (some t) = Read t.said t.next
+unfoldable pub numeral_told : Option (Token ℕ) → Option Number
+numeral_told None = None
+numeral_told (Some t) = Some (record { said = t.said; next = t.next })
 
 -- what n digits spell: nothing where there are none
-unfoldable pub spelled : ℕ → ℕ → ℕ → Number
-spelled zero said next = Missing
-spelled (suc n) said next = Read said next
+unfoldable pub spelled : ℕ → ℕ → ℕ → Option Number
+spelled zero said next = None
+spelled (suc n) said next = Some (record { said = said; next = next })
 
 -- Such a byte stands at p or behind it, so that what stops there at the latest stops before the text ends.
 pub record Ahead (Such : ℕ → Type 0) (s : List ℕ) (p : ℕ) : Type 0 where

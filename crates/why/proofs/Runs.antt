@@ -5,10 +5,11 @@ use native.Mathlib.Decide.{dec_lt}
 use mathlib.Core.Path.{◌≡◌, sym, ◌∙◌, ap, subst}
 use mathlib.Core.Logic.{◌⊎◌, inl, inr}
 use mathlib.Core.Bool.{true}
-use mathlib.Core.Option.{some}
+use Rattle.std.specs.Prelude.{Some}
 use mathlib.Core.List.{List, [], ◌∷◌, ◌++◌}
 use lib.ListN.{length}
-use Rattle.base.specs.Answers.{give, ◌then◌}
+use Rattle.base.specs.Answers.{◌then◌}
+use Rattle.std.specs.Prelude.{Ok}
 use Rattle.base.specs.declared.Reason.TheVariants.{Broken}
 use Rattle.base.proofs.Lists.{none-some, some_one}
 use Rattle.base.proofs.Answers.{then_on}
@@ -63,7 +64,7 @@ module _ (tower text table nodes graph : List ℕ) (n i a : ℕ) (down : ToldBro
   laid = down.found.layout
 
   -- The rows' finding is 14 e.
-  pub finding : judge T book rows ≡ give (not_good Broken)
+  pub finding : judge T book rows ≡ Ok (not_good Broken)
   unfolding checked_file
   finding =
       sym (then_on (λ t. _) fit.tower_read ∙ then_on (λ b. _) fit.book_read ∙ then_on (λ r. _) down.found.layout) ∙ down.told
@@ -94,30 +95,30 @@ module _ (tower text table nodes graph : List ℕ) (n i a : ℕ) (down : ToldBro
   move_is k b l low = of.moves k b l low
 
   -- A move leads to a pair exactly if the step does.
-  says_go : (k b j : ℕ) (m : Move) → k < n → SaysStep R book k b m → m ≡ to j → go R book k b ≡ some j
+  says_go : (k b j : ℕ) (m : Move) → k < n → SaysStep R book k b m → m ≡ to j → go R book k b ≡ Some j
   unfolding numbered pair_number
   says_go k b j _ l (says_not_enabled e) f = let z : ◌≡◌ {A = ℕ} 0 1 = cc in absurd (omega arith)
   says_go k b j _ l (says_broken y e g) f = let z : ◌≡◌ {A = ℕ} 0 1 = cc in absurd (omega arith)
   says_go k b j _ l (says_to h low e) f =
       let same : h ≡ j = cc in
-      subst (λ x. go R book k b ≡ some x) same (go_to R book k b h e (inside k l) low)
+      subst (λ x. go R book k b ≡ Some x) same (go_to R book k b h e (inside k l) low)
 
-  pub move_go : (k b j : ℕ) → k < n → b < T.actions → move_at graph k b ≡ to j → go R book k b ≡ some j
+  pub move_go : (k b j : ℕ) → k < n → b < T.actions → move_at graph k b ≡ to j → go R book k b ≡ Some j
   move_go k b j l low e = says_go k b j (move_at graph k b) l (move_is k b l low) e
 
   go_says : (k b j : ℕ) (m : Move) → SaysStep R book k b m → j < length (pairs R book)
-      → pair_step R book (pair_number R book k) b ≡ some (pair_number R book j) → m ≡ to j
+      → pair_step R book (pair_number R book k) b ≡ Some (pair_number R book j) → m ≡ to j
   unfolding numbered pair_number rows_tower
   go_says k b j _ (says_not_enabled e) l f = absurd (none-some e (Steps.pair_step_out R book (pair_number R book k) (pair_number R book j) b f).0)
   go_says k b j _ (says_broken y e g) l f = absurd (none-some g f)
   go_says k b j _ (says_to h low e) l f = ap to (numbers_apart R book h j low l (some_one e f))
 
-  pub go_move : (k b j : ℕ) → go R book k b ≡ some j → move_at graph k b ≡ to j
+  pub go_move : (k b j : ℕ) → go R book k b ≡ Some j → move_at graph k b ≡ to j
   go_move k b j e =
       let (low, high, step) = go_from R book listed (turned_few T book rows is_turned) k b j e in
       go_says k b j (move_at graph k b) (move_is k b (subst (λ m. k < m) (sym count) low) (listed_low k b j e)) high step
     where
-      listed_low : (k b j : ℕ) → go R book k b ≡ some j → b < T.actions
+      listed_low : (k b j : ℕ) → go R book k b ≡ Some j → b < T.actions
       listed_low k b j e = unfold rows_tower in go_listed R book listed (turned_few T book rows is_turned) k b j e
 
   -- ---- how each pair was first met
@@ -125,10 +126,10 @@ module _ (tower text table nodes graph : List ℕ) (n i a : ℕ) (down : ToldBro
   few : length (pairs R book) ≡ n
   few = sym count
 
-  go_below : (k b j : ℕ) → go R book k b ≡ some j → k < n
+  go_below : (k b j : ℕ) → go R book k b ≡ Some j → k < n
   go_below k b j e = subst (λ m. k < m) few (go_inside R book k b j e)
 
-  go_low : (k b j : ℕ) → go R book k b ≡ some j → b < T.actions
+  go_low : (k b j : ℕ) → go R book k b ≡ Some j → b < T.actions
   unfolding rows_tower
   go_low k b j e = go_listed R book listed (turned_few T book rows is_turned) k b j e
 
@@ -194,7 +195,7 @@ module _ (tower text table nodes graph : List ℕ) (n i a : ℕ) (down : ToldBro
         let l = subst (λ m. k < m) few low in
         down.found.first.first k b l (low_action k b y enabled) (breaks_same k b l (low_action k b y enabled) ∙ e)
       where
-        low_action : (k b y : ℕ) → R.target (pair_number R book k).state b ≡ some y → b < T.actions
+        low_action : (k b y : ℕ) → R.target (pair_number R book k).state b ≡ Some y → b < T.actions
         low_action k b y e = unfold Listed rows_tower in (listed (pair_number R book k).state b y e)
 
     -- and with the broken step behind it this is the run that is shown.

@@ -9,15 +9,16 @@ use lib.Seq.{take-append_seam}
 use lib.Dec.{ltb}
 use Rattle.base.specs.Choice.{pick}
 use Rattle.base.specs.Bytes.{long_enough, cleared}
-use Rattle.base.specs.Answers.{why_said, Answer, refuse, give}
+use Rattle.base.specs.Answers.{why_said, Answer}
+use Rattle.std.specs.Prelude.{Err, Ok}
 use Rattle.base.specs.declared.Reason.{Reason}
 use Rattle.base.specs.declared.Reason.TheVariants.{Broken}
 use Rattle.base.specs.declared.Refusal.{Refusal}
 use Rattle.base.specs.declared.Refusal.TheVariants.{Area, Output}
-use Rattle.base.specs.declared.Verdict.{Verdict}
-use Rattle.base.specs.declared.Verdict.TheVariants as Check
-use Rattle.base.specs.declared.WhyAnswer.{WhyAnswer}
-use Rattle.base.specs.declared.WhyAnswer.TheVariants as Shows
+use Rattle.base.specs.Answers.{Verdict, WhyAnswer, run_shown}
+use Rattle.std.specs.Prelude.{None}
+use Rattle.base.specs.declared.Rejection.{Rejection}
+use Rattle.base.specs.declared.Rejection.TheVariants as Rejected
 use Rattle.base.proofs.Answers.{if_on, if_refuses}
 use Rattle.first_runs.proofs.Sooner.{length_snoc}
 use Rattle.logic.specs.Tower.{tower_of}
@@ -38,11 +39,9 @@ use Rattle.why_outcome.specs.Why.{WhyFinding, own, shows, shown_run, place_in, s
 use Rattle.why_outcome.specs.WhyRight.{own_answer}
 use Rattle.why_outcome.proofs.Answering.{files_why, turned_down, follows, soonest_shown, own_only, broken_finding}
 use Rattle.checker_runs.specs.Examining.{verdict_of, Examines}
-use Rattle.checker_runs.specs.declared.Examined.{Examined}
-use Rattle.checker_runs.specs.declared.Examined.TheVariants as Found
+use Rattle.std.specs.Prelude.{Option, Some}
+use Rattle.checker_runs.specs.Examining.{Examined, broken_step}
 use Rattle.why_path.specs.Ways.{room_for, list_with, StepsNoted, MetFromLower, RunWritten}
-use Rattle.why_path.specs.declared.Written.{Written}
-use Rattle.why_path.specs.declared.Written.TheVariants as Writes
 use Rattle.why_lines.specs.Lines.{RunGiven, RunJudged}
 use Rattle.why_lines.specs.declared.Place.{Place}
 use Rattle.why.specs.Showing.{ToldBroken, ToldBrokenSome, ShowsRun, ShowsFiles, Explains}
@@ -68,7 +67,7 @@ module _ (tower nodes graph : List ℕ) (n i a actions : ℕ) (some_table : Told
   pub write_action : a < actions
   write_action = subst (λ m. a < m) (sym at_actions) some_table.is.found.first.action
 
-  module _ (r : Written) (ways list list_after : List ℕ) (wrote : RunWritten r n actions graph i a ways list list_after) where
+  module _ (r : Option ℕ) (ways list list_after : List ℕ) (wrote : RunWritten r n actions graph i a ways list list_after) where
     module _ (text table : List ℕ) (down : ToldBroken tower text table nodes graph n i a) where
       abbrev run : List ℕ
       run = shown_run (tower_of tower) down.found.held.book (table_of table)
@@ -86,11 +85,11 @@ module _ (tower nodes graph : List ℕ) (n i a actions : ℕ) (some_table : Told
           let same = way_shown tower text table nodes graph n i a down ways noted most w way in
           (wrote.says w way ∙ ap (room_for list) (sym same), wrote.written w way ∙ ap (list_with list) (sym same))
 
-      too_short : (b : Bool) (k : ℕ) → Writes.TooShort ≡ pick b (λ _. Writes.TooShort) (λ _. Writes.Run k) → b ≡ true
+      too_short : (b : Bool) (k : ℕ) → None ≡ pick b (λ _. None) (λ _. Some k) → b ≡ true
       too_short true k e = refl
       too_short false k e = let z : ◌≡◌ {A = ℕ} 0 1 = cc in absurd (omega arith)
 
-      room_there : (b : Bool) (k size : ℕ) → Writes.Run size ≡ pick b (λ _. Writes.TooShort) (λ _. Writes.Run k) → (b ≡ false) × (size ≡ k)
+      room_there : (b : Bool) (k size : ℕ) → Some size ≡ pick b (λ _. None) (λ _. Some k) → (b ≡ false) × (size ≡ k)
       room_there true k size e = let z : ◌≡◌ {A = ℕ} 0 1 = cc in absurd (omega arith)
       room_there false k size e = let same : size ≡ k = cc in (refl, same)
 
@@ -103,28 +102,28 @@ module _ (tower nodes graph : List ℕ) (n i a actions : ℕ) (some_table : Told
           (fit tower text table nodes graph n i a down) (laid tower text table nodes graph n i a down) (finding tower text table nodes graph n i a down) room
 
       -- where it is too short,
-      module _ (e : r ≡ Writes.TooShort) where
+      module _ (e : r ≡ None) where
         less : ltb (length list) (length run) ≡ true
         unfolding room_for
         less = too_short (ltb (length list) (length run)) (length run) (sym e ∙ written_run.0)
 
-        short_file : file (length list) ≡ refuse Output
+        short_file : file (length list) ≡ Err Output
         unfolding shown_in shown_of
-        short_file = shown_file (length list) ∙ if_refuses Output (give (shows (shown_of (tower_of tower) down.found.held.book run))) less
+        short_file = shown_file (length list) ∙ if_refuses Output (Ok (shows (shown_of (tower_of tower) down.found.held.book run))) less
 
         short_list : list_after ≡ list
         unfolding list_with
         short_list = written_run.1 ∙ (rw less refl)
 
       -- and where it has room
-      module _ (size : ℕ) (e : r ≡ Writes.Run size) where
+      module _ (size : ℕ) (e : r ≡ Some size) where
         there : (ltb (length list) (length run) ≡ false) × (size ≡ length run)
         unfolding room_for
         there = room_there (ltb (length list) (length run)) (length run) size (sym e ∙ written_run.0)
 
-        long_file : file (length list) ≡ give (shows (shown_of (tower_of tower) down.found.held.book run))
+        long_file : file (length list) ≡ Ok (shows (shown_of (tower_of tower) down.found.held.book run))
         unfolding shown_in shown_of
-        long_file = shown_file (length list) ∙ if_on Output (give (shows (shown_of (tower_of tower) down.found.held.book run))) there.0
+        long_file = shown_file (length list) ∙ if_on Output (Ok (shows (shown_of (tower_of tower) down.found.held.book run))) there.0
 
         long_list : list_after ≡ run ++ drop (length run) list
         unfolding list_with
@@ -165,7 +164,7 @@ module _ (tower nodes graph : List ℕ) (n i a actions : ℕ) (some_table : Told
             }
 
     -- 16.
-    pub run_short : r ≡ Writes.TooShort → ShowsRun (Shows.Refused Output) tower nodes graph n i a list list_after
+    pub run_short : r ≡ None → ShowsRun (Err (Rejected.Refused Output)) tower nodes graph n i a list list_after
     unfolding why_answer why_list
     run_short e =
         record {
@@ -174,21 +173,21 @@ module _ (tower nodes graph : List ℕ) (n i a actions : ℕ) (some_table : Told
         }
 
     -- The run can be judged,
-    pub run_judgeable : (size : ℕ) → r ≡ Writes.Run size → RunGiven tower nodes list_after size
+    pub run_judgeable : (size : ℕ) → r ≡ Some size → RunGiven tower nodes list_after size
     run_judgeable size e = can_judge some_table.text some_table.table some_table.is size e
 
     -- and is shown with its line and its position.
-    pub run_shown : (size : ℕ) (place : Place) → r ≡ Writes.Run size → RunJudged place tower nodes list_after size
-        → ShowsRun (Shows.Shown size place.line place.position.0) tower nodes graph n i a list list_after
+    pub run_told : (size : ℕ) (place : Place) → r ≡ Some size → RunJudged place tower nodes list_after size
+        → ShowsRun (run_shown size place.line place.position.0) tower nodes graph n i a list list_after
     unfolding why_answer why_list shown_of place_in
-    run_shown size place e judged =
+    run_told size place e judged =
         record {
           answer = λ text table down. by text table down;
           written = λ text table down. long_list text table down size e ∙ sym (ap (λ o. why_list o list) (long_file text table down size e));
         }
       where
         by : (text table : List ℕ) (down : ToldBroken tower text table nodes graph n i a)
-            → Shows.Shown size place.line place.position.0 ≡ why_answer (why_file tower text table (length list))
+            → run_shown size place.line place.position.0 ≡ why_answer (why_file tower text table (length list))
         by text table down =
             let h = down.found.held in
             let at_line = judged.line h ∙ ap (lowest_line (tower_of tower) h.book) (front text table down size e) in
@@ -201,13 +200,13 @@ module _ (tower nodes graph : List ℕ) (n i a actions : ℕ) (some_table : Told
             (at_place ∙ ap₂ (λ w k. broken_place (tower_of tower) (trace (tower_of tower) w) (rule_at h.book k).form (rule_at h.book k).formula) (front text table down size e) at_line)
             ∙ sym (ap why_answer (long_file text table down size e))
           where
-            shown_same : (m k : ℕ) (l j : ℕ) (p q : Position) → m ≡ k → l ≡ j → p ≡ q → Shows.Shown m l p.0 ≡ Shows.Shown k j q.0
+            shown_same : (m k : ℕ) (l j : ℕ) (p q : Position) → m ≡ k → l ≡ j → p ≡ q → run_shown m l p.0 ≡ run_shown k j q.0
             shown_same m k l j p q e f g = let h = ap (λ x. x.0) g in cc
 
 -- ---- show_files
 
 module _ (tower text table : List ℕ) (r : Examined) (nodes graph : List ℕ) (n i a : ℕ) (found : Examines r tower text table nodes graph)
-    (e : r ≡ Found.Broken n i a) where
+    (e : r ≡ broken_step n i a) where
   told : ToldBroken tower text table nodes graph n i a
   told =
       record {
@@ -224,25 +223,30 @@ module _ (tower text table : List ℕ) (r : Examined) (nodes graph : List ℕ) (
 
 module _ (tower text table list : List ℕ) (r : Examined) (nodes graph : List ℕ) (found : Examines r tower text table nodes graph) where
   -- the checker's own answer, where it is not 14 e
-  own_shown : (v : Verdict) → (v ≡ Check.NotGood Broken → ⊥) → verdict (checked_file tower text table) ≡ v
+  own_shown : (v : Verdict) → (v ≡ Err (Rejected.NotGood Broken) → ⊥) → verdict (checked_file tower text table) ≡ v
       → ShowsFiles (own_answer v) tower text table list list
   own_shown v other e =
       let (answer, written) = own_only tower text table list v other e in record { answer = sym answer; written = sym written }
 
-  pub files_good : r ≡ Found.Good → ShowsFiles Shows.Good tower text table list list
+  pub files_good : r ≡ Ok None → ShowsFiles (Ok None) tower text table list list
   unfolding own_answer
   files_good e =
-      own_shown Check.Good (λ f. let z : ◌≡◌ {A = ℕ} 0 1 = cc in omega arith) (sym found.says ∙ ap verdict_of e)
+      own_shown (Ok tt) (λ f. let z : ◌≡◌ {A = ℕ} 0 1 = cc in omega arith) (sym found.says ∙ ap verdict_of e)
 
-  pub files_wrong : (reason : Reason) → r ≡ Found.NotGood reason → ShowsFiles (Shows.NotGood reason) tower text table list list
+  files_wrong : (reason : Reason) → r ≡ Err (Rejected.NotGood reason) → ShowsFiles (Err (Rejected.NotGood reason)) tower text table list list
   unfolding own_answer
   files_wrong reason e =
-      own_shown (Check.NotGood reason) (λ f. let same : reason ≡ Broken = cc in found.earlier reason e same) (sym found.says ∙ ap verdict_of e)
+      own_shown (Err (Rejected.NotGood reason)) (λ f. let same : reason ≡ Broken = cc in found.earlier reason e same) (sym found.says ∙ ap verdict_of e)
 
-  pub files_refused : (why : Refusal) → r ≡ Found.Refused why → ShowsFiles (Shows.Refused why) tower text table list list
+  files_refused : (why : Refusal) → r ≡ Err (Rejected.Refused why) → ShowsFiles (Err (Rejected.Refused why)) tower text table list list
   unfolding own_answer
   files_refused why e =
-      own_shown (Check.Refused why) (λ f. let z : ◌≡◌ {A = ℕ} 0 1 = cc in omega arith) (sym found.says ∙ ap verdict_of e)
+      own_shown (Err (Rejected.Refused why)) (λ f. let z : ◌≡◌ {A = ℕ} 0 1 = cc in omega arith) (sym found.says ∙ ap verdict_of e)
+
+  -- The answer stays, whatever the rejection is.
+  pub files_rejected : (why : Rejection) (x : WhyAnswer) → r ≡ Err why → x ≡ Err why → ShowsFiles x tower text table list list
+  files_rejected (Rejected.NotGood reason) x e f = rw f (files_wrong reason e)
+  files_rejected (Rejected.Refused why) x e f = rw f (files_refused why e)
 
 -- ---- show
 
@@ -250,7 +254,7 @@ module _ (tower text table list nodes pairs index graph sets room : List ℕ) (b
     (is_b : b ≡ long_enough check_areas (nodes ∷ pairs ∷ index ∷ graph ∷ sets ∷ room ∷ [])) where
   -- 15 changes nothing.
   pub too_short_areas : b ≡ false
-      → Explains (Shows.Refused Area) tower text table list nodes pairs index graph sets room list nodes pairs index graph sets room
+      → Explains (Err (Rejected.Refused Area)) tower text table list nodes pairs index graph sets room list nodes pairs index graph sets room
   unfolding why_outcome why_answer
   too_short_areas e =
       let short = sym is_b ∙ e in

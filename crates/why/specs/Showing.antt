@@ -1,8 +1,9 @@
 -- What the functions of this crate promise, from the run on back to the whole outcome.
 use Rattle.std.specs.Prelude.{ℕ, ◌≡◌, List, [], ◌∷◌, length}
-use Rattle.base.specs.Answers.{why_said, give}
+use Rattle.base.specs.Answers.{why_said}
+use Rattle.std.specs.Prelude.{Ok}
 use Rattle.base.specs.declared.Reason.TheVariants.{Broken}
-use Rattle.base.specs.declared.WhyAnswer.{WhyAnswer}
+use Rattle.base.specs.Answers.{WhyAnswer}
 use Rattle.outcome.specs.Check.{not_good, checked_file}
 use Rattle.why_outcome.specs.Why.{why_file, why_answer, why_list, why_outcome}
 use Rattle.checker_runs.specs.Examining.{BrokenFound}
@@ -10,7 +11,7 @@ use Rattle.checker_runs.specs.Examining.{BrokenFound}
 -- The checker says 14 e of these files, and the graph's first broken step is this one.
 pub record ToldBroken (tower text table nodes graph : List ℕ) (n i a : ℕ) : Type 0 where
   pub found : BrokenFound tower text table nodes graph n i a
-  pub told : checked_file tower text table ≡ give (not_good Broken)
+  pub told : checked_file tower text table ≡ Ok (not_good Broken)
 
 -- It does so of some book and some table.
 pub record ToldBrokenSome (tower nodes graph : List ℕ) (n i a : ℕ) : Type 0 where

@@ -10,9 +10,7 @@ ghost use Rattle.outcome.specs.Areas.{pairs_area, index_area, room_area};
 ghost use Rattle.search_areas.specs.Lent.{Room};
 ghost use Rattle.why.specs.Showing.{ToldBrokenSome, ShowsRun, ShowsFiles, Explains};
 
-use base::{Refusal, WhyAnswer};
-use checker_runs::Examined;
-use why_path::Written;
+use base::{BrokenRun, Refusal, Rejection, WhyAnswer};
 
 // The run over pair i of n and broken by action a, its line and its position; 16 if the list is too
 // short for it.
@@ -34,17 +32,16 @@ fn show_run(
     requires room_area_in_bounds { room_area ≤ length room.old }
     ensures { ShowsRun result tower.now nodes.now graph.now n i a list.old list.new }
 {
-    match why_path::write_run(graph, n, file_tower::actions(tower), i, a, index, list) {
-        Written::TooShort => WhyAnswer::Refused(Refusal::Output),
-        Written::Run(size) => {
-            let place = why_lines::judge(tower, nodes, list, size, room, index, pairs);
-            WhyAnswer::Shown {
-                length: size,
-                line: place.line,
-                position: place.position.0,
-            }
-        }
-    }
+    let actions = file_tower::actions(tower);
+    let Some(length) = why_path::write_run(graph, n, actions, i, a, index, list) else {
+        return Err(Rejection::Refused(Refusal::Output));
+    };
+    let place = why_lines::judge(tower, nodes, list, length, room, index, pairs);
+    Ok(Some(BrokenRun {
+        length,
+        line: place.line,
+        position: place.position.0,
+    }))
 }
 
 // The three files: the checker's own answer, or the run.
@@ -63,18 +60,22 @@ fn show_files(
     requires { Room nodes.old pairs.old index.old graph.old sets.old room.old }
     ensures { ShowsFiles result tower.now text.now table.now list.old list.new }
 {
-    match checker_runs::examine(tower, text, table, nodes, pairs, index, graph, sets, room) {
-        Examined::Good => WhyAnswer::Good,
-        Examined::NotGood(reason) => WhyAnswer::NotGood(reason),
-        Examined::Refused(why) => WhyAnswer::Refused(why),
-        Examined::Broken {
-            pairs: n,
-            pair,
-            action,
-        } => show_run(
-            tower, list, nodes, pairs, index, graph, room, n, pair, action,
-        ),
-    }
+    let found = checker_runs::examine(tower, text, table, nodes, pairs, index, graph, sets, room)?;
+    let Some(step) = found else {
+        return Ok(None);
+    };
+    show_run(
+        tower,
+        list,
+        nodes,
+        pairs,
+        index,
+        graph,
+        room,
+        step.pairs,
+        step.pair,
+        step.action,
+    )
 }
 
 // Why the table is not good for the tower and the book, with the run in the front of the list where one
@@ -95,7 +96,7 @@ pub fn show(
     ensures { Explains result tower.now text.now table.now list.old nodes.old pairs.old index.old graph.old sets.old room.old list.new nodes.new pairs.new index.new graph.new sets.new room.new }
 {
     if !search_areas::long_enough(nodes, pairs, index, graph, sets, room) {
-        return WhyAnswer::Refused(Refusal::Area);
+        return Err(Rejection::Refused(Refusal::Area));
     }
     let answer = show_files(
         tower, text, table, list, nodes, pairs, index, graph, sets, room,

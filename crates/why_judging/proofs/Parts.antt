@@ -19,7 +19,7 @@ use Rattle.pending.specs.Pending.{holds, fresh}
 use Rattle.reading.specs.BookArea.{node_code}
 use Rattle.judging.specs.Judging.{judged, if_left}
 use Rattle.judging.specs.Ahead.{here, never, seen_before, comes_within, fails_ahead, ends_ahead}
-use Rattle.judging.specs.declared.Ahead.{Ahead}
+use Rattle.std.specs.Prelude.{Option, Some, None}
 use Rattle.judging.proofs.Aheads.{passes_for_ahead, passes_until_ahead}
 use Rattle.book_progression.specs.NodeBytes.{code_of, first_of, second_of, fresh_of, Stored, IsNode}
 use Rattle.book_progression.specs.Promises.{HoldsAt, Compares}
@@ -240,7 +240,7 @@ module _ (tower nodes run states marks : List ℕ) (n k : ℕ) (kept : List ℕ)
           (second_below nodes k q (code_of nodes k) is_q refl (omega arith) ready.node k refl).0 inside g s
           ∙ rw (rest_some run states n i inside)
 
-      when : (ahead : Ahead) (b : Bool) → ComesIn far ahead
+      when : (ahead : Option Tick) (b : Bool) → ComesIn far ahead
           → ComesIn (pick b (λ _. plus d far) (λ _. ticks 0)) (pick b (λ _. seen_before d ahead) (λ _. here))
       when ahead true seen = comes_later d far ahead seen
       when ahead false seen = comes_here
@@ -279,7 +279,7 @@ module _ (tower nodes run states marks : List ℕ) (n k : ℕ) (kept : List ℕ)
           (second_below nodes k q (code_of nodes k) is_q refl (omega arith) ready.node k refl).0 inside g s
           ∙ rw (rest_some run states n i inside)
 
-      when : (ahead : Ahead) (b a : Bool) → ComesIn far ahead
+      when : (ahead : Option Tick) (b a : Bool) → ComesIn far ahead
           → ComesIn (pick b (λ _. ticks 0) (λ _. pick a (λ _. plus d far) (λ _. never_far)))
           (pick b (λ _. here) (λ _. pick a (λ _. seen_before d ahead) (λ _. never)))
       when ahead true a seen = comes_here

@@ -19,7 +19,7 @@ use Rattle.logic.specs.Runs.{duration, Kept, Judged}
 use Rattle.logic.specs.declared.Tick.{Tick}
 use Rattle.judging.specs.Judging.{judged}
 use Rattle.judging.specs.Ahead.{here, never, seen_before, comes_within}
-use Rattle.judging.specs.declared.Ahead.{Ahead}
+use Rattle.std.specs.Prelude.{Option, Some, None}
 use Rattle.judging.proofs.Judged.{judged_kept}
 use Rattle.judging.proofs.Aheads.{plus_at_most, seen_within}
 use Rattle.why_judging.specs.Judgement.{never_far, ComesIn, state_in, moment_in, rest_in, RunHeld, kept_byte}
@@ -77,7 +77,7 @@ unfolding comes_within at_most
 comes_never = record { says = λ t low. lt-leb 65536 t.0 (omega arith) }
 
 -- or an action later than from the next position.
-pub comes_later : (d far : Tick) (ahead : Ahead) → ComesIn far ahead → ComesIn (plus d far) (seen_before d ahead)
+pub comes_later : (d far : Tick) (ahead : Option Tick) → ComesIn far ahead → ComesIn (plus d far) (seen_before d ahead)
 unfolding minus
 comes_later d far ahead next =
     record {

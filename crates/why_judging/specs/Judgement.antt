@@ -10,7 +10,7 @@ use Rattle.logic.specs.Runs.{Moment, Trace, duration}
 use Rattle.logic.specs.declared.Tick.{Tick}
 use Rattle.judging.specs.Judging.{judged}
 use Rattle.judging.specs.Ahead.{never, comes_within, fails_ahead, ends_ahead}
-use Rattle.judging.specs.declared.Ahead.{Ahead}
+use Rattle.std.specs.Prelude.{Option}
 use Rattle.book_progression.specs.NodeBytes.{code_of, number_of, Stored, IsNode}
 
 -- ---- the run
@@ -122,7 +122,7 @@ pub record NodeNext (tower nodes run states marks : List ℕ) (n k : ℕ) (kept 
   pub below : NodesJudged tower nodes run states n k kept
 
 -- what a formula waits for from the first position of what is left of a run
-unfoldable pub waits_for : Tower → Formula → Trace → Ahead
+unfoldable pub waits_for : Tower → Formula → Trace → Option Tick
 waits_for tower (constant b) run = never
 waits_for tower (proposition w k) run = never
 waits_for tower (and f g) run = never
@@ -136,7 +136,7 @@ abbrev pub never_far : Tick
 never_far = ticks 65536
 
 -- So far ahead it comes, as every bound sees it: within the bound, or not.
-pub record ComesIn (far : Tick) (ahead : Ahead) : Type 0 where
+pub record ComesIn (far : Tick) (ahead : Option Tick) : Type 0 where
   pub says : (t : Tick) → t.0 ≤ 254 → at_most far t ≡ comes_within ahead t
 
 -- So far ahead of position i comes what node k waits for.

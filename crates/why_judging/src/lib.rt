@@ -63,10 +63,8 @@ fn note_marks(tower: &[u8], run: &[u8], states: &[u8], n: usize, marks: &mut [u8
     requires marks_size_in_bounds { marks_size ≤ length marks.old }
     ensures { RunMarked tower.now run.now states.now marks.new n }
 {
-    let mut i = 0;
-    while i < n {
+    for i in 0..n {
         note_moment(tower, run, states, n, Position(i), marks);
-        i += 1;
     }
 }
 
@@ -122,9 +120,7 @@ fn judge_constant(
     requires b_value { b ≡ eqb (code_of nodes.now k) 1 }
     ensures { NodesJudged tower.now nodes.now run.now states.now n (k + 1) kept.new }
 {
-    let mut i = n;
-    while 0 < i {
-        i -= 1;
+    for i in (0..n).rev() {
         put_kept(kept, k, Position(i), b);
     }
 }
@@ -178,9 +174,7 @@ fn judge_mark(
     requires mark_shown { MarkShown nodes.now k from m wanted }
     ensures { NodesJudged tower.now nodes.now run.now states.now n (k + 1) kept.new }
 {
-    let mut i = n;
-    while 0 < i {
-        i -= 1;
+    for i in (0..n).rev() {
         let b = mark_at(
             tower,
             nodes,
@@ -302,9 +296,7 @@ fn judge_both(
     let code = node::code(nodes, k);
     let p = node::first(nodes, k);
     let q = node::second(nodes, k);
-    let mut i = n;
-    while 0 < i {
-        i -= 1;
+    for i in (0..n).rev() {
         let b = both_at(
             tower,
             nodes,
@@ -379,9 +371,7 @@ fn judge_next(
     let code = node::code(nodes, k);
     let t = node::fresh(nodes, k);
     let q = node::second(nodes, k);
-    let mut i = n;
-    while 0 < i {
-        i -= 1;
+    for i in (0..n).rev() {
         let b = next_at(
             tower,
             nodes,
@@ -434,7 +424,7 @@ fn ends(first: bool, second: bool, d: Tick, far: Tick) -> Tick
 fn within(far: Tick, t: Tick) -> bool
     ensures { result ≡ at_most far t }
 {
-    far.0 <= t.0
+    far <= t
 }
 
 // What node k, an A with this part, waits for at position i, where it is this at the next position.
@@ -513,9 +503,7 @@ fn judge_always(
     let t = node::fresh(nodes, k);
     let q = node::second(nodes, k);
     let mut far = NEVER;
-    let mut i = n;
-    while 0 < i {
-        i -= 1;
+    for i in (0..n).rev() {
         far = fails_at(
             tower,
             nodes,
@@ -552,9 +540,7 @@ fn judge_until(
     let p = node::first(nodes, k);
     let q = node::second(nodes, k);
     let mut far = HERE;
-    let mut i = n;
-    while 0 < i {
-        i -= 1;
+    for i in (0..n).rev() {
         far = ends_at(
             tower,
             nodes,
@@ -625,10 +611,8 @@ fn judge_in_order(
     ensures { NodesJudged tower.now nodes.now run.now states.now n (nodes_in nodes.now) kept.new }
 {
     let count = book_progression::node_count(nodes);
-    let mut k = 0;
-    while k < count {
+    for k in 0..count {
         judge_node(tower, nodes, run, states, marks, n, k, kept);
-        k += 1;
     }
 }
 

@@ -5,14 +5,16 @@ use native.Mathlib.Numerals.{add-one}
 use mathlib.Core.Path.{◌≡◌, refl, sym, ◌∙◌, ap, subst}
 use mathlib.Core.Bool.{Bool, true, false, not}
 use mathlib.Core.List.{List, [], ◌∷◌}
+use Rattle.std.specs.Prelude.{Option, Some, None}
 use lib.ListN.{length, get_or, drop, length-map}
 use lib.Seq.{drop-drop}
 use lib.Dec.{eqb, ltb}
 use borrow.Author.Tests.{not-true, not-false, ltb-true, ltb-false}
 use Rattle.base.specs.Lists.{count_from, below, place_of}
-use Rattle.base.proofs.Lists.{whether, not_in, every_not, none_of, mem_index, length_count_from, length_below, get_or_below, below_mem, mem_below, below_every}
-use Rattle.base.proofs.Lists.{place_of_le, place_of_at, place_of_before, place_of_first, place_of_none}
+use Rattle.base.proofs.Lists.{whether, not_in, every_not, none_of, mem_index, length_count_from, length_below, get_or_below, below_mem, below_every}
+use Rattle.base.proofs.Lists.{place_of_first, place_of_none}
 use Rattle.logic.specs.Time.{position}
+use Rattle.logic.specs.declared.Position.{Position}
 use Rattle.logic.specs.Tower.{Tower, tower_of}
 use Rattle.logic.specs.Book.{Formula, root, at_start, everywhere, Rule, Book}
 use Rattle.logic.specs.Runs.{Trace}
@@ -25,7 +27,7 @@ use Rattle.book_progression.proofs.BookHeld as BookHeld
 use Rattle.book_progression.proofs.Lines.{starts, is_everywhere}
 use Rattle.why_judging.specs.Judgement.{moment_in, rest_in, kept_in, NodesJudged}
 use Rattle.why_judging.proofs.Rests.{rest_some, byte_says}
-use Rattle.why_lines.specs.Lines.{RunNoted, LinesReady, LineFails, RunJudged}
+use Rattle.why_lines.specs.Lines.{RunNoted, LinesReady, fails_in, KeptBefore, FirstFailing, kept_everywhere, first_at, LineFails, line_kept, line_broken, RunJudged}
 
 -- ---- the lowest number that passes a test
 
@@ -36,50 +38,24 @@ module _ (test : ℕ → Bool) (n : ℕ) where
       place_of_first test (below n) i 0 (omega (arith, length_below n)) (ap test (get_or_below n i 0 low) ∙ here)
       (λ j l. ap test (get_or_below n j 0 (omega arith)) ∙ before j l)
 
-  -- none does
-  lowest_none : ((j : ℕ) → j < n → test j ≡ false) → place_of test (below n) ≡ n
-  lowest_none none_does = place_of_none test (below n) (none_of test (below n) (λ j m. none_does j (mem_below n m))) ∙ length_below n
-
-  lowest_most : place_of test (below n) ≤ n
-  lowest_most = omega (arith, place_of_le test (below n), length_below n)
-
-  -- it passes,
-  lowest_passes : place_of test (below n) < n → test (place_of test (below n)) ≡ true
-  lowest_passes low =
-      sym (ap test (get_or_below n (place_of test (below n)) 0 low)) ∙ place_of_at test (below n) 0 (omega (arith, length_below n))
-
-  -- and those before do not
-  lowest_before : (j : ℕ) → j < place_of test (below n) → test j ≡ false
-  lowest_before j low = sym (ap test (get_or_below n j 0 (omega (arith, lowest_most)))) ∙ place_of_before test (below n) j 0 low
-
 -- ---- the lowest position where a node is not kept
 
--- node k is not kept at position i, as it was judged
-abbrev pub fails_in : List ℕ → ℕ → ℕ → Bool
-fails_in kept k i = not (eqb (kept_in kept k i) 1)
+pub so_far_first : (kept : List ℕ) (n k : ℕ) → KeptBefore kept k 0
+so_far_first kept n k = record { before = λ j low. absurd (omega arith) }
 
--- It is kept at the positions before i.
-pub record KeptSoFar (kept : List ℕ) (n k i : ℕ) : Type 0 where
-  pub inside : i ≤ n
-  pub before : (j : ℕ) → j < i → fails_in kept k j ≡ false
+module _ (kept : List ℕ) (n k i : ℕ) (so_far : KeptBefore kept k i) where
+  pub so_far_found : (b : Bool) → i < n → b ≡ eqb (kept_in kept k i) 1 → not b ≡ true → FirstFailing kept n k (Some (position i))
+  so_far_found b low judged fails = first_at (position i) low (ap not (sym judged) ∙ fails) so_far
 
-pub so_far_first : (kept : List ℕ) (n k : ℕ) → KeptSoFar kept n k 0
-so_far_first kept n k = record { inside = omega arith; before = λ j low. absurd (omega arith) }
-
-module _ (kept : List ℕ) (n k i : ℕ) (so_far : KeptSoFar kept n k i) where
-  pub so_far_found : (b : Bool) → i < n → b ≡ eqb (kept_in kept k i) 1 → not b ≡ true → i ≡ place_of (fails_in kept k) (below n)
-  so_far_found b low judged fails = sym (lowest_is (fails_in kept k) n i low (ap not (sym judged) ∙ fails) so_far.before)
-
-  pub so_far_next : (b : Bool) → i < n → b ≡ eqb (kept_in kept k i) 1 → not b ≡ false → KeptSoFar kept n k (i + 1)
-  so_far_next b low judged passes =
+  pub so_far_next : (b : Bool) → b ≡ eqb (kept_in kept k i) 1 → not b ≡ false → KeptBefore kept k (i + 1)
+  so_far_next b judged passes =
       record {
-        inside = omega arith;
         before = λ j l. whether (ltb j i) (λ yes_it_is. so_far.before j (ltb-true j i yes_it_is))
             (λ it_is_not. let e : j ≡ i = omega (arith, ltb-false j i it_is_not) in rw e (ap not (sym judged) ∙ passes));
       }
 
-  pub so_far_end : n ≤ i → n ≡ place_of (fails_in kept k) (below n)
-  so_far_end done = sym (lowest_none (fails_in kept k) n (λ j low. so_far.before j (omega arith)))
+  pub so_far_end : n ≤ i → FirstFailing kept n k None
+  so_far_end done = kept_everywhere (record { before = λ j low. so_far.before j (omega arith) })
 
 -- ---- what is left of a run
 
@@ -100,26 +76,24 @@ rest_size run states n =
 
 module _ (tower : Tower) (run : Trace) (f : Formula) (kept : List ℕ) (n k : ℕ) (size : length run ≡ n)
     (says : (j : ℕ) → j < n → eqb (kept_in kept k j) 1 ≡ judged_at tower run f (position j)) where
-  always_kept : n ≤ place_of (fails_in kept k) (below n) → judged_rule tower run everywhere f ≡ true
+  always_kept : KeptBefore kept k n → judged_rule tower run everywhere f ≡ true
   unfolding judged_rule
   always_kept all =
       rw size (below_every (λ i. judged_at tower run f (position i)) n
-      (λ i low. sym (says i low) ∙ not-false (eqb (kept_in kept k i) 1) (lowest_before (fails_in kept k) n i (omega arith))))
+      (λ i low. sym (says i low) ∙ not-false (eqb (kept_in kept k i) 1) (all.before i low)))
 
-  always_broken : place_of (fails_in kept k) (below n) < n → judged_rule tower run everywhere f ≡ false
-  unfolding judged_rule
-  always_broken low =
-      let r = place_of (fails_in kept k) (below n) in
-      rw size (every_not (λ i. judged_at tower run f (position i)) (below_mem n r low)
-      (sym (says r low) ∙ not-true (eqb (kept_in kept k r) 1) (lowest_passes (fails_in kept k) n low)))
+  module _ (r : ℕ) (low : r < n) (fails : fails_in kept k r ≡ true) where
+    always_broken : judged_rule tower run everywhere f ≡ false
+    unfolding judged_rule
+    always_broken =
+        rw size (every_not (λ i. judged_at tower run f (position i)) (below_mem n r low)
+        (sym (says r low) ∙ not-true (eqb (kept_in kept k r) 1) fails))
 
-  always_place : place_of (fails_in kept k) (below n) < n → position (place_of (fails_in kept k) (below n)) ≡ broken_place tower run everywhere f
-  unfolding broken_place lowest_position
-  always_place low =
-      let r = place_of (fails_in kept k) (below n) in
-      rw size (ap position (sym (lowest_is (λ i. not (judged_at tower run f (position i))) n r low
-      (ap not (sym (says r low)) ∙ lowest_passes (fails_in kept k) n low)
-      (λ j l. ap not (sym (says j (omega arith))) ∙ lowest_before (fails_in kept k) n j l))))
+    always_place : KeptBefore kept k r → position r ≡ broken_place tower run everywhere f
+    unfolding broken_place lowest_position
+    always_place kept_till =
+        rw size (ap position (sym (lowest_is (λ i. not (judged_at tower run f (position i))) n r low
+        (ap not (sym (says r low)) ∙ fails) (λ j l. ap not (sym (says j (omega arith))) ∙ kept_till.before j l))))
 
 -- ---- the rule of a line
 
@@ -171,19 +145,19 @@ module _ (tower nodes run states : List ℕ) (n : ℕ) (kept : List ℕ) (l k fo
       → eqb (kept_in kept k j) 1 ≡ judged_at (tower_of tower) (rest_in run states n 0) (rule_at h.book l).formula (position j)
   says h = line_says nodes h l low tower run states n kept k at ready.all
 
-  pub fails_always : (r : ℕ) → form ≡ 1 → r ≡ place_of (fails_in kept k) (below n) → LineFails r tower nodes run states n l
-  fails_always r one found =
-      record {
-        kept = λ h all. rw (rule_always nodes h l low form form_at one)
-            (always_kept (tower_of tower) (rest_in run states n 0) (rule_at h.book l).formula kept n k size (says h) (omega arith));
-        broken = λ h inside. rw (rule_always nodes h l low form form_at one)
-            (always_broken (tower_of tower) (rest_in run states n 0) (rule_at h.book l).formula kept n k size (says h) (omega arith));
-        place = λ h inside. rw (rule_always nodes h l low form form_at one, found)
-            (always_place (tower_of tower) (rest_in run states n 0) (rule_at h.book l).formula kept n k size (says h) (omega arith));
-      }
-    where
-      size : length (rest_in run states n 0) ≡ n
-      size = rest_size run states n
+  size : length (rest_in run states n 0) ≡ n
+  size = rest_size run states n
+
+  pub fails_always : (r : Option Position) → form ≡ 1 → FirstFailing kept n k r → LineFails tower nodes run states n l r
+  fails_always None one (kept_everywhere all) =
+      line_kept (λ h. rw (rule_always nodes h l low form form_at one)
+      (always_kept (tower_of tower) (rest_in run states n 0) (rule_at h.book l).formula kept n k size (says h) all))
+  fails_always (Some at) one (first_at _ inside fails before) =
+      line_broken at
+      (λ h. rw (rule_always nodes h l low form form_at one)
+      (always_broken (tower_of tower) (rest_in run states n 0) (rule_at h.book l).formula kept n k size (says h) at.0 inside fails))
+      (λ h. rw (rule_always nodes h l low form form_at one)
+      (always_place (tower_of tower) (rest_in run states n 0) (rule_at h.book l).formula kept n k size (says h) at.0 inside fails before))
 
   -- a `start` line is judged at position 0 alone
   start_says : (h : IsHeld nodes) → (form ≡ 1 → ⊥) → (b : Bool) → b ≡ eqb (kept_in kept k 0) 1
@@ -191,22 +165,14 @@ module _ (tower nodes run states : List ℕ) (n : ℕ) (kept : List ℕ) (l k fo
   unfolding judged_rule
   start_says h not_one b judged = rw (rule_starts nodes h l low form form_at not_one) (sym (judged ∙ says h 0 ready.some_position))
 
-  pub fails_never : (b : Bool) → (form ≡ 1 → ⊥) → b ≡ eqb (kept_in kept k 0) 1 → b ≡ true → LineFails n tower nodes run states n l
-  fails_never b not_one judged holds =
-      record {
-        kept = λ h all. start_says h not_one b judged ∙ holds;
-        broken = λ h inside. absurd (omega arith);
-        place = λ h inside. absurd (omega arith);
-      }
+  pub fails_never : (b : Bool) → (form ≡ 1 → ⊥) → b ≡ eqb (kept_in kept k 0) 1 → b ≡ true → LineFails tower nodes run states n l None
+  fails_never b not_one judged holds = line_kept (λ h. start_says h not_one b judged ∙ holds)
 
-  pub fails_start : (b : Bool) → (form ≡ 1 → ⊥) → b ≡ eqb (kept_in kept k 0) 1 → b ≡ false → LineFails 0 tower nodes run states n l
+  pub fails_start : (b : Bool) → (form ≡ 1 → ⊥) → b ≡ eqb (kept_in kept k 0) 1 → b ≡ false
+      → LineFails tower nodes run states n l (Some (position 0))
   unfolding broken_place
   fails_start b not_one judged fails =
-      record {
-        kept = λ h all. absurd (omega (arith, ready.some_position));
-        broken = λ h inside. start_says h not_one b judged ∙ fails;
-        place = λ h inside. rw (rule_starts nodes h l low form form_at not_one) refl;
-      }
+      line_broken (position 0) (λ h. start_says h not_one b judged ∙ fails) (λ h. rw (rule_starts nodes h l low form form_at not_one) refl)
 
 -- ---- the lowest line that fails
 
@@ -234,25 +200,25 @@ none_breaks test book kept = place_of_none test book (none_of test book (λ rule
     go rule (j, low, e) = ap test (sym e) ∙ kept j low
 
 module _ (tower nodes run states : List ℕ) (n lines l : ℕ) (looking : Looking tower nodes run states n lines l) where
-  pub looking_next : (r : ℕ) → LineFails r tower nodes run states n l → l < lines → n ≤ r → Looking tower nodes run states n lines (l + 1)
-  looking_next r fails low kept =
+  pub looking_next : LineFails tower nodes run states n l None → l < lines → Looking tower nodes run states n lines (l + 1)
+  looking_next (line_kept kept) low =
       record {
         all = looking.all;
         inside = omega arith;
         before = λ h j below. whether (ltb j l) (λ yes_it_is. looking.before h j (ltb-true j l yes_it_is))
-            (λ it_is_not. let e : j ≡ l = omega (arith, ltb-false j l it_is_not) in rw e (fails.kept h kept));
+            (λ it_is_not. let e : j ≡ l = omega (arith, ltb-false j l it_is_not) in rw e (kept h));
       }
 
-  pub looking_found : (r : ℕ) → LineFails r tower nodes run states n l → RunNoted tower run states n → l < lines → r < n
-      → RunJudged (record { line = l; position = position r }) tower nodes run n
+  pub looking_found : (at : Position) → LineFails tower nodes run states n l (Some at) → RunNoted tower run states n → l < lines
+      → RunJudged (record { line = l; position = at }) tower nodes run n
   unfolding lowest_line rule_at
-  looking_found r fails noted low broken =
+  looking_found at (line_broken _ broken place) noted low =
       record {
         line = λ h. rw (sym noted.is)
             (sym (place_of_first (breaks (tower_of tower) (rest_in run states n 0)) h.book l _
-            (omega (arith, looking.all, h.held.holds.line_count)) (not_in (fails.broken h broken))
+            (omega (arith, looking.all, h.held.holds.line_count)) (not_in (broken h))
             (λ j before. ap not (looking.before h j before))));
-        place = λ h inside. rw (sym noted.is) (fails.place h broken);
+        place = λ h inside. rw (sym noted.is) (place h);
       }
 
   pub looking_end : RunNoted tower run states n → lines ≤ l → RunJudged (record { line = lines; position = position 0 }) tower nodes run n

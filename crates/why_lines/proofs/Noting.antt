@@ -4,7 +4,7 @@ use native.Mathlib.Omega.{arith}
 use native.Mathlib.Numerals.{add-one}
 use mathlib.Core.Path.{◌≡◌, refl, sym, ◌∙◌, ap, ap₂}
 use mathlib.Core.Logic.{inl}
-use mathlib.Core.Option.{Option, some, get_or}
+use Rattle.std.specs.Prelude.{Option, Some, unwrap_or}
 use mathlib.Core.List.{List, [], ◌∷◌, ◌++◌, map, map-append, append-nil}
 use lib.ListN.{length, take, drop}
 use lib.Seq.{sets, get_or-take, drop-cons, append_snoc, length-sets, length-take-le}
@@ -17,31 +17,29 @@ use Rattle.logic.specs.Tower.{Tower, Listed, FitTower, tower_of}
 use Rattle.logic.specs.Runs.{Moment, leads, IsRun, trace_from, trace}
 use Rattle.logic.proofs.Leads.{leads_out}
 use Rattle.area_bytes.proofs.Numbers.{stored_read, stored_beside}
-use Rattle.file_tower.specs.TowerRead.{target_read}
-use Rattle.file_tower.specs.declared.Reached.{Reached}
-use Rattle.file_tower.specs.declared.Reached.TheVariants.{State, NotEnabled}
+use Rattle.std.specs.Prelude.{None}
 use Rattle.file_tower.proofs.Laws.{fit_bounds, state_reached, none_reached}
 use Rattle.why_judging.specs.Judgement.{position_room, states_size, state_in, moment_in, rest_in}
 use Rattle.why_lines.specs.Lines.{RunNoted}
 
 -- ---- the next state
 
-pub next_enabled : (o : Option ℕ) (r : Reached) (x y : ℕ) → r ≡ target_read o → r ≡ State y → y ≡ get_or o x
+pub next_enabled : (o : Option ℕ) (r : Option ℕ) (x y : ℕ) → r ≡ o → r ≡ Some y → y ≡ unwrap_or o x
 next_enabled o r x y e f = rw (state_reached o r y e f) refl
 
-pub next_not_enabled : (o : Option ℕ) (r : Reached) (x : ℕ) → r ≡ target_read o → r ≡ NotEnabled → x ≡ get_or o x
+pub next_not_enabled : (o : Option ℕ) (r : Option ℕ) (x : ℕ) → r ≡ o → r ≡ None → x ≡ unwrap_or o x
 next_not_enabled o r x e f = rw (none_reached o r e f) refl
 
 -- it is a state of the tower
 next_low : (tower : List ℕ) (x a : ℕ) → FitTower tower → x < (tower_of tower).states
-    → get_or ((tower_of tower).target x a) x < (tower_of tower).states
+    → unwrap_or ((tower_of tower).target x a) x < (tower_of tower).states
 next_low tower x a fit here =
     whether_there ((tower_of tower).target x a) (λ e. rw e here) (λ y e. rw e ((fit_bounds fit).targets x a y here e))
 
 -- ---- the actions
 
 -- every action of a run is listed
-actions_listed : (tower : Tower) → Listed tower → (w : List ℕ) (x z i : ℕ) → leads tower.target x w ≡ some z → i < length w
+actions_listed : (tower : Tower) → Listed tower → (w : List ℕ) (x z i : ℕ) → leads tower.target x w ≡ Some z → i < length w
     → byte_at w i < tower.actions
 unfolding Listed
 actions_listed tower listed [] x z i e low = absurd (omega arith)
@@ -150,7 +148,7 @@ module _ (tower run : List ℕ) (n : ℕ) (first states : List ℕ) (x i : ℕ) 
         moments_next run after i
         ∙ ap₂ (λ ms y. ms ++ (moment y (byte_at run i) ∷ [])) (moments_same run states after 0 i (λ j l. put_before j (omega arith))) put_here
 
-    pub noting_next : (y : ℕ) → y ≡ get_or ((tower_of tower).target x (byte_at run i)) x → Noting tower run n first after y (i + 1)
+    pub noting_next : (y : ℕ) → y ≡ unwrap_or ((tower_of tower).target x (byte_at run i)) x → Noting tower run n first after y (i + 1)
     unfolding trace_from
     noting_next y next =
         record {
@@ -174,7 +172,7 @@ module _ (tower run : List ℕ) (n : ℕ) (first states : List ℕ) (x i : ℕ) 
         left = take (n - (i + 1)) (drop (i + 1) run)
 
         next_state : ℕ
-        next_state = get_or ((tower_of tower).target x (byte_at run i)) x
+        next_state = unwrap_or ((tower_of tower).target x (byte_at run i)) x
 
   pub noting_end : n ≤ i → RunNoted tower run states n
   unfolding rest_in trace_from

@@ -1,13 +1,13 @@
 -- What the functions of this crate promise: the run of the tower as bytes, where a line fails, and the lowest line that does.
-use Rattle.std.specs.Prelude.{ℕ, ◌≤◌, ◌<◌, ◌≡◌, true, false, List, length, take}
-use Rattle.logic.specs.Time.{position}
+use Rattle.std.specs.Prelude.{ℕ, ◌≤◌, ◌<◌, ◌≡◌, Bool, true, false, not, eqb, List, length, take, Option, Some, None}
+use Rattle.logic.specs.declared.Position.{Position}
 use Rattle.logic.specs.Tower.{FitTower, tower_of}
 use Rattle.logic.specs.Runs.{trace, IsRun}
 use Rattle.logic.specs.Why.{rule_at}
 use Rattle.judging.specs.Judging.{judged_rule, lowest_line, broken_place}
 use Rattle.reading.specs.BookArea.{nodes_in}
 use Rattle.book_progression.specs.NodeBytes.{IsHeld}
-use Rattle.why_judging.specs.Judgement.{position_room, kept_size, rest_in, RunHeld, NodesJudged}
+use Rattle.why_judging.specs.Judgement.{position_room, kept_size, kept_in, rest_in, RunHeld, NodesJudged}
 use Rattle.why_lines.specs.declared.Place.{Place}
 
 -- ---- the run
@@ -35,14 +35,28 @@ pub record LinesReady (tower nodes run states : List ℕ) (n : ℕ) (kept : List
 
 -- ---- the line and the position
 
--- Where line l fails, as a position below n; n or more where it is kept.
-pub record LineFails (r : ℕ) (tower nodes run states : List ℕ) (n l : ℕ) : Type 0 where
-  pub kept : (h : IsHeld nodes) → n ≤ r
-      → judged_rule (tower_of tower) (rest_in run states n 0) (rule_at h.book l).form (rule_at h.book l).formula ≡ true
-  pub broken : (h : IsHeld nodes) → r < n
-      → judged_rule (tower_of tower) (rest_in run states n 0) (rule_at h.book l).form (rule_at h.book l).formula ≡ false
-  pub place : (h : IsHeld nodes) → r < n
-      → position r ≡ broken_place (tower_of tower) (rest_in run states n 0) (rule_at h.book l).form (rule_at h.book l).formula
+-- node k is not kept at position i, as it was judged
+abbrev pub fails_in : List ℕ → ℕ → ℕ → Bool
+fails_in kept k i = not (eqb (kept_in kept k i) 1)
+
+-- It is kept at each position before i.
+pub record KeptBefore (kept : List ℕ) (k i : ℕ) : Type 0 where
+  pub before : (j : ℕ) → j < i → fails_in kept k j ≡ false
+
+-- The lowest of n positions where node k is not kept, if there is one.
+pub data FirstFailing (kept : List ℕ) (n k : ℕ) : Option Position → Type 0 where
+  kept_everywhere : KeptBefore kept k n → FirstFailing kept n k None
+  first_at : (at : Position) → at.0 < n → fails_in kept k at.0 ≡ true → KeptBefore kept k at.0 → FirstFailing kept n k (Some at)
+
+-- The position at which line l fails, if it is broken.
+pub data LineFails (tower nodes run states : List ℕ) (n l : ℕ) : Option Position → Type 0 where
+  line_kept : ((h : IsHeld nodes)
+      → judged_rule (tower_of tower) (rest_in run states n 0) (rule_at h.book l).form (rule_at h.book l).formula ≡ true)
+      → LineFails tower nodes run states n l None
+  line_broken : (at : Position)
+      → ((h : IsHeld nodes) → judged_rule (tower_of tower) (rest_in run states n 0) (rule_at h.book l).form (rule_at h.book l).formula ≡ false)
+      → ((h : IsHeld nodes) → at ≡ broken_place (tower_of tower) (rest_in run states n 0) (rule_at h.book l).form (rule_at h.book l).formula)
+      → LineFails tower nodes run states n l (Some at)
 
 -- The lowest line that the run breaks, and where; past the last line if it breaks none.
 pub record RunJudged (r : Place) (tower nodes run : List ℕ) (n : ℕ) : Type 0 where

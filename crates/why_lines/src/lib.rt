@@ -2,17 +2,15 @@
 // at every position (crate `why_judging`), and then the lines in order.
 #![tactic(auto)]
 
-ghost use Rattle.std.specs.Prelude.{◌≤◌, ◌<◌, ◌≡◌, not, length, take, eqb};
-ghost use Rattle.std.proofs.Math.Option.{get_or};
-ghost use Rattle.base.specs.Lists.{below, place_of};
+ghost use Rattle.std.specs.Prelude.{◌≤◌, ◌<◌, ◌≡◌, length, take};
+ghost use Rattle.std.specs.Prelude.{unwrap_or};
 ghost use Rattle.logic.specs.Tower.{FitTower, tower_of};
 ghost use Rattle.logic.specs.Runs.{IsRun};
 ghost use Rattle.reading.specs.BookArea.{lines_in};
-ghost use Rattle.why_judging.specs.Judgement.{position_room, states_size, marks_size, kept_size, RunHeld, kept_in};
-ghost use Rattle.why_lines.specs.Lines.{RunNoted, RunGiven, LinesReady, LineFails, RunJudged};
+ghost use Rattle.why_judging.specs.Judgement.{position_room, states_size, marks_size, kept_size, RunHeld};
+ghost use Rattle.why_lines.specs.Lines.{RunNoted, RunGiven, LinesReady, FirstFailing, LineFails, RunJudged};
 
 use book_progression::line;
-use file_tower::Reached;
 use logic::Position;
 
 // The line that a run breaks, and the position.
@@ -27,12 +25,9 @@ fn next_state(tower: &[u8], x: usize, a: usize) -> usize
     requires fit_tower { FitTower tower.now }
     requires x_bound { x < (tower_of tower.now).states }
     requires a_bound { a < (tower_of tower.now).actions }
-    ensures { result ≡ get_or ((tower_of tower.now).target x a) x }
+    ensures { result ≡ unwrap_or ((tower_of tower.now).target x a) x }
 {
-    match file_tower::target(tower, x, a) {
-        Reached::State(y) => y,
-        Reached::NotEnabled => x,
-    }
+    file_tower::target(tower, x, a).unwrap_or(x)
 }
 
 // The states along the run.
@@ -45,33 +40,29 @@ fn note_states(tower: &[u8], run: &[u8], n: usize, states: &mut [u8])
     ensures { RunNoted tower.now run.now states.new n }
 {
     let mut x = file_tower::start(tower);
-    let mut i = 0;
-    while i < n {
+    for i in 0..n {
         area_bytes::put_two_bytes(states, 2 * i, x);
         x = next_state(tower, x, run[i] as usize);
-        i += 1;
     }
 }
 
-// The lowest position where node k is not kept; n if it is kept everywhere.
-fn first_failing(kept: &[u8], n: usize, k: usize) -> usize
+// The lowest position where node k is not kept, if it is not kept everywhere.
+fn first_failing(kept: &[u8], n: usize, k: usize) -> Option<Position>
     requires kept_size_in_bounds { kept_size ≤ length kept.now }
     requires k_bound { k < 60 }
     requires n_le_position_room { n ≤ position_room }
-    ensures { result ≡ place_of (λ i. not (eqb (kept_in kept.now k i) 1)) (below n) }
+    ensures { FirstFailing kept.now n k result }
 {
-    let mut i = 0;
-    while i < n {
+    for i in 0..n {
         if !why_judging::kept_at(kept, k, Position(i)) {
-            return i;
+            return Some(Position(i));
         }
-        i += 1;
     }
-    n
+    None
 }
 
-// Where line l fails; n if it is kept. An `always` line fails at the lowest position where its formula
-// is not kept, a `start` line at position 0.
+// Where line l fails, if it is broken. An `always` line fails at the lowest position where its formula is
+// not kept, a `start` line at position 0.
 fn line_fails(
     tower: &[u8],
     nodes: &[u8],
@@ -80,20 +71,20 @@ fn line_fails(
     n: usize,
     kept: &[u8],
     l: usize,
-) -> usize
+) -> Option<Position>
     requires run_held { RunHeld tower.now run.now states.now n }
     requires lines_ready { LinesReady tower.now nodes.now run.now states.now n kept.now }
     requires l_bound { l < lines_in nodes.now }
-    ensures { LineFails result tower.now nodes.now run.now states.now n l }
+    ensures { LineFails tower.now nodes.now run.now states.now n l result }
 {
     let k = line::formula(nodes, l);
     if line::form(nodes, l) == line::ALWAYS {
         return first_failing(kept, n, k);
     }
     if why_judging::kept_at(kept, k, Position(0)) {
-        return n;
+        return None;
     }
-    0
+    Some(Position(0))
 }
 
 // The lowest line that fails, and where.
@@ -103,16 +94,13 @@ fn lowest(tower: &[u8], nodes: &[u8], run: &[u8], states: &[u8], n: usize, kept:
     ensures { RunJudged result tower.now nodes.now run.now n }
 {
     let lines = line::count(nodes);
-    let mut l = 0;
-    while l < lines {
-        let r = line_fails(tower, nodes, run, states, n, kept, l);
-        if r < n {
+    for l in 0..lines {
+        if let Some(at) = line_fails(tower, nodes, run, states, n, kept, l) {
             return Place {
                 line: l,
-                position: Position(r),
+                position: at,
             };
         }
-        l += 1;
     }
     Place {
         line: lines,

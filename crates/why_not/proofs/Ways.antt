@@ -9,13 +9,13 @@ use lib.Seq.{take_at}
 use borrow.Author.Tests.{le-leb}
 use Rattle.base.specs.Lists.{some_of}
 use Rattle.base.specs.Bytes.{long_enough}
-use Rattle.base.specs.Answers.{Answer, refuse, give, refusal_said, verdict_said}
+use Rattle.base.specs.Answers.{Answer, refusal_said, verdict_said}
+use Rattle.std.specs.Prelude.{Err, Ok}
 use Rattle.base.specs.declared.Reason.TheVariants.{Broken}
 use Rattle.base.specs.declared.Refusal.TheVariants.{Output}
-use Rattle.base.specs.declared.Verdict.{Verdict}
-use Rattle.base.specs.declared.Verdict.TheVariants as Check
-use Rattle.base.specs.declared.WhyAnswer.{WhyAnswer}
-use Rattle.base.specs.declared.WhyAnswer.TheVariants as Shows
+use Rattle.base.specs.Answers.{Verdict, WhyAnswer, run_shown}
+use Rattle.std.specs.Prelude.{None, Some}
+use Rattle.base.specs.declared.Rejection.TheVariants as Rejected
 use Rattle.logic.specs.Tower.{Tower, tower_of}
 use Rattle.logic.specs.Runs.{IsRun}
 use Rattle.logic.specs.Tables.{AllowsFrom, Allows}
@@ -54,29 +54,29 @@ enough a b c d e f p q r s t u =
     )
 
 -- Only 14 e is found where the checker says so.
-broken_finding : (o : Answer Finding) → verdict o ≡ Check.NotGood Broken → o ≡ give (not_good Broken)
+broken_finding : (o : Answer Finding) → verdict o ≡ Err (Rejected.NotGood Broken) → o ≡ Ok (not_good Broken)
 unfolding verdict
-broken_finding (refuse r) e = let z : ◌≡◌ {A = ℕ} 0 1 = cc in absurd (omega arith)
-broken_finding (give good_table) e = let z : ◌≡◌ {A = ℕ} 0 1 = cc in absurd (omega arith)
-broken_finding (give (not_good q)) e = let same : q ≡ Broken = cc in ap (λ r. give (not_good r)) same
+broken_finding (Err r) e = let z : ◌≡◌ {A = ℕ} 0 1 = cc in absurd (omega arith)
+broken_finding (Ok good_table) e = let z : ◌≡◌ {A = ℕ} 0 1 = cc in absurd (omega arith)
+broken_finding (Ok (not_good q)) e = let same : q ≡ Broken = cc in ap (λ r. Ok (not_good r)) same
 
 module _ (tower text table list : List ℕ) (areas : List (List ℕ)) (long : long_enough check_areas areas ≡ true) (size : length list ≡ 1000) where
   abbrev Right : WhyAnswer → List ℕ → Type 0
   Right = RightWhy tower text table list areas
 
   -- The checker never says 16,
-  check_not_16 : (v : Verdict) → RightCheck tower text table areas v → own_answer v ≡ Shows.Refused Output → ⊥
+  check_not_16 : (v : Verdict) → RightCheck tower text table areas v → own_answer v ≡ Err (Rejected.Refused Output) → ⊥
   unfolding own_answer RefusesWith verdict_said refusal_said check_numbers some_of
-  check_not_16 Check.Good right e = let z : ◌≡◌ {A = ℕ} 0 1 = cc in omega arith
-  check_not_16 (Check.NotGood q) right e = let z : ◌≡◌ {A = ℕ} 0 1 = cc in omega arith
-  check_not_16 (Check.Refused r) right e =
+  check_not_16 (Ok tt) right e = let z : ◌≡◌ {A = ℕ} 0 1 = cc in omega arith
+  check_not_16 (Err (Rejected.NotGood q)) right e = let z : ◌≡◌ {A = ℕ} 0 1 = cc in omega arith
+  check_not_16 (Err (Rejected.Refused r)) right e =
       let same : r ≡ Output = cc in
-      let said = ap verdict_said (check_only tower text table areas (Check.Refused r) right) ∙ ap refusal_said same in
+      let said = ap verdict_said (check_only tower text table areas (Err (Rejected.Refused r)) right) ∙ ap refusal_said same in
       let found : false ≡ true = check_refuses tower text table areas 16 0 [] said in
       let z : ◌≡◌ {A = ℕ} 0 1 = cc in omega arith
 
   -- and the list is not shorter than the run.
-  not_16 : (x : WhyAnswer) (l : List ℕ) → Right x l → x ≡ Shows.Refused Output → ⊥
+  not_16 : (x : WhyAnswer) (l : List ℕ) → Right x l → x ≡ Err (Rejected.Refused Output) → ⊥
   unfolding most_pairs
   not_16 _ _ (why_own v right other) e = check_not_16 v right e
   not_16 _ _ (why_room w k i ex lt) e = omega (arith, explained_few tower text table list areas w k i ex)
@@ -89,7 +89,7 @@ module _ (tower text table list : List ℕ) (areas : List (List ℕ)) (long : lo
       let known = judgeable tower text table ex.tower ex.book ex.table ex.fit ex.laid in
       let found = broken_finding (judge ex.tower ex.book ex.table)
       (sym (check_call tower text table areas ex.tower ex.book ex.table ex.fit ex.laid long)
-      ∙ check_only tower text table areas (Check.NotGood Broken) ex.turned_down) in
+      ∙ check_only tower text table areas (Err (Rejected.NotGood Broken)) ex.turned_down) in
       let right = (turned_down ex.tower ex.book ex.table known found).right in
       let follows : FollowsRuns ex.tower ex.table =
       record { is_table = known.is_table; start = right.a; steps = λ r low. (right.rows r low).c } in
@@ -111,16 +111,16 @@ module _ (tower text table list : List ℕ) (areas : List (List ℕ)) (long : lo
       }
 
   abbrev InList : WhyAnswer → List ℕ → Type 0
-  InList (Shows.Shown n k p) l = RunInList tower l n
-  InList Shows.Good l = Unit {0}
-  InList (Shows.NotGood q) l = Unit {0}
-  InList (Shows.Refused r) l = Unit {0}
+  InList (Ok (Some run)) l = RunInList tower l run.length
+  InList (Ok None) l = Unit {0}
+  InList (Err (Rejected.NotGood q)) l = Unit {0}
+  InList (Err (Rejected.Refused r)) l = Unit {0}
 
   in_list : (x : WhyAnswer) (l : List ℕ) → Right x l → InList x l
   unfolding own_answer
-  in_list _ _ (why_own Check.Good right other) = tt
-  in_list _ _ (why_own (Check.NotGood q) right other) = tt
-  in_list _ _ (why_own (Check.Refused r) right other) = tt
+  in_list _ _ (why_own (Ok tt) right other) = tt
+  in_list _ _ (why_own (Err (Rejected.NotGood q)) right other) = tt
+  in_list _ _ (why_own (Err (Rejected.Refused r)) right other) = tt
   in_list _ _ (why_room w k i ex lt) = tt
   in_list _ _ (why_shown w k i ex le) = shown_in_list w k i ex le
 
@@ -130,7 +130,7 @@ module _ (tower text table list : List ℕ) (areas : List (List ℕ)) (long : lo
   abbrev after : List ℕ
   after = (why_outcome tower text table list areas).list
 
-  begins : (s : Shown) → why_file tower text table 1000 ≡ give (shows s) → take (length s.run) after ≡ s.run
+  begins : (s : Shown) → why_file tower text table 1000 ≡ Ok (shows s) → take (length s.run) after ≡ s.run
   unfolding why_list
   begins s e =
       let holds : after ≡ s.run ++ drop (length s.run) list =
@@ -160,5 +160,5 @@ show_way r tower text table list a b c d e f after a' b' c' d' e' f' explains si
 -- ---- tell
 
 pub told_run : (answer : WhyAnswer) (n line place : ℕ) (tower text table list : List ℕ) → ShownFiles answer tower text table list
-    → answer ≡ Shows.Shown n line place → RunInList tower list n
+    → answer ≡ run_shown n line place → RunInList tower list n
 told_run answer n line place tower text table list shown e = shown.in_list n line place e

@@ -8,9 +8,8 @@ ghost use Rattle.std.specs.Prelude.{◌<◌};
 ghost use Rattle.program_run.specs.Walking.{RunInList, OnRun};
 ghost use Rattle.why_not.specs.Files.{ShownFiles};
 
-use base::WhyAnswer;
+use base::{Rejection, WhyAnswer};
 use logic::Position;
-use program_files::Contents;
 use program_run::Point;
 use std::env::Env;
 use std::fs::Files;
@@ -102,11 +101,7 @@ fn tell<R: Print + Eprint>(
     requires { ShownFiles answer tower_bytes.now text.now table_bytes.now list.now }
 {
     match answer {
-        WhyAnswer::Shown {
-            length,
-            line,
-            position,
-        } => {
+        Ok(Some(shown)) => {
             tell_run(
                 rt,
                 book,
@@ -114,18 +109,18 @@ fn tell<R: Print + Eprint>(
                 tower_bytes,
                 text,
                 list,
-                length,
-                line,
-                Position(position),
+                shown.length,
+                shown.line,
+                Position(shown.position),
             );
         }
-        WhyAnswer::Good => {
+        Ok(None) => {
             program_files::print(rt, b"good\n");
         }
-        WhyAnswer::NotGood(reason) => {
+        Err(Rejection::NotGood(reason)) => {
             words_refusal::not_good(rt, reason, table, tower_bytes, table_bytes);
         }
-        WhyAnswer::Refused(why) => {
+        Err(Rejection::Refused(why)) => {
             words_refusal::refuse(rt, why, tower, book, table, tower_bytes, text, table_bytes);
         }
     }
@@ -183,8 +178,8 @@ fn show_from<R: Files + Print + Eprint>(
     book: &[u8],
     table: &[u8],
 ) {
-    let mut table_bytes = [0u8; program_limits::TABLE];
-    let Contents::Bytes(n) = program_files::read_file(rt, table, &mut table_bytes) else {
+    let mut table_area = [0u8; program_limits::TABLE];
+    let Some(table_bytes) = program_files::read_file(rt, table, &mut table_area) else {
         return;
     };
     let mut list = [0u8; LONGEST_RUN];
@@ -195,39 +190,39 @@ fn show_from<R: Files + Print + Eprint>(
         table,
         tower_bytes,
         text,
-        &table_bytes[..n],
+        table_bytes,
         &mut list,
     );
 }
 
 // Reads the tower and the book first.
 fn run<R: Files + Print + Eprint>(rt: &R, tower: &[u8], book: &[u8], table: &[u8]) {
-    let mut tower_bytes = [0u8; program_limits::TOWER];
-    let Contents::Bytes(t) = program_files::read_file(rt, tower, &mut tower_bytes) else {
+    let mut tower_area = [0u8; program_limits::TOWER];
+    let Some(tower_bytes) = program_files::read_file(rt, tower, &mut tower_area) else {
         return;
     };
-    let mut text = [0u8; program_limits::BOOK];
-    let Contents::Bytes(b) = program_files::read_file(rt, book, &mut text) else {
+    let mut text_area = [0u8; program_limits::BOOK];
+    let Some(text) = program_files::read_file(rt, book, &mut text_area) else {
         return;
     };
-    show_from(rt, &tower_bytes[..t], &text[..b], tower, book, table);
+    show_from(rt, tower_bytes, text, tower, book, table);
 }
 
 // The names are the arguments.
 fn run_named<R: Env + Files + Print + Eprint>(rt: &R) {
-    let mut tower = [0u8; 4096];
-    let Contents::Bytes(t) = program_files::argument(rt, 1, b"TOWER", &mut tower) else {
+    let mut tower_area = [0u8; 4096];
+    let Some(tower) = program_files::argument(rt, 1, b"TOWER", &mut tower_area) else {
         return;
     };
-    let mut book = [0u8; 4096];
-    let Contents::Bytes(b) = program_files::argument(rt, 2, b"BOOK", &mut book) else {
+    let mut book_area = [0u8; 4096];
+    let Some(book) = program_files::argument(rt, 2, b"BOOK", &mut book_area) else {
         return;
     };
-    let mut table = [0u8; 4096];
-    let Contents::Bytes(n) = program_files::argument(rt, 3, b"TABLE", &mut table) else {
+    let mut table_area = [0u8; 4096];
+    let Some(table) = program_files::argument(rt, 3, b"TABLE", &mut table_area) else {
         return;
     };
-    run(rt, &tower[..t], &book[..b], &table[..n]);
+    run(rt, tower, book, table);
 }
 
 fn main(rt: HostRuntime) {
@@ -240,5 +235,5 @@ fn main(rt: HostRuntime) {
         run_named(&rt);
         return;
     }
-    program_saying::say(&rt, b"usage: why_not [TOWER BOOK TABLE]\n");
+    program_saying::say(&rt, "usage: why_not [TOWER BOOK TABLE]\n");
 }

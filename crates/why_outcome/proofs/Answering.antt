@@ -9,16 +9,15 @@ use lib.Dec.{ltb, eqb}
 use borrow.Author.Tests.{ltb-true, ltb-false, lt-ltb, le-ltb}
 use Rattle.base.specs.Lists.{some_of}
 use Rattle.base.specs.Bytes.{long_enough, cleared}
-use Rattle.base.specs.Answers.{refusal_said, verdict_said, why_said, Answer, refuse, give}
+use Rattle.base.specs.Answers.{refusal_said, verdict_said, why_said, Answer}
+use Rattle.std.specs.Prelude.{Err, Ok}
 use Rattle.base.specs.declared.Reason.{Reason}
 use Rattle.base.specs.declared.Reason.TheVariants.{Broken}
 use Rattle.base.specs.declared.Reason.TheVariants as Why
 use Rattle.base.specs.declared.Refusal.{Refusal}
 use Rattle.base.specs.declared.Refusal.TheVariants.{Area, Output}
-use Rattle.base.specs.declared.Verdict.{Verdict}
-use Rattle.base.specs.declared.Verdict.TheVariants as Check
-use Rattle.base.specs.declared.WhyAnswer.{WhyAnswer}
-use Rattle.base.specs.declared.WhyAnswer.TheVariants as Shows
+use Rattle.base.specs.Answers.{Verdict, WhyAnswer, run_shown}
+use Rattle.base.specs.declared.Rejection.TheVariants as Rejected
 use Rattle.base.proofs.Lists.{whether, false_by, true_by, some_append}
 use Rattle.base.proofs.Answers.{if_on, if_refuses, then_on}
 use Rattle.logic.specs.Tower.{Tower, Listed}
@@ -69,9 +68,9 @@ pub record FailsAtE (tower : Tower) (book : Book) (table : Table) : Type 0 where
 
 module _ (tower : Tower) (book : Book) (table : Table) where
   abbrev Told : Answer Finding → Type 0
-  Told (refuse r) = Unit {0}
-  Told (give good_table) = Unit {0}
-  Told (give (not_good q)) = IfBroken (FailsAtE tower book table) q
+  Told (Err r) = Unit {0}
+  Told (Ok good_table) = Unit {0}
+  Told (Ok (not_good q)) = IfBroken (FailsAtE tower book table) q
 
   of_rows : (q : Reason) → FirstOfRows tower table q → IfBroken (FailsAtE tower book table) q
   of_rows _ (reason_a wrong) = tt
@@ -87,8 +86,8 @@ module _ (tower : Tower) (book : Book) (table : Table) where
   told _ (good is few narrow) = tt
 
   -- Where it says 14 e, this is known.
-  pub turned_down : Judgeable tower book table → judge tower book table ≡ give (not_good Broken) → FailsAtE tower book table
-  turned_down known e = told (give (not_good Broken)) (subst (FirstReason tower book table) e (judged tower book table known))
+  pub turned_down : Judgeable tower book table → judge tower book table ≡ Ok (not_good Broken) → FailsAtE tower book table
+  turned_down known e = told (Ok (not_good Broken)) (subst (FirstReason tower book table) e (judged tower book table known))
 
   module _ (known : Judgeable tower book table) (down : FailsAtE tower book table) where
     pub follows : FollowsRuns tower table
@@ -132,7 +131,7 @@ module _ (tower : Tower) (book : Book) (table : Table) where
 -- ---- the files
 
 module _ (tower_file text file : List ℕ) (tower : Tower) (book : Book) (table : Table) (fit : FitFiles tower_file text tower book)
-    (laid : FitTable tower file table) (e : judge tower book table ≡ give (not_good Broken)) where
+    (laid : FitTable tower file table) (e : judge tower book table ≡ Ok (not_good Broken)) where
   abbrev run : List ℕ
   run = shown_run tower book table
 
@@ -167,11 +166,11 @@ module _ (tower_file text file : List ℕ) (tower : Tower) (book : Book) (table 
   unfolding why_file FitTable why_behind
   files_why room = then_on _ fit.tower_read ∙ then_on _ fit.book_read ∙ then_on _ laid ∙ then_on _ e
 
-  pub no_room : (room : ℕ) → room < length run → shown_in room shown ≡ refuse Output
+  pub no_room : (room : ℕ) → room < length run → shown_in room shown ≡ Err Output
   unfolding shown_in shown_of
   no_room room short = if_refuses Output _ (lt-ltb room (length run) short)
 
-  pub with_room : (room : ℕ) → length run ≤ room → shown_in room shown ≡ give (shows shown)
+  pub with_room : (room : ℕ) → length run ≤ room → shown_in room shown ≡ Ok (shows shown)
   unfolding shown_in shown_of
   with_room room long = if_on Output _ (le-ltb room (length run) long)
 
@@ -188,10 +187,10 @@ module _ (tower_file text file : List ℕ) (tower : Tower) (book : Book) (table 
 -- ---- the right answer
 
 -- Only 14 e is 14 e.
-not_area : Check.Refused Area ≡ Check.NotGood Broken → ⊥
+not_area : ◌≡◌ {A = Verdict} (Err (Rejected.Refused Area)) (Err (Rejected.NotGood Broken)) → ⊥
 not_area e = let z : ◌≡◌ {A = ℕ} 0 1 = cc in omega arith
 
-earlier_not : (q : Reason) → Earlier q → Check.NotGood q ≡ Check.NotGood Broken → ⊥
+earlier_not : (q : Reason) → Earlier q → ◌≡◌ {A = Verdict} (Err (Rejected.NotGood q)) (Err (Rejected.NotGood Broken)) → ⊥
 unfolding Earlier
 earlier_not Why.Start h e = let z : ◌≡◌ {A = ℕ} 0 1 = cc in omega arith
 earlier_not (Why.Withheld r) h e = let z : ◌≡◌ {A = ℕ} 0 1 = cc in omega arith
@@ -199,14 +198,14 @@ earlier_not (Why.WrongStep r) h e = let z : ◌≡◌ {A = ℕ} 0 1 = cc in omeg
 earlier_not (Why.Stopped r) h e = let z : ◌≡◌ {A = ℕ} 0 1 = cc in omega arith
 earlier_not Broken h e = h
 
-pub broken_finding : (o : Answer Finding) → verdict o ≡ Check.NotGood Broken → o ≡ give (not_good Broken)
+pub broken_finding : (o : Answer Finding) → verdict o ≡ Err (Rejected.NotGood Broken) → o ≡ Ok (not_good Broken)
 unfolding verdict
-broken_finding (refuse r) e = let z : ◌≡◌ {A = ℕ} 0 1 = cc in absurd (omega arith)
-broken_finding (give good_table) e = let z : ◌≡◌ {A = ℕ} 0 1 = cc in absurd (omega arith)
-broken_finding (give (not_good q)) e = let same : q ≡ Broken = cc in ap (λ r. give (not_good r)) same
+broken_finding (Err r) e = let z : ◌≡◌ {A = ℕ} 0 1 = cc in absurd (omega arith)
+broken_finding (Ok good_table) e = let z : ◌≡◌ {A = ℕ} 0 1 = cc in absurd (omega arith)
+broken_finding (Ok (not_good q)) e = let same : q ≡ Broken = cc in ap (λ r. Ok (not_good r)) same
 
 -- The checker's own answer, where it is not 14 e.
-pub own_only : (tower_file text file list : List ℕ) (v : Verdict) → (v ≡ Check.NotGood Broken → ⊥) → verdict (checked_file tower_file text file) ≡ v
+pub own_only : (tower_file text file list : List ℕ) (v : Verdict) → (v ≡ Err (Rejected.NotGood Broken) → ⊥) → verdict (checked_file tower_file text file) ≡ v
     → (why_answer (why_file tower_file text file (length list)) ≡ own_answer v) × (why_list (why_file tower_file text file (length list)) list ≡ list)
 unfolding why_answer why_list verdict own_answer
 own_only tower_file text file list v other e =
@@ -228,7 +227,7 @@ module _ (tower_file text file list : List ℕ) (areas : List (List ℕ)) where
   why_enough e = (rw e refl, rw e refl, rw e refl)
 
   pub why_short : long_enough check_areas areas ≡ false
-      → ((why_outcome tower_file text file list areas).answer ≡ Shows.Refused Area)
+      → ((why_outcome tower_file text file list areas).answer ≡ Err (Rejected.Refused Area))
       × ((why_outcome tower_file text file list areas).list ≡ list) × ((why_outcome tower_file text file list areas).areas ≡ areas)
   unfolding why_outcome why_answer
   why_short e = (rw e refl, rw e refl, rw e refl)
@@ -245,13 +244,13 @@ module _ (tower_file text file list : List ℕ) (areas : List (List ℕ)) where
   right_enough enough =
       why_by tower_file text file (length list)
       (λ o w. checked_file tower_file text file ≡ o → Right (why_answer w) (why_list w list))
-      (λ r e. why_own (Check.Refused r) (checker_right enough (refuse r) e) (λ f. let z : ◌≡◌ {A = ℕ} 0 1 = cc in omega arith))
-      (λ e. why_own Check.Good (checker_right enough (give good_table) e) (λ f. let z : ◌≡◌ {A = ℕ} 0 1 = cc in omega arith))
-      (λ q earlier e. why_own (Check.NotGood q) (checker_right enough (give (not_good q)) e) (earlier_not q earlier))
+      (λ r e. why_own (Err (Rejected.Refused r)) (checker_right enough (Err r) e) (λ f. let z : ◌≡◌ {A = ℕ} 0 1 = cc in omega arith))
+      (λ e. why_own (Ok tt) (checker_right enough (Ok good_table) e) (λ f. let z : ◌≡◌ {A = ℕ} 0 1 = cc in omega arith))
+      (λ q earlier e. why_own (Err (Rejected.NotGood q)) (checker_right enough (Ok (not_good q)) e) (earlier_not q earlier))
       (λ tower book table fit laid e f. by tower book table fit laid e) refl
     where
       by : (tower : Tower) (book : Book) (table : Table) → FitFiles tower_file text tower book → FitTable tower file table
-          → judge tower book table ≡ give (not_good Broken)
+          → judge tower book table ≡ Ok (not_good Broken)
           → Right (why_answer (shown_in (length list) (shown_of tower book (shown_run tower book table))))
           (why_list (shown_in (length list) (shown_of tower book (shown_run tower book table))) list)
       by tower book table fit laid e =
@@ -278,23 +277,23 @@ module _ (tower_file text file list : List ℕ) (areas : List (List ℕ)) where
       (λ short.
       let (a, l, z) = why_short short in
       subst (λ x. Right x (why_outcome tower_file text file list areas).list) (sym a)
-      (subst (Right (Shows.Refused Area)) (sym l)
-      (why_own (Check.Refused Area)
+      (subst (Right (Err (Rejected.Refused Area))) (sym l)
+      (why_own (Err (Rejected.Refused Area))
       (subst (RightCheck tower_file text file areas) (check_short tower_file text file areas short).0 (check_right tower_file text file areas)) not_area)))
 
   -- the areas are long enough where the checker says 14 e
-  told_enough : RightCheck tower_file text file areas (Check.NotGood Broken) → long_enough check_areas areas ≡ true
+  told_enough : RightCheck tower_file text file areas (Err (Rejected.NotGood Broken)) → long_enough check_areas areas ≡ true
   told_enough right =
       true_by (long_enough check_areas areas)
-      (λ short. not_area (sym (check_short tower_file text file areas short).0 ∙ check_only tower_file text file areas (Check.NotGood Broken) right))
+      (λ short. not_area (sym (check_short tower_file text file areas short).0 ∙ check_only tower_file text file areas (Err (Rejected.NotGood Broken)) right))
 
   -- and then its finding is this
   told_finding : (w : List ℕ) (k : ℕ) (i : Position) (ex : Explained tower_file text file areas w k i)
-      → judge ex.tower ex.book ex.table ≡ give (not_good Broken)
+      → judge ex.tower ex.book ex.table ≡ Ok (not_good Broken)
   told_finding w k i ex =
       broken_finding (judge ex.tower ex.book ex.table)
       (sym (check_call tower_file text file areas ex.tower ex.book ex.table ex.fit ex.laid (told_enough ex.turned_down))
-      ∙ check_only tower_file text file areas (Check.NotGood Broken) ex.turned_down)
+      ∙ check_only tower_file text file areas (Err (Rejected.NotGood Broken)) ex.turned_down)
 
   -- What is shown has at most 1,000 actions.
   pub explained_few : (w : List ℕ) (k : ℕ) (i : Position) → Explained tower_file text file areas w k i → length w ≤ most_pairs
@@ -339,16 +338,16 @@ module _ (tower_file text file list : List ℕ) (areas : List (List ℕ)) where
         b ∙ ap (λ o. why_list o list) file_is ∙ ap (λ v. v ++ drop (length v) list) (sym same),
       )
     where
-      shown_same : (n m k l p q : ℕ) → n ≡ m → k ≡ l → p ≡ q → Shows.Shown n k p ≡ Shows.Shown m l q
+      shown_same : (n m k l p q : ℕ) → n ≡ m → k ≡ l → p ≡ q → run_shown n k p ≡ run_shown m l q
       shown_same n m k l p q e f g = cc
 
   -- ---- which numbers, and the areas
 
   said_own : (v : Verdict) → why_said (own_answer v) ≡ verdict_said v
   unfolding why_said own_answer verdict_said
-  said_own Check.Good = refl
-  said_own (Check.NotGood reason) = refl
-  said_own (Check.Refused r) = refl
+  said_own (Ok tt) = refl
+  said_own (Err (Rejected.NotGood reason)) = refl
+  said_own (Err (Rejected.Refused r)) = refl
 
   with_16 : (number : ℕ) → some_of (eqb number) check_numbers ≡ true → some_of (eqb number) why_numbers ≡ true
   unfolding why_numbers
@@ -368,20 +367,20 @@ module _ (tower_file text file list : List ℕ) (areas : List (List ℕ)) where
   pub why_refuses : RefusesWith why_numbers (why_said (why_outcome tower_file text file list areas).answer)
   why_refuses = numbers _ _ why_right
 
-  area_only : (x : WhyAnswer) (l : List ℕ) → Right x l → x ≡ Shows.Refused Area → long_enough check_areas areas ≡ false
+  area_only : (x : WhyAnswer) (l : List ℕ) → Right x l → x ≡ Err (Rejected.Refused Area) → long_enough check_areas areas ≡ false
   unfolding own_answer
   area_only _ _ (why_own v right other) e =
       (check_areas_right tower_file text file areas).exactly.0 (check_only tower_file text file areas v right ∙ own_area v e)
     where
-      own_area : (v : Verdict) → own_answer v ≡ Shows.Refused Area → v ≡ Check.Refused Area
-      own_area Check.Good e = let z : ◌≡◌ {A = ℕ} 0 1 = cc in absurd (omega arith)
-      own_area (Check.NotGood reason) e = let z : ◌≡◌ {A = ℕ} 0 1 = cc in absurd (omega arith)
-      own_area (Check.Refused r) e = let same : r ≡ Area = cc in ap Check.Refused same
+      own_area : (v : Verdict) → own_answer v ≡ Err (Rejected.Refused Area) → v ≡ Err (Rejected.Refused Area)
+      own_area (Ok tt) e = let z : ◌≡◌ {A = ℕ} 0 1 = cc in absurd (omega arith)
+      own_area (Err (Rejected.NotGood reason)) e = let z : ◌≡◌ {A = ℕ} 0 1 = cc in absurd (omega arith)
+      own_area (Err (Rejected.Refused r)) e = let same : r ≡ Area = cc in ap (λ r. Err (Rejected.Refused r)) same
   area_only _ _ (why_room w k i ex lt) e = let z : ◌≡◌ {A = ℕ} 0 1 = cc in absurd (omega arith)
   area_only _ _ (why_shown w k i ex le) e = let z : ◌≡◌ {A = ℕ} 0 1 = cc in absurd (omega arith)
 
   -- 15 is answered exactly if an area is too short, and then every area is as it was; else every area is zero.
-  pub why_areas_right : AreasRight check_areas areas ((why_outcome tower_file text file list areas).answer ≡ Shows.Refused Area)
+  pub why_areas_right : AreasRight check_areas areas ((why_outcome tower_file text file list areas).answer ≡ Err (Rejected.Refused Area))
       (why_outcome tower_file text file list areas).areas
   why_areas_right =
       record {
@@ -390,12 +389,12 @@ module _ (tower_file text file list : List ℕ) (areas : List (List ℕ)) where
         zero = λ other. whether (long_enough check_areas areas) (λ enough. (why_enough enough).2) (λ short. absurd (other (why_short short).0));
       }
 
-  refused_list : (x : WhyAnswer) (l : List ℕ) → Right x l → (r : Refusal) → x ≡ Shows.Refused r → l ≡ list
+  refused_list : (x : WhyAnswer) (l : List ℕ) → Right x l → (r : Refusal) → x ≡ Err (Rejected.Refused r) → l ≡ list
   refused_list _ _ (why_own v right other) r e = refl
   refused_list _ _ (why_room w k i ex lt) r e = refl
   refused_list _ _ (why_shown w k i ex le) r e = let z : ◌≡◌ {A = ℕ} 0 1 = cc in absurd (omega arith)
 
   -- A refusal changes no byte of the list.
-  pub why_keeps_list : (r : Refusal) → (why_outcome tower_file text file list areas).answer ≡ Shows.Refused r
+  pub why_keeps_list : (r : Refusal) → (why_outcome tower_file text file list areas).answer ≡ Err (Rejected.Refused r)
       → (why_outcome tower_file text file list areas).list ≡ list
   why_keeps_list r e = refused_list _ _ why_right r e

@@ -4,7 +4,7 @@ use Prim.Native.Nat.{ℕ, ◌≤◌, ◌<◌}
 use mathlib.Core.Path.{◌≡◌, refl, sym, ap, subst, ◌∙◌}
 use mathlib.Core.Logic.{◌⊎◌, inl, inr}
 use mathlib.Core.Bool.{Bool, true, false, not}
-use mathlib.Core.Option.{Option, none, some}
+use Rattle.std.specs.Prelude.{Option, None, Some}
 use mathlib.Core.List.{List, [], ◌∷◌, ◌++◌}
 use native.Mathlib.Omega.{arith}
 use lib.ListN.{length, length-append}
@@ -60,7 +60,7 @@ sooner_than u v w (inr l) s = sooner_trans u v w l s
 
 -- A broken step is by an enabled action, and leads to no pair;
 pub broken_step_out : (tower : Tower) (book : Book) (v : Pair) (a : ℕ) → broken_step tower book v a ≡ true
-    → (y : ℕ) × (tower.target v.state a ≡ some y) × (pair_step tower book v a ≡ none)
+    → (y : ℕ) × (tower.target v.state a ≡ Some y) × (pair_step tower book v a ≡ None)
 unfolding broken_step
 broken_step_out tower book v a e =
     let there = and_left (is_there (tower.target v.state a)) (not (is_there (pair_step tower book v a))) e in
@@ -69,7 +69,7 @@ broken_step_out tower book v a e =
     (y, to, not_there (pair_step tower book v a) (not-true (is_there (pair_step tower book v a)) gone))
 
 -- and every such step is broken.
-pub broken_step_in : (tower : Tower) (book : Book) (v : Pair) (a y : ℕ) → tower.target v.state a ≡ some y → pair_step tower book v a ≡ none
+pub broken_step_in : (tower : Tower) (book : Book) (v : Pair) (a y : ℕ) → tower.target v.state a ≡ Some y → pair_step tower book v a ≡ None
     → broken_step tower book v a ≡ true
 unfolding broken_step
 broken_step_in tower book v a y to gone = and_both (is_there_in to) (not_in (there_not gone))
@@ -100,23 +100,23 @@ module _ (tower : Tower) (book : Book) (table : Table) (turned : SizedRight towe
   turned_few = turned.few
 
   -- From the first pair on.
-  first_lead : (u : Pair) (w : List ℕ) → leads (pair_step rows book) (first_pair rows book) w ≡ some u
-      → leads (tried_step tower book) (first_pair tower book) w ≡ some (under u)
+  first_lead : (u : Pair) (w : List ℕ) → leads (pair_step rows book) (first_pair rows book) w ≡ Some u
+      → leads (tried_step tower book) (first_pair tower book) w ≡ Some (under u)
   unfolding first_pair rows_tower GoodStart
   first_lead u w e =
       ap (λ x. leads (tried_step tower book) (record { state = x; pending = first_set book }) w) (sym follows.start)
       ∙ pairs_lead tower book table follows (first_pair rows book) u w e
 
   -- The table leads to their rows.
-  first_row : (u : Pair) (w : List ℕ) → leads (pair_step rows book) (first_pair rows book) w ≡ some u → leads (move table) 0 w ≡ some u.state
+  first_row : (u : Pair) (w : List ℕ) → leads (pair_step rows book) (first_pair rows book) w ≡ Some u → leads (move table) 0 w ≡ Some u.state
   unfolding first_pair rows_tower
   first_row u w e = pair_leads_state rows book (first_pair rows book) u w e
 
   -- ---- From a broken step to a broken run
 
   -- A run to a pair that is not over_full, with a step that is broken there, is broken.
-  step_broken : (run : List ℕ) (v : Pair) (a t : ℕ) → leads (pair_step rows book) (first_pair rows book) run ≡ some v
-      → over_full rows book v ≡ false → move table v.state a ≡ some t → pair_step rows book v a ≡ none
+  step_broken : (run : List ℕ) (v : Pair) (a t : ℕ) → leads (pair_step rows book) (first_pair rows book) run ≡ Some v
+      → over_full rows book v ≡ false → move table v.state a ≡ Some t → pair_step rows book v a ≡ None
       → Unbroken tower book (run ++ (a ∷ [])) → ⊥
   unfolding first_pair
   step_broken run v a t led spare to gone unbroken =
@@ -134,7 +134,7 @@ module _ (tower : Tower) (book : Book) (table : Table) (turned : SizedRight towe
       u : Pair
       u = pair_number rows book ends.place
 
-      led : leads (pair_step rows book) (first_pair rows book) ends.run ≡ some u
+      led : leads (pair_step rows book) (first_pair rows book) ends.run ≡ Some u
       led = leads_pairs rows book turned_listed turned_few ends.run ends.place ends.led
 
       spare : over_full rows book u ≡ false
@@ -142,7 +142,7 @@ module _ (tower : Tower) (book : Book) (table : Table) (turned : SizedRight towe
           some_none (over_full rows book) turned.narrow
           (number_mem rows book ends.place (led_number rows book turned_listed turned_few ends.run ends.place ends.led))
 
-      by : (t : ℕ) × (move table u.state ends.action ≡ some t) × (pair_step rows book u ends.action ≡ none)
+      by : (t : ℕ) × (move table u.state ends.action ≡ Some t) × (pair_step rows book u ends.action ≡ None)
           → AllowedBroken tower book table v
       by (t, to, gone) =
           record {
@@ -161,15 +161,15 @@ module _ (tower : Tower) (book : Book) (table : Table) (turned : SizedRight towe
     action : ℕ
     place : ℕ
     is : w ≡ part ++ (action ∷ rest)
-    led : leads (go rows book) i part ≡ some place
+    led : leads (go rows book) i part ≡ Some place
     broken : number_breaks rows book place action ≡ true
 
   -- Numbers lead along all of the run, or along a part up to a broken step.
   abbrev Walked : ℕ → List ℕ → Type 0
-  Walked i w = ((j : ℕ) × (leads (go rows book) i w ≡ some j)) ⊎ PartBroken i w
+  Walked i w = ((j : ℕ) × (leads (go rows book) i w ≡ Some j)) ⊎ PartBroken i w
 
   -- It is so behind a step.
-  walked_on : (a : ℕ) (w : List ℕ) (i k : ℕ) → go rows book i a ≡ some k → Walked k w → Walked i (a ∷ w)
+  walked_on : (a : ℕ) (w : List ℕ) (i k : ℕ) → go rows book i a ≡ Some k → Walked k w → Walked i (a ∷ w)
   walked_on a w i k step (inl (j, e)) = inl (j, leads_in (go rows book) i k j a w step e)
   walked_on a w i k step (inr p) =
       inr (record {
@@ -183,7 +183,7 @@ module _ (tower : Tower) (book : Book) (table : Table) (turned : SizedRight towe
       })
 
   -- It is so of every allowed run.
-  walked : (w : List ℕ) (i s : ℕ) → i < count → leads (move table) (pair_number rows book i).state w ≡ some s → Walked i w
+  walked : (w : List ℕ) (i s : ℕ) → i < count → leads (move table) (pair_number rows book i).state w ≡ Some s → Walked i w
   unfolding number_breaks rows_tower
   walked [] i s l e = inl (i, leads_nil (go rows book) i)
   walked (a ∷ w) i s l e =
@@ -205,11 +205,11 @@ module _ (tower : Tower) (book : Book) (table : Table) (turned : SizedRight towe
       let k = number_of rows book z in
       let same : z ≡ pair_number rows book k = number_is rows book z m in
       let at : y ≡ (pair_number rows book k).state = some_one to (pair_step_out rows book v z a step).0 ∙ ap (λ (x : Pair). x.state) same in
-      walked_on a w i k (go_to rows book i a k (step ∙ ap {B = Option Pair} some same) l (number_inside rows book z m))
+      walked_on a w i k (go_to rows book i a k (step ∙ ap {B = Option Pair} Some same) l (number_inside rows book z m))
       (walked w k s (number_inside rows book z m) (ap (λ (x : ℕ). leads (move table) x w) (sym at) ∙ on)))
 
   -- Where numbers lead along a run it is unbroken.
-  walked_unbroken : (w : List ℕ) (j : ℕ) → leads (go rows book) 0 w ≡ some j → Unbroken tower book w
+  walked_unbroken : (w : List ℕ) (j : ℕ) → leads (go rows book) 0 w ≡ Some j → Unbroken tower book w
   walked_unbroken w j e =
       let v = pair_number rows book j in
       tried_unbroken tower book turned.known.fit w (under v) (first_lead v w (leads_pairs rows book turned_listed turned_few w j e))
@@ -255,7 +255,7 @@ module _ (tower : Tower) (book : Book) (table : Table) (turned : SizedRight towe
       (i, a, l, k, ap (λ (x : Pair). broken_step rows book x a) same ∙ f)
 
   -- a number is led to by no more actions than itself,
-  short_way : (i : ℕ) → i < count → (w : List ℕ) × (leads (go rows book) 0 w ≡ some i) × (length w ≤ i)
+  short_way : (i : ℕ) → i < count → (w : List ℕ) × (leads (go rows book) 0 w ≡ Some i) × (length w ≤ i)
   short_way i l =
       let (from, action, numbered) = pairs_numbered rows book turned_listed turned_few in
       let (w, way, short) = way_there numbered i l in

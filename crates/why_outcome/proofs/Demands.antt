@@ -12,10 +12,9 @@ use Rattle.base.specs.Answers.{why_said}
 use Rattle.base.specs.declared.Reason.TheVariants.{Broken}
 use Rattle.base.specs.declared.Refusal.{Refusal}
 use Rattle.base.specs.declared.Refusal.TheVariants.{Area, Output}
-use Rattle.base.specs.declared.Verdict.{Verdict}
-use Rattle.base.specs.declared.Verdict.TheVariants as Check
-use Rattle.base.specs.declared.WhyAnswer.{WhyAnswer}
-use Rattle.base.specs.declared.WhyAnswer.TheVariants as Shows
+use Rattle.base.specs.Answers.{Verdict, WhyAnswer, run_shown}
+use Rattle.std.specs.Prelude.{Some, Ok, Err, None}
+use Rattle.base.specs.declared.Rejection.TheVariants as Rejected
 use Rattle.logic.specs.Why.{Sooner}
 use Rattle.logic.specs.declared.Position.{Position}
 use Rattle.alternatives.specs.Pairs.{most_pairs}
@@ -47,7 +46,7 @@ module _ (tower_file text file list : List ℕ) (areas : List (List ℕ)) where
   )
 
   -- 15 is answered exactly if an area is too short, and then every area is as it was. In every other case every area is zero over its whole length.
-  pub why_areas_right : AreasRight check_areas areas ((why_outcome tower_file text file list areas).answer ≡ Shows.Refused Area)
+  pub why_areas_right : AreasRight check_areas areas ((why_outcome tower_file text file list areas).answer ≡ Err (Rejected.Refused Area))
       (why_outcome tower_file text file list areas).areas
   why_areas_right = Answering.why_areas_right tower_file text file list areas
 
@@ -56,13 +55,13 @@ module _ (tower_file text file list : List ℕ) (areas : List (List ℕ)) where
   why_refuses = Answering.why_refuses tower_file text file list areas
 
   -- 'A refusal changes no byte of the output'.
-  pub why_keeps_list : (r : Refusal) → (why_outcome tower_file text file list areas).answer ≡ Shows.Refused r
+  pub why_keeps_list : (r : Refusal) → (why_outcome tower_file text file list areas).answer ≡ Err (Rejected.Refused r)
       → (why_outcome tower_file text file list areas).list ≡ list
   why_keeps_list r e = Answering.why_keeps_list tower_file text file list areas r e
 
   -- ---- 02, item 4: 'On any other outcome the tool gives the checker's own answer.' The list is then as it was.
 
-  pub own_else : (v : Verdict) → (check_outcome tower_file text file areas).answer ≡ v → (v ≡ Check.NotGood Broken → ⊥)
+  pub own_else : (v : Verdict) → (check_outcome tower_file text file areas).answer ≡ v → (v ≡ Err (Rejected.NotGood Broken) → ⊥)
       → ((why_outcome tower_file text file list areas).answer ≡ own_answer v) × ((why_outcome tower_file text file list areas).list ≡ list)
   own_else v e other =
       Answering.why_only tower_file text file list areas (own_answer v) list
@@ -99,33 +98,33 @@ module _ (tower_file text file list : List ℕ) (areas : List (List ℕ)) where
       }
 
   abbrev ShownBy : WhyAnswer → List ℕ → Type 0
-  ShownBy (Shows.Shown n k p) l = ShownWell tower_file text file list l n k p
-  ShownBy Shows.Good l = Unit {0}
-  ShownBy (Shows.NotGood reason) l = Unit {0}
-  ShownBy (Shows.Refused r) l = Unit {0}
+  ShownBy (Ok (Some run)) l = ShownWell tower_file text file list l run.length run.line run.position
+  ShownBy (Ok None) l = Unit {0}
+  ShownBy (Err (Rejected.NotGood reason)) l = Unit {0}
+  ShownBy (Err (Rejected.Refused r)) l = Unit {0}
 
   shown_by : (x : WhyAnswer) (l : List ℕ) → RightWhy tower_file text file list areas x l → ShownBy x l
   unfolding own_answer
-  shown_by _ _ (why_own Check.Good right other) = tt
-  shown_by _ _ (why_own (Check.NotGood reason) right other) = tt
-  shown_by _ _ (why_own (Check.Refused r) right other) = tt
+  shown_by _ _ (why_own (Ok tt) right other) = tt
+  shown_by _ _ (why_own (Err (Rejected.NotGood reason)) right other) = tt
+  shown_by _ _ (why_own (Err (Rejected.Refused r)) right other) = tt
   shown_by _ _ (why_room w k i ex lt) = tt
   shown_by _ _ (why_shown w k i ex le) = well w k i ex
 
-  pub shows_well : (n k p : ℕ) → (why_outcome tower_file text file list areas).answer ≡ Shows.Shown n k p
+  pub shows_well : (n k p : ℕ) → (why_outcome tower_file text file list areas).answer ≡ run_shown n k p
       → ShownWell tower_file text file list (why_outcome tower_file text file list areas).list n k p
   shows_well n k p e =
       subst (λ x. ShownBy x (why_outcome tower_file text file list areas).list) e (shown_by _ _ (Answering.why_right tower_file text file list areas))
 
   -- And so it is for every table that is turned down with 14 e: the run is shown, or the list is too short for it.
-  pub shown_or_room : (check_outcome tower_file text file areas).answer ≡ Check.NotGood Broken
-      → ((n k p : ℕ) × ((why_outcome tower_file text file list areas).answer ≡ Shows.Shown n k p))
-      ⊎ ((why_outcome tower_file text file list areas).answer ≡ Shows.Refused Output)
+  pub shown_or_room : (check_outcome tower_file text file areas).answer ≡ Err (Rejected.NotGood Broken)
+      → ((n k p : ℕ) × ((why_outcome tower_file text file list areas).answer ≡ run_shown n k p))
+      ⊎ ((why_outcome tower_file text file list areas).answer ≡ Err (Rejected.Refused Output))
   shown_or_room e = by _ _ (Answering.why_right tower_file text file list areas) refl
     where
       by : (x : WhyAnswer) (l : List ℕ) → RightWhy tower_file text file list areas x l → (why_outcome tower_file text file list areas).answer ≡ x
-          → ((n k p : ℕ) × ((why_outcome tower_file text file list areas).answer ≡ Shows.Shown n k p))
-          ⊎ ((why_outcome tower_file text file list areas).answer ≡ Shows.Refused Output)
+          → ((n k p : ℕ) × ((why_outcome tower_file text file list areas).answer ≡ run_shown n k p))
+          ⊎ ((why_outcome tower_file text file list areas).answer ≡ Err (Rejected.Refused Output))
       by _ _ (why_own v right other) f = absurd (other (sym (check_only tower_file text file areas v right) ∙ e))
       by _ _ (why_room w k i ex lt) f = inr f
       by _ _ (why_shown w k i ex le) f = inl (length w, k, i.0, f)

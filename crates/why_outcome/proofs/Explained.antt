@@ -2,7 +2,7 @@
 use Prim.Native.Nat.{ℕ, suc, ◌≤◌, ◌<◌}
 use mathlib.Core.Path.{◌≡◌, refl, ◌∙◌, ap, subst}
 use mathlib.Core.Logic.{◌↔◌, inl}
-use mathlib.Core.Option.{Option, none, some, get_or}
+use Rattle.std.specs.Prelude.{Option, None, Some, unwrap_or}
 use mathlib.Core.List.{List, [], ◌∷◌, ◌++◌}
 use native.Mathlib.Omega.{arith}
 use lib.ListN.{length, length-append}
@@ -39,17 +39,17 @@ module _ (tower : Tower) (book : Book) (table : Table) where
   )
 
   -- Where some allowed run of at most 1,000 actions is broken, what is shown is the soonest one.
-  pub shown_soonest : ((r s a : ℕ) → move table r a ≡ some s → a < tower.actions) → (v : List ℕ) → Kind v → length v ≤ most_pairs
+  pub shown_soonest : ((r s a : ℕ) → move table r a ≡ Some s → a < tower.actions) → (v : List ℕ) → Kind v → length v ≤ most_pairs
       → Soonest Kind (shown_run tower book table)
   unfolding shown_run
   shown_soonest inside v is few = go (first_run (move table) tower.actions 0 (judged_broken tower book) (suc most_pairs) 0) refl
     where
       go : (o : Option (List ℕ)) → first_run (move table) tower.actions 0 (judged_broken tower book) (suc most_pairs) 0 ≡ o
-          → Soonest Kind (get_or o [])
-      go none e =
+          → Soonest Kind (unwrap_or o [])
+      go None e =
           absurd (first_run_none (move table) tower.actions 0 (judged_broken tower book) inside (suc most_pairs) e v ((passing_iff v).1 is)
           (omega arith))
-      go (some w) e =
+      go (Some w) e =
           soonest_same (Passing (move table) 0 (judged_broken tower book)) Kind passing_iff w
           (first_run_right (move table) tower.actions 0 (judged_broken tower book) inside (suc most_pairs) w e)
 
@@ -108,8 +108,8 @@ module _ (tower : Tower) (book : Book) (table : Table) where
       shorter : length u < length w
       shorter = omega (arith, ap length e, length-append u v)
 
-      parts : (s : ℕ) → leads (move table) 0 w ≡ some s → (t : ℕ) × (leads (move table) 0 u ≡ some t)
-      parts s f = let (t, there, on) = append_out (move table) 0 s u v (subst (λ z. leads (move table) 0 z ≡ some s) e f) in (t, there)
+      parts : (s : ℕ) → leads (move table) 0 w ≡ Some s → (t : ℕ) × (leads (move table) 0 u ≡ Some t)
+      parts s f = let (t, there, on) = append_out (move table) 0 s u v (subst (λ z. leads (move table) 0 z ≡ Some s) e f) in (t, there)
 
-      led : (t : ℕ) × (leads (move table) 0 u ≡ some t)
+      led : (t : ℕ) × (leads (move table) 0 u ≡ Some t)
       led = parts first.is.allowed.0 first.is.allowed.1

@@ -4,8 +4,9 @@ use Prim.Native.Nat.{ℕ, zero, suc, ◌+◌, ◌≤◌, ◌<◌}
 use mathlib.Core.Path.{◌≡◌, refl, sym, ap, subst, ◌∙◌}
 use mathlib.Core.Logic.{◌⊎◌, inl, inr}
 use mathlib.Core.Bool.{Bool, true, false}
-use mathlib.Core.Option
-use mathlib.Core.Option.{Option, none, some, map-eq-some_iff}
+use Rattle.std.specs.Prelude.{option_map}
+use Rattle.std.specs.Prelude.{Option, None, Some}
+use Rattle.base.proofs.Options.{map-eq-some_iff}
 use mathlib.Core.List.Memᴰ
 use mathlib.Core.List.{List, [], ◌∷◌, ◌++◌, map, Memᴰ}
 use native.Mathlib.Omega.{arith}
@@ -35,17 +36,17 @@ use Rattle.outcome.proofs.Counted.{pairs_reached, pairs_all}
 record MetAt {X : Type 0} (place : X → ℕ) (os : List (Option X)) (j a : ℕ) : Type 0 where
   value : X
   inside : a < length os
-  there : get_or os a none ≡ some value
+  there : get_or os a None ≡ Some value
   is : place value ≡ j
-  first : (b : ℕ) (x : X) → get_or os b none ≡ some x → j ≤ place x → a ≤ b
+  first : (b : ℕ) (x : X) → get_or os b None ≡ Some x → j ≤ place x → a ≤ b
 
 -- It is so with one before them whose place is an earlier one.
-met_later : {X : Type 0} (place : X → ℕ) (o : Option X) (os : List (Option X)) (j a : ℕ) → ((x : X) → o ≡ some x → place x < j)
+met_later : {X : Type 0} (place : X → ℕ) (o : Option X) (os : List (Option X)) (j a : ℕ) → ((x : X) → o ≡ Some x → place x < j)
     → MetAt place os j a → MetAt place (o ∷ os) j (suc a)
 met_later {X} place o os j a low met =
     record { value = met.value; inside = omega (arith, met.inside); there = met.there; is = met.is; first = first }
   where
-    first : (b : ℕ) (x : X) → get_or (o ∷ os) b none ≡ some x → j ≤ place x → suc a ≤ b
+    first : (b : ℕ) (x : X) → get_or (o ∷ os) b None ≡ Some x → j ≤ place x → suc a ≤ b
     first zero x e l = absurd (omega (arith, low x e))
     first (suc b) x e l = omega (arith, met.first b x e l)
 
@@ -54,39 +55,39 @@ row_met : {X : Type 0} (place : X → ℕ) (os : List (Option X)) (m n : ℕ) �
     → (a : ℕ) × MetAt place os j a
 unfolding MeetsAll present
 row_met place [] m n h j l k = absurd (omega arith)
-row_met place (none ∷ os) m n h j l k =
-    let (a, met) = row_met place os m n h j l k in (suc a, met_later place none os j a (λ x e. none-some refl e) met)
-row_met place (some y ∷ os) m n (inl (p, h)) j l k =
+row_met place (None ∷ os) m n h j l k =
+    let (a, met) = row_met place os m n h j l k in (suc a, met_later place None os j a (λ x e. none-some refl e) met)
+row_met place (Some y ∷ os) m n (inl (p, h)) j l k =
     let (a, met) = row_met place os m n h j l k in
-    (suc a, met_later place (some y) os j a (λ x e. omega (arith, ap place (some_one e refl))) met)
-row_met {X} place (some y ∷ os) m n (inr (p, h)) j l k = by (dec_lt m j) (row_met place os (suc m) n h j)
+    (suc a, met_later place (Some y) os j a (λ x e. omega (arith, ap place (some_one e refl))) met)
+row_met {X} place (Some y ∷ os) m n (inr (p, h)) j l k = by (dec_lt m j) (row_met place os (suc m) n h j)
   where
-    by : Dec (m < j) → (suc m ≤ j → j < n → (a : ℕ) × MetAt place os j a) → (a : ℕ) × MetAt place (some y ∷ os) j a
+    by : Dec (m < j) → (suc m ≤ j → j < n → (a : ℕ) × MetAt place os j a) → (a : ℕ) × MetAt place (Some y ∷ os) j a
     by (yes q) ih =
         let (a, met) = ih (omega arith) k in
-        (suc a, met_later place (some y) os j a (λ x e. omega (arith, p, ap place (some_one e refl))) met)
+        (suc a, met_later place (Some y) os j a (λ x e. omega (arith, p, ap place (some_one e refl))) met)
     by (no q) ih =
         (0, record { value = y; inside = omega arith; there = refl; is = omega (arith, p); first = λ b x e r. omega arith })
 
 -- What is there among the options is present.
-there_present : {X : Type 0} (os : List (Option X)) (b : ℕ) (x : X) → get_or os b none ≡ some x → Memᴰ x (present os)
+there_present : {X : Type 0} (os : List (Option X)) (b : ℕ) (x : X) → get_or os b None ≡ Some x → Memᴰ x (present os)
 there_present os b x e = by (dec_lt b (length os))
   where
     by : Dec (b < length os) → Memᴰ x (present os)
-    by (yes l) = present_in os (Memᴰ.cast (sym e) (mem_get_or os b none l))
-    by (no l) = none-some (get_or-eq_default os none (omega arith)) e
+    by (yes l) = present_in os (Memᴰ.cast (sym e) (mem_get_or os b None l))
+    by (no l) = none-some (get_or-eq_default os None (omega arith)) e
 
 -- Of the rows of options in order, place j is met in row i at a, and all earlier rows have earlier places.
 record MetIn {Y X : Type 0} (place : X → ℕ) (row : Y → List (Option X)) (d : Y) (vs : List Y) (j i a : ℕ) : Type 0 where
   here : MetAt place (row (get_or vs i d)) j a
-  earlier : (k b : ℕ) (x : X) → k < i → get_or (row (get_or vs k d)) b none ≡ some x → place x < j
+  earlier : (k b : ℕ) (x : X) → k < i → get_or (row (get_or vs k d)) b None ≡ Some x → place x < j
 
 -- It is so with a row before them that has earlier places.
 met_further : {Y X : Type 0} (place : X → ℕ) (row : Y → List (Option X)) (d v : Y) (vs : List Y) (j i a : ℕ)
-    → ((b : ℕ) (x : X) → get_or (row v) b none ≡ some x → place x < j) → MetIn place row d vs j i a → MetIn place row d (v ∷ vs) j (suc i) a
+    → ((b : ℕ) (x : X) → get_or (row v) b None ≡ Some x → place x < j) → MetIn place row d vs j i a → MetIn place row d (v ∷ vs) j (suc i) a
 met_further {Y} {X} place row d v vs j i a low met = record { here = met.here; earlier = earlier }
   where
-    earlier : (k b : ℕ) (x : X) → k < suc i → get_or (row (get_or (v ∷ vs) k d)) b none ≡ some x → place x < j
+    earlier : (k b : ℕ) (x : X) → k < suc i → get_or (row (get_or (v ∷ vs) k d)) b None ≡ Some x → place x < j
     earlier zero b x l e = low b x e
     earlier (suc k) b x l e = met.earlier k b x (omega arith) e
 
@@ -129,7 +130,7 @@ number_of tower book v = place_of (same_pair v) (pairs tower book)
 -- the number of the pair that action a leads to from pair number i; nothing where it leads to none, or there is no pair of that number
 unfoldable pub go : Tower → Book → ℕ → ℕ → Option ℕ
 go tower book i a =
-    pick (ltb i (length (pairs tower book))) (λ _. Option.map (number_of tower book) (pair_step tower book (pair_number tower book i) a)) (λ _. none)
+    pick (ltb i (length (pairs tower book))) (λ _. option_map (number_of tower book) (pair_step tower book (pair_number tower book i) a)) (λ _. None)
 
 -- What stands at an index of a mapped list. -- private in outcome/MadeTable
 get_or_map_at : {X Y : Type 0} (f : X → Y) (xs : List X) (i : ℕ) (d : X) (e : Y) → i < length xs → get_or (map f xs) i e ≡ f (get_or xs i d)
@@ -188,29 +189,29 @@ module _ (tower : Tower) (book : Book) where
 
   -- A step from a number goes as that of its pair.
   go_at : (i a : ℕ) → i < length (pairs tower book)
-      → go tower book i a ≡ Option.map (number_of tower book) (pair_step tower book (pair_number tower book i) a)
+      → go tower book i a ≡ option_map (number_of tower book) (pair_step tower book (pair_number tower book i) a)
   unfolding go
   go_at i a l = rw (lt-ltb i (length (pairs tower book)) l)
 
   -- Steps go from numbers of pairs only.
-  pub go_inside : (i a j : ℕ) → go tower book i a ≡ some j → i < length (pairs tower book)
+  pub go_inside : (i a j : ℕ) → go tower book i a ≡ Some j → i < length (pairs tower book)
   unfolding go
   go_inside i a j e = by (ltb i (length (pairs tower book))) refl e
     where
       by : (b : Bool) → ltb i (length (pairs tower book)) ≡ b
-          → pick b (λ _. Option.map (number_of tower book) (pair_step tower book (pair_number tower book i) a)) (λ _. none) ≡ some j
+          → pick b (λ _. option_map (number_of tower book) (pair_step tower book (pair_number tower book i) a)) (λ _. None) ≡ Some j
           → i < length (pairs tower book)
       by true p f = ltb-true i (length (pairs tower book)) p
       by false p f = none-some refl f
 
   -- A step of pairs is one of their numbers.
-  pub go_to : (i a j : ℕ) → pair_step tower book (pair_number tower book i) a ≡ some (pair_number tower book j) → i < length (pairs tower book)
-      → j < length (pairs tower book) → go tower book i a ≡ some j
-  go_to i a j e k l = go_at i a k ∙ ap (Option.map (number_of tower book)) e ∙ ap {B = Option ℕ} some (number_back j l)
+  pub go_to : (i a j : ℕ) → pair_step tower book (pair_number tower book i) a ≡ Some (pair_number tower book j) → i < length (pairs tower book)
+      → j < length (pairs tower book) → go tower book i a ≡ Some j
+  go_to i a j e k l = go_at i a k ∙ ap (option_map (number_of tower book)) e ∙ ap {B = Option ℕ} Some (number_back j l)
 
   module _ (listed : Listed tower) (few : over_pairs tower book ≡ false) where
     -- What pair number i steps to is met.
-    pub step_number : (i a : ℕ) (v : Pair) → i < length (pairs tower book) → pair_step tower book (pair_number tower book i) a ≡ some v
+    pub step_number : (i a : ℕ) (v : Pair) → i < length (pairs tower book) → pair_step tower book (pair_number tower book i) a ≡ Some v
         → Memᴰ v (pairs tower book)
     unfolding ReachedPair
     step_number i a v l e =
@@ -219,25 +220,25 @@ module _ (tower : Tower) (book : Book) where
         (w ++ (a ∷ []), snoc_in (pair_step tower book) (first_pair tower book) (pair_number tower book i) v w a led e)
 
     -- A step of numbers is one of their pairs.
-    pub go_from : (i a j : ℕ) → go tower book i a ≡ some j
+    pub go_from : (i a j : ℕ) → go tower book i a ≡ Some j
         → (i < length (pairs tower book)) × (j < length (pairs tower book))
-        × (pair_step tower book (pair_number tower book i) a ≡ some (pair_number tower book j))
+        × (pair_step tower book (pair_number tower book i) a ≡ Some (pair_number tower book j))
     go_from i a j e =
         from (go_inside i a j e)
         ((map-eq-some_iff (number_of tower book) (pair_step tower book (pair_number tower book i) a)).0 (sym (go_at i a (go_inside i a j e)) ∙ e))
       where
-        from : i < length (pairs tower book) → (v : Pair) × (pair_step tower book (pair_number tower book i) a ≡ some v) × (number_of tower book v ≡ j)
+        from : i < length (pairs tower book) → (v : Pair) × (pair_step tower book (pair_number tower book i) a ≡ Some v) × (number_of tower book v ≡ j)
             → (i < length (pairs tower book)) × (j < length (pairs tower book))
-            × (pair_step tower book (pair_number tower book i) a ≡ some (pair_number tower book j))
+            × (pair_step tower book (pair_number tower book i) a ≡ Some (pair_number tower book j))
         from l (v, step, is) =
             let m = step_number i a v l step in (
               l,
               subst (λ k. k < length (pairs tower book)) is (number_inside v m),
-              step ∙ ap {B = Option Pair} some (number_is v m ∙ ap (pair_number tower book) is),
+              step ∙ ap {B = Option Pair} Some (number_is v m ∙ ap (pair_number tower book) is),
             )
 
     -- Steps of numbers go by the tower's actions.
-    pub go_listed : (i a j : ℕ) → go tower book i a ≡ some j → a < tower.actions
+    pub go_listed : (i a j : ℕ) → go tower book i a ≡ Some j → a < tower.actions
     go_listed i a j e =
         let (l, k, step) = go_from i a j e in
         pair_step_listed tower book listed (pair_number tower book i) (pair_number tower book j) a step
@@ -249,9 +250,9 @@ module _ (tower : Tower) (book : Book) where
     steps v = map (pair_step tower book v) (below tower.actions)
 
     -- The one at a is that by action a.
-    steps_at : (v : Pair) (a : ℕ) → a < tower.actions → get_or (steps v) a none ≡ pair_step tower book v a
+    steps_at : (v : Pair) (a : ℕ) → a < tower.actions → get_or (steps v) a None ≡ pair_step tower book v a
     steps_at v a l =
-        get_or_map_at (pair_step tower book v) (below tower.actions) a 0 none (omega (arith, length_below tower.actions))
+        get_or_map_at (pair_step tower book v) (below tower.actions) a 0 None (omega (arith, length_below tower.actions))
         ∙ ap (pair_step tower book v) (get_or_below tower.actions a 0 l)
 
     -- There are no others.
@@ -266,7 +267,7 @@ module _ (tower : Tower) (book : Book) where
         search_order same_pair (pair_followers tower book) pair_weight most_pairs (first_pair tower book) pairs_same (pairs_few tower book few)
 
     -- A step of numbers is one of the pair's steps in order.
-    step_there : (i a j : ℕ) → go tower book i a ≡ some j → get_or (steps (pair_number tower book i)) a none ≡ some (pair_number tower book j)
+    step_there : (i a j : ℕ) → go tower book i a ≡ Some j → get_or (steps (pair_number tower book i)) a None ≡ Some (pair_number tower book j)
     step_there i a j e =
         let (l, k, step) = go_from i a j e in
         steps_at (pair_number tower book i) a (go_listed i a j e) ∙ step
@@ -276,16 +277,16 @@ module _ (tower : Tower) (book : Book) where
     MetFrom j i a = MetIn (number_of tower book) steps (first_pair tower book) (pairs tower book) j i a
 
     -- Then the step leads there,
-    met_leads : (j i a : ℕ) → i < length (pairs tower book) → MetFrom j i a → go tower book i a ≡ some j
+    met_leads : (j i a : ℕ) → i < length (pairs tower book) → MetFrom j i a → go tower book i a ≡ Some j
     unfolding pair_number
     met_leads j i a l met =
         let v = pair_number tower book i in
         go_at i a l
-        ∙ ap (Option.map (number_of tower book)) (sym (steps_at v a (steps_inside v a met.here.inside)) ∙ met.here.there)
-        ∙ ap {B = Option ℕ} some met.here.is
+        ∙ ap (option_map (number_of tower book)) (sym (steps_at v a (steps_inside v a met.here.inside)) ∙ met.here.there)
+        ∙ ap {B = Option ℕ} Some met.here.is
 
     -- and no earlier step leads there, or to a later number.
-    met_first : (j i a : ℕ) → MetFrom j i a → (p b q : ℕ) → go tower book p b ≡ some q → j ≤ q → NoLater i a p b
+    met_first : (j i a : ℕ) → MetFrom j i a → (p b q : ℕ) → go tower book p b ≡ Some q → j ≤ q → NoLater i a p b
     unfolding NoLater pair_number
     met_first j i a met p b q e above = by (dec_lt i p) (dec_lt p i)
       where
@@ -301,7 +302,7 @@ module _ (tower : Tower) (book : Book) where
             inr (
               same,
               met.here.first b (pair_number tower book q)
-                  (ap (λ r. get_or (steps (pair_number tower book r)) b none) same ∙ step_there p b q e) (omega (arith, back)),
+                  (ap (λ r. get_or (steps (pair_number tower book r)) b None) same ∙ step_there p b q e) (omega (arith, back)),
             )
 
     -- Each number but 0 is first met by a step from an earlier one.
@@ -345,27 +346,27 @@ module _ (tower : Tower) (book : Book) where
 
     -- From any number on, numbers lead where pairs do;
     leads_on : (w : List ℕ) (i j : ℕ) → i < length (pairs tower book) → j < length (pairs tower book)
-        → leads (pair_step tower book) (pair_number tower book i) w ≡ some (pair_number tower book j) → leads (go tower book) i w ≡ some j
+        → leads (pair_step tower book) (pair_number tower book i) w ≡ Some (pair_number tower book j) → leads (go tower book) i w ≡ Some j
     leads_on [] i j k l e =
         leads_nil (go tower book) i
-        ∙ ap {B = Option ℕ} some (numbers_apart i j k l (some_one (leads_nil (pair_step tower book) (pair_number tower book i)) e))
+        ∙ ap {B = Option ℕ} Some (numbers_apart i j k l (some_one (leads_nil (pair_step tower book) (pair_number tower book i)) e))
     leads_on (a ∷ w) i j k l e =
         let (v, step, on) = leads_out (pair_step tower book) (pair_number tower book i) (pair_number tower book j) a w e in
         let m = step_number i a v k step in
         let q = number_of tower book v in
         leads_in (go tower book) i q j a w
-        (go_to i a q (step ∙ ap {B = Option Pair} some (number_is v m)) k (number_inside v m))
+        (go_to i a q (step ∙ ap {B = Option Pair} Some (number_is v m)) k (number_inside v m))
         (leads_on w q j (number_inside v m) l
         (ap (λ z. leads (pair_step tower book) z w) (sym (number_is v m)) ∙ on))
 
     -- pairs lead where numbers do, and to a pair that has a number.
-    leads_back : (w : List ℕ) (i j : ℕ) → i < length (pairs tower book) → leads (go tower book) i w ≡ some j
+    leads_back : (w : List ℕ) (i j : ℕ) → i < length (pairs tower book) → leads (go tower book) i w ≡ Some j
         → (j < length (pairs tower book))
-        × (leads (pair_step tower book) (pair_number tower book i) w ≡ some (pair_number tower book j))
+        × (leads (pair_step tower book) (pair_number tower book i) w ≡ Some (pair_number tower book j))
     leads_back [] i j k e =
         let same = some_one (leads_nil (go tower book) i) e in (
           subst (λ r. r < length (pairs tower book)) same k,
-          leads_nil (pair_step tower book) (pair_number tower book i) ∙ ap (λ r. some (pair_number tower book r)) same,
+          leads_nil (pair_step tower book) (pair_number tower book i) ∙ ap (λ r. Some (pair_number tower book r)) same,
         )
     leads_back (a ∷ w) i j k e =
         let (q, step, on) = leads_out (go tower book) i j a w e in
@@ -374,15 +375,15 @@ module _ (tower : Tower) (book : Book) where
         (n, leads_in (pair_step tower book) (pair_number tower book i) (pair_number tower book q) (pair_number tower book j) a w goes rest)
 
     -- What a run leads to over numbers has a number.
-    pub led_number : (w : List ℕ) (j : ℕ) → leads (go tower book) 0 w ≡ some j → j < length (pairs tower book)
+    pub led_number : (w : List ℕ) (j : ℕ) → leads (go tower book) 0 w ≡ Some j → j < length (pairs tower book)
     led_number w j e = (leads_back w 0 j some_pair e).0
 
     -- Where numbers lead from 0, their pairs lead from the first,
-    pub leads_pairs : (w : List ℕ) (j : ℕ) → leads (go tower book) 0 w ≡ some j
-        → leads (pair_step tower book) (first_pair tower book) w ≡ some (pair_number tower book j)
+    pub leads_pairs : (w : List ℕ) (j : ℕ) → leads (go tower book) 0 w ≡ Some j
+        → leads (pair_step tower book) (first_pair tower book) w ≡ Some (pair_number tower book j)
     leads_pairs w j e = ap (λ v. leads (pair_step tower book) v w) (sym number_first) ∙ (leads_back w 0 j some_pair e).1
 
     -- and the other way round.
     pub leads_go : (w : List ℕ) (j : ℕ) → j < length (pairs tower book)
-        → leads (pair_step tower book) (first_pair tower book) w ≡ some (pair_number tower book j) → leads (go tower book) 0 w ≡ some j
+        → leads (pair_step tower book) (first_pair tower book) w ≡ Some (pair_number tower book j) → leads (go tower book) 0 w ≡ Some j
     leads_go w j l e = leads_on w 0 j some_pair l (ap (λ v. leads (pair_step tower book) v w) number_first ∙ e)

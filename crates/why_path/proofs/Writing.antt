@@ -13,7 +13,7 @@ use Rattle.first_runs.specs.Numbered.{WayTo, way_start, way_on}
 use Rattle.first_runs.proofs.Sooner.{length_snoc}
 use Rattle.pair_graph.specs.Steps.{HoldsGraph}
 use Rattle.why_path.specs.Ways.{from_in, action_in, StepsNoted, MetFromLower, FromLower, WayLength, WayWritten, room_for, list_with, RunWritten}
-use Rattle.why_path.specs.declared.Written.TheVariants.{Run, TooShort}
+use Rattle.std.specs.Prelude.{Some, None}
 
 -- ---- runs as they were first met
 
@@ -221,7 +221,7 @@ from_lower n actions graph before ways noted met held e room =
 module _ (n actions : ℕ) (graph : List ℕ) (i a : ℕ) (ways list : List ℕ) (size : ℕ) (noted : StepsNoted n actions graph 0 ways)
     (long : WayLength size ways i) where
   -- There is no room for the run and the action.
-  pub run_too_long : length list ≤ size → RunWritten TooShort n actions graph i a ways list list
+  pub run_too_long : length list ≤ size → RunWritten None n actions graph i a ways list list
   unfolding room_for list_with
   run_too_long short = record { noted = noted; says = λ w way. rw (more w way); written = λ w way. rw (more w way) }
     where
@@ -230,12 +230,12 @@ module _ (n actions : ℕ) (graph : List ℕ) (i a : ℕ) (ways list : List ℕ)
 
   -- The action is written behind the run.
   pub run_written : (after : List ℕ) → WayWritten ways i list after → size < length list
-      → RunWritten (Run (size + 1)) n actions graph i a ways list (set after size a)
+      → RunWritten (Some (size + 1)) n actions graph i a ways list (set after size a)
   unfolding room_for list_with
   run_written after h fits =
       record {
         noted = noted;
-        says = λ w way. rw (enough w way) (ap Run (size_is w way));
+        says = λ w way. rw (enough w way) (ap (λ r. Some r) (size_is w way));
         written = λ w way. rw (enough w way) (with_action w way);
       }
     where

@@ -5,8 +5,7 @@ use Rattle.base.specs.Bytes.{byte_at, number_at}
 use Rattle.first_runs.specs.Numbered.{WayTo}
 use Rattle.pair_graph.specs.Graph.{to}
 use Rattle.pair_graph.specs.Steps.{action_room, move_at}
-use Rattle.why_path.specs.declared.Written.{Written}
-use Rattle.why_path.specs.declared.Written.TheVariants.{Run, TooShort}
+use Rattle.std.specs.Prelude.{Option, Some, None}
 
 -- ---- what lies where
 
@@ -69,15 +68,15 @@ pub record WayWritten (ways : List ℕ) (i : ℕ) (list list_after : List ℕ) :
   pub says : (w : List ℕ) → WayTo (from_in ways) (action_in ways) i w → list_after ≡ w ++ drop (length w) list
 
 -- What is answered of a list for a run: its length, or that the list is too short for it.
-unfoldable pub room_for : List ℕ → List ℕ → Written
-room_for list run = pick (ltb (length list) (length run)) (λ _. TooShort) (λ _. Run (length run))
+unfoldable pub room_for : List ℕ → List ℕ → Option ℕ
+room_for list run = pick (ltb (length list) (length run)) (λ _. None) (λ _. Some (length run))
 
 -- what the list holds then: the run and its own later bytes, or what it held
 unfoldable pub list_with : List ℕ → List ℕ → List ℕ
 list_with list run = pick (ltb (length list) (length run)) (λ _. list) (λ _. run ++ drop (length run) list)
 
 -- The run to pair i with action a behind it, written to the list if there is room for it. How each pair was first met is noted.
-pub record RunWritten (r : Written) (n actions : ℕ) (graph : List ℕ) (i a : ℕ) (ways list list_after : List ℕ) : Type 0 where
+pub record RunWritten (r : Option ℕ) (n actions : ℕ) (graph : List ℕ) (i a : ℕ) (ways list list_after : List ℕ) : Type 0 where
   pub noted : StepsNoted n actions graph 0 ways
   pub says : (w : List ℕ) → WayTo (from_in ways) (action_in ways) i w → r ≡ room_for list (w ++ (a ∷ []))
   pub written : (w : List ℕ) → WayTo (from_in ways) (action_in ways) i w → list_after ≡ list_with list (w ++ (a ∷ []))

@@ -6,13 +6,6 @@ ghost use Rattle.std.specs.Prelude.{◌+◌, ◌*◌, ◌≤◌, ◌<◌, ◌≡
 ghost use Rattle.pair_graph.specs.Steps.{action_room, pair_room, HoldsGraph};
 ghost use Rattle.why_path.specs.Ways.{ways_size, from_in, action_in, StepsNoted, MetFromLower, FromLower, WayLength, WayWritten, RunWritten};
 
-// Whether a run was written: its length, or that the list is too short for it.
-#[derive(Clone, Copy)]
-pub enum Written {
-    Run(usize),
-    TooShort,
-}
-
 // Where the actions begin, behind two bytes for each pair.
 const ACTIONS_AT: usize = 2000;
 
@@ -51,9 +44,7 @@ fn note_pair(graph: &[u8], n: usize, actions: usize, i: usize, ways: &mut [u8])
     requires steps_noted { StepsNoted n actions graph.now (action_room * (i + 1)) ways.old }
     ensures { StepsNoted n actions graph.now (action_room * i) ways.new }
 {
-    let mut a = actions;
-    while 0 < a {
-        a -= 1;
+    for a in (0..actions).rev() {
         note_step(graph, n, actions, i, a, ways);
     }
 }
@@ -64,9 +55,7 @@ fn note_all(graph: &[u8], n: usize, actions: usize, ways: &mut [u8])
     requires ways_size_in_bounds { ways_size ≤ length ways.old }
     ensures { StepsNoted n actions graph.now 0 ways.new }
 {
-    let mut i = n;
-    while 0 < i {
-        i -= 1;
+    for i in (0..n).rev() {
         note_pair(graph, n, actions, i, ways);
     }
 }
@@ -104,8 +93,8 @@ fn write_way(ways: &[u8], n: usize, i: usize, size: usize, list: &mut [u8])
     }
 }
 
-// Writes the run to pair i of n and action a behind it to the front of the list; nothing if the list
-// is shorter than that.
+// Writes the run to pair i of n and action a behind it to the front of the list, and answers its length; nothing
+// if the list is shorter than that.
 pub fn write_run(
     graph: &[u8],
     n: usize,
@@ -114,7 +103,7 @@ pub fn write_run(
     a: usize,
     ways: &mut [u8],
     list: &mut [u8],
-) -> Written
+) -> Option<usize>
     requires holds_graph { HoldsGraph n actions graph.now }
     requires met_from_lower { MetFromLower n actions graph.now }
     requires ways_size_in_bounds { ways_size ≤ length ways.old }
@@ -125,9 +114,9 @@ pub fn write_run(
     note_all(graph, n, actions, ways);
     let size = way_length(ways, n, i);
     if list.len() <= size {
-        return Written::TooShort;
+        return None;
     }
     write_way(ways, n, i, size, list);
     list[size] = a as u8;
-    Written::Run(size + 1)
+    Some(size + 1)
 }

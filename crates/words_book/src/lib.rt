@@ -1,154 +1,128 @@
 // What is wrong with a rule book: 6 to 10.
 #![tactic(auto)]
 
-use place_book::grammar;
-use place_bytes::{byte_at, up};
-use program_saying::{in_file, say, say_number};
+use program_saying::{Shown, in_file, say};
+use std::fmt;
+use std::fmt::{Display, Formatter, Write};
 use std::io::Eprint;
+use words_tower::Marks;
 
-// Begins a sentence about a line; the number is counted from 0.
-fn of_line<R: Eprint>(rt: &R, book: &[u8], line: usize) {
-    say(rt, book);
-    say(rt, b", line ");
-    say_number(rt, up(line));
-}
+// The bytes of a line as they are shown: one that cannot be seen is a question mark.
+#[derive(Clone, Copy)]
+struct Plain<'a>(&'a [u8]);
 
-// Begins a sentence about a place in a line.
-fn of_place<R: Eprint>(rt: &R, book: &[u8], line: usize, start: usize, at: usize) {
-    of_line(rt, book, line);
-    if start <= at {
-        say(rt, b", column ");
-        say_number(rt, up(at - start));
-    }
-    say(rt, b": ");
-}
-
-// A byte as it is shown: one that cannot be seen is a question mark.
-fn shown(b: u8) -> u8 {
-    if b < 32 {
-        return b'?';
-    }
-    if 126 < b {
-        return b'?';
-    }
-    b
-}
-
-// Puts the text of a line into an area, from the third byte on.
-fn put_line(text: &[u8], start: usize, end: usize, out: &mut [u8]) -> usize {
-    let mut next = program_texts::put_bytes(out, 0, b"  ");
-    let mut i = start;
-    while i < end {
-        next = program_texts::put_byte(out, next, shown(byte_at(text, i)));
-        i += 1;
-    }
-    program_texts::put_byte(out, next, b'\n')
-}
-
-// Puts a mark below a place into an area.
-fn put_mark(start: usize, at: usize, out: &mut [u8]) -> usize {
-    let mut next = program_texts::put_bytes(out, 0, b"  ");
-    let mut i = start;
-    while i < at {
-        next = program_texts::put_byte(out, next, b' ');
-        i += 1;
-    }
-    let mark = program_texts::put_byte(out, next, b'^');
-    program_texts::put_byte(out, mark, b'\n')
-}
-
-// Writes the start of an area.
-fn say_start<R: Eprint>(rt: &R, area: &[u8], n: usize) {
-    if n <= area.len() {
-        say(rt, &area[..n]);
+impl<'a> Display for Plain<'a> {
+    fn fmt<W: Write>(&self, f: &mut Formatter<W>) -> fmt::Result {
+        for b in self.0 {
+            f.write_char(match *b {
+                b' '..=b'~' => char::from(*b),
+                _ => '?',
+            })?;
+        }
+        Ok(())
     }
 }
 
-// Shows a line with a mark below a place.
-fn show<R: Eprint>(rt: &R, text: &[u8], start: usize, end: usize, at: usize) {
-    let mut area = [0u8; 4104];
-    let n = put_line(text, start, end, &mut area);
-    say_start(rt, &area, n);
-    let m = put_mark(start, at, &mut area);
-    say_start(rt, &area, m);
+// A line of a book: the name of the book, the number of the line, counted from 0, and its bytes.
+#[derive(Clone, Copy)]
+struct Line<'a> {
+    book: &'a [u8],
+    number: usize,
+    bytes: &'a [u8],
 }
 
-// A line whose place was found, shown with it.
-fn say_found<R: Eprint>(rt: &R, book: &[u8], text: &[u8], line: usize, start: usize, end: usize) {
-    let scan = place_book::scan_line(text, start, end);
-    let what = scan.found;
-    let at = scan.at;
-    if what == 0 {
-        of_line(rt, book, line);
-        say(rt, b": not a rule\n");
-        return;
+impl<'a> Line<'a> {
+    fn new(book: &'a [u8], text: &'a [u8], number: usize) -> Line<'a> {
+        Line {
+            book,
+            number,
+            bytes: place_lines::line(text, number),
+        }
     }
-    if what == grammar::FINE {
-        of_line(rt, book, line);
-        say(rt, b": not a rule\n");
-        return;
+
+    // Says what is wrong with the line.
+    fn say<R: Eprint>(&self, rt: &R, words: impl Display + Drop) {
+        let number = self.number.saturating_add(1);
+        say(
+            rt,
+            format_args!("{}, line {number}: {words}\n", Shown(self.book)),
+        );
     }
-    of_place(rt, book, line, start, at);
-    words_grammar::say_found(rt, what);
-    show(rt, text, start, end, at);
+
+    // Says what is wrong at a place of the line, and shows the line with a mark below the place.
+    fn say_at<R: Eprint>(&self, rt: &R, at: usize, words: impl Display + Drop) {
+        let number = self.number.saturating_add(1);
+        let column = at.saturating_add(1);
+        say(
+            rt,
+            format_args!(
+                "{}, line {number}, column {column}: {words}\n  {}\n  {:>column$}\n",
+                Shown(self.book),
+                Plain(self.bytes),
+                '^'
+            ),
+        );
+    }
 }
 
 // 6: not of the grammar.
 pub fn grammar<R: Eprint>(rt: &R, book: &[u8], text: &[u8], line: usize) {
-    let start = place_lines::line_start(text, line);
-    say_found(
-        rt,
-        book,
-        text,
-        line,
-        start,
-        place_lines::line_end(text, start),
-    );
+    let is_ended = place_lines::text_to(text, line).len() < text.len();
+    let line = Line::new(book, text, line);
+    match place_book::scan_line(line.bytes, is_ended) {
+        Some(fault) => line.say_at(rt, fault.at, words_grammar::words(fault.what)),
+        None => line.say(rt, "not a rule"),
+    }
 }
 
 // 7: a number above 254.
 pub fn number<R: Eprint>(rt: &R, book: &[u8], text: &[u8], line: usize) {
-    let start = place_lines::line_start(text, line);
-    let end = place_lines::line_end(text, start);
-    let numeral = place_lines::large_number(text, start, end);
-    of_place(rt, book, line, start, numeral.at);
-    say(rt, b"the number ");
-    say_number(rt, numeral.value);
-    say(rt, b" is above 254, the largest there may be\n");
-    show(rt, text, start, end, numeral.at);
+    let line = Line::new(book, text, line);
+    let Some(numeral) = place_lines::large_number(line.bytes) else {
+        return line.say(rt, "a number is above 254, the largest there may be");
+    };
+    line.say_at(
+        rt,
+        numeral.at,
+        format_args!(
+            "the number {} is above 254, the largest there may be",
+            numeral.value
+        ),
+    );
 }
 
 // 8: a mark that the tower does not have.
 pub fn mark<R: Eprint>(rt: &R, book: &[u8], text: &[u8], line: usize, marks: usize) {
-    let start = place_lines::line_start(text, line);
-    let end = place_lines::line_end(text, start);
-    let numeral = place_lines::wrong_mark(text, start, end, marks);
-    of_place(rt, book, line, start, numeral.at);
-    say(rt, b"there is no p");
-    say_number(rt, numeral.value);
-    say(rt, b": ");
-    words_tower::say_marks(rt, marks);
-    show(rt, text, start, end, numeral.at);
+    let line = Line::new(book, text, line);
+    let all = Marks(marks);
+    let Some(numeral) = place_lines::wrong_mark(line.bytes, marks) else {
+        return line.say(rt, all);
+    };
+    line.say_at(
+        rt,
+        numeral.at,
+        format_args!("there is no p{}: {all}", numeral.value),
+    );
 }
 
 // 9 of a line: brackets or nodes.
 fn line_limit<R: Eprint>(rt: &R, book: &[u8], text: &[u8], line: usize) {
-    let start = place_lines::line_start(text, line);
-    let end = place_lines::line_end(text, start);
-    let open = place_lines::deepest(text, start, end);
-    of_line(rt, book, line);
+    let nodes = place_lines::nodes(place_lines::text_to(text, line));
+    let line = Line::new(book, text, line);
+    let open = place_lines::deepest(line.bytes);
     if 16 < open {
-        say(rt, b": ");
-        say_number(rt, open);
-        say(rt, b" brackets are open at once; there may be 16\n");
-        return;
+        line.say(
+            rt,
+            format_args!("{open} brackets are open at once; there may be 16"),
+        );
+    } else {
+        line.say(
+            rt,
+            format_args!(
+                "up to the end of this line the book has {nodes} nodes; there may be 60 (each T, F, mark, &, |, N, A and U is one, each E two)"
+            ),
+        );
     }
-    say(rt, b": up to the end of this line the book has ");
-    say_number(rt, place_lines::nodes_to(text, end));
-    say(
-        rt,
-        b" nodes; there may be 60 (each T, F, mark, &, |, N, A and U is one, each E two)\n",
-    );
 }
 
 // 9: the length of the book, brackets or nodes.
@@ -157,27 +131,22 @@ pub fn limit<R: Eprint>(rt: &R, book: &[u8], text: &[u8], line: usize) {
         in_file(
             rt,
             book,
-            b"the book is longer than 4096 bytes, the most there may be",
+            "the book is longer than 4096 bytes, the most there may be",
         );
-        return;
+    } else {
+        line_limit(rt, book, text, line);
     }
-    line_limit(rt, book, text, line);
 }
 
 // 10: timed where it may not be.
 pub fn timed<R: Eprint>(rt: &R, book: &[u8], text: &[u8], line: usize) {
-    let start = place_lines::line_start(text, line);
-    let end = place_lines::line_end(text, start);
-    let place = place_timed::timed_place(text, start, end);
-    if !place.found {
-        of_line(rt, book, line);
-        say(rt, b": N, A, E or U stands where it may not\n");
-        return;
+    let line = Line::new(book, text, line);
+    match place_timed::timed_place(line.bytes) {
+        Some(at) => line.say_at(
+            rt,
+            at,
+            "no N, A, E or U may stand here: none may stand behind E or in the second part of U",
+        ),
+        None => line.say(rt, "N, A, E or U stands where it may not"),
     }
-    of_place(rt, book, line, start, place.at);
-    say(
-        rt,
-        b"no N, A, E or U may stand here: none may stand behind E or in the second part of U\n",
-    );
-    show(rt, text, start, end, place.at);
 }

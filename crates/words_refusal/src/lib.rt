@@ -4,7 +4,7 @@
 #![tactic(auto)]
 
 use base::{Reason, Refusal};
-use program_saying::{in_file, of_file, say, say_number};
+use program_saying::{in_file, say};
 use std::io::{Eprint, Print};
 
 // Why a call was refused, with the names of the files that it was about and what they hold.
@@ -53,39 +53,39 @@ fn explain<R: Eprint>(
             in_file(
                 rt,
                 book,
-                b"more than 1000 pairs of a state and what is pending there: shorter bounds or fewer promises at a time are needed",
+                "more than 1000 pairs of a state and what is pending there: shorter bounds or fewer promises at a time are needed",
             );
         }
         Refusal::NoTable => {
             in_file(
                 rt,
                 book,
-                b"no table is good for this tower: the rules cannot be kept for ever, whatever is withheld",
+                "no table is good for this tower: the rules cannot be kept for ever, whatever is withheld",
             );
         }
         Refusal::Layout => {
             words_table::layout(rt, table, table_bytes, tower, tower_bytes);
         }
         Refusal::Area => {
-            say(rt, b"a work area is too short\n");
+            say(rt, "a work area is too short\n");
         }
         Refusal::Output => {
-            in_file(rt, table, b"no room for the table");
+            in_file(rt, table, "no room for the table");
         }
         Refusal::Outside => {
-            in_file(rt, table, b"the row or the action is outside the table");
+            in_file(rt, table, "the row or the action is outside the table");
         }
         Refusal::NotAllowed => {
-            in_file(rt, table, b"the action is not allowed in that row");
+            in_file(rt, table, "the action is not allowed in that row");
         }
         Refusal::Log(_) => {
-            say(rt, b"a line of the log is not of its form\n");
+            say(rt, "a line of the log is not of its form\n");
         }
         Refusal::Alternatives => {
             in_file(
                 rt,
                 book,
-                b"a step leaves more than 16 alternatives: fewer promises beside each other in `|` are needed",
+                "a step leaves more than 16 alternatives: fewer promises beside each other in `|` are needed",
             );
         }
     }
@@ -125,13 +125,13 @@ pub fn refuse_tower<R: Print + Eprint>(rt: &R, why: Refusal, tower: &[u8], tower
 // state.
 pub fn refuse_waiting<R: Print + Eprint>(rt: &R, why: Refusal, book: &[u8], state: usize) {
     if print_line(rt, why) {
-        of_file(rt, book);
-        say(
+        in_file(
             rt,
-            b"no table is good for this tower: the rules can be kept only by waiting for the player alone, such as in state ",
+            book,
+            format_args!(
+                "no table is good for this tower: the rules can be kept only by waiting for the player alone, such as in state {state}, and then the tower stops when nobody plays"
+            ),
         );
-        say_number(rt, state);
-        say(rt, b", and then the tower stops when nobody plays\n");
     }
 }
 

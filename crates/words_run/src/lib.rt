@@ -9,10 +9,9 @@ ghost use Rattle.logic.specs.Tower.{FitTower, tower_of};
 ghost use Rattle.program_run.specs.Walking.{RunInList};
 
 use logic::Position;
-use place_bytes::{byte_at, number_at, up};
-use place_lines::{line_end, line_start};
+use place_bytes::number_at;
 use program_run::Point;
-use program_saying::{of_file, say, say_number};
+use program_saying::{Shown, in_file, say};
 use std::io::Eprint;
 
 // The marks of a state, in brackets; nothing where it has none.
@@ -21,22 +20,16 @@ fn say_marks<R: Eprint>(rt: &R, tower: &[u8], state: usize)
     requires state_bound { state < (tower_of tower.now).states }
 {
     let marks = file_tower::marks(tower);
-    let mut said = false;
-    let mut k = 0;
-    while k < marks {
+    let mut is_first = true;
+    for k in 0..marks {
         if file_tower::marked(tower, state, k) {
-            if said {
-                say(rt, b" p");
-            } else {
-                say(rt, b" (p");
-            }
-            say_number(rt, k);
-            said = true;
+            let before = if is_first { " (" } else { " " };
+            say(rt, format_args!("{before}p{k}"));
+            is_first = false;
         }
-        k += 1;
     }
-    if said {
-        say(rt, b")");
+    if !is_first {
+        say(rt, ")");
     }
 }
 
@@ -45,12 +38,13 @@ fn say_point<R: Eprint>(rt: &R, tower: &[u8], point: Point)
     requires fit_tower { FitTower tower.now }
     requires state_bound { point.state < (tower_of tower.now).states }
 {
-    say(rt, b"  position ");
-    say_number(rt, point.position.0);
-    say(rt, b", tick ");
-    say_number(rt, point.time.0 as usize);
-    say(rt, b": state ");
-    say_number(rt, point.state);
+    say(
+        rt,
+        format_args!(
+            "  position {}, tick {}: state {}",
+            point.position.0, point.time.0, point.state
+        ),
+    );
     say_marks(rt, tower, point.state);
 }
 
@@ -60,9 +54,8 @@ fn say_step<R: Eprint>(rt: &R, tower: &[u8], run: &[u8], point: Point)
     requires state_bound { point.state < (tower_of tower.now).states }
 {
     say_point(rt, tower, point);
-    say(rt, b", then action ");
-    say_number(rt, number_at(run, point.position.0));
-    say(rt, b"\n");
+    let action = number_at(run, point.position.0);
+    say(rt, format_args!(", then action {action}\n"));
 }
 
 // The run, a line for each action and one for its end.
@@ -75,53 +68,23 @@ fn say_run<R: Eprint>(rt: &R, tower: &[u8], run: &[u8], n: usize)
         point = program_run::next(tower, run, n, point);
     }
     say_point(rt, tower, point);
-    say(rt, b", where the run ends\n");
+    say(rt, ", where the run ends\n");
 }
 
-// A part of a text.
-fn say_part<R: Eprint>(rt: &R, text: &[u8], start: usize, end: usize) {
-    if text.len() < end {
-        return;
-    }
-    if start <= end {
-        say(rt, &text[start..end]);
-    }
-}
-
-// The line of the book that begins at a place, and where it is not kept.
-fn say_line<R: Eprint>(
-    rt: &R,
-    book: &[u8],
-    text: &[u8],
-    line: usize,
-    start: usize,
-    place: Position,
-) {
-    say(rt, book);
-    say(rt, b", line ");
-    say_number(rt, up(line));
-    if byte_at(text, start) == b's' {
-        say(
-            rt,
-            b": the rule is not kept; a start line is judged at position 0\n  ",
-        );
+// The line of the book, and where it is not kept.
+fn say_line<R: Eprint>(rt: &R, book: &[u8], text: &[u8], line: usize, place: Position) {
+    let number = line.saturating_add(1);
+    say(
+        rt,
+        format_args!("{}, line {number}: the rule is not kept", Shown(book)),
+    );
+    let rule = place_lines::line(text, line);
+    if rule.starts_with(b"s") {
+        say(rt, "; a start line is judged at position 0");
     } else {
-        say(rt, b": the rule is not kept at position ");
-        say_number(rt, place.0);
-        say(rt, b"\n  ");
+        say(rt, format_args!(" at position {}", place.0));
     }
-    say_part(rt, text, start, line_end(text, start));
-    say(rt, b"\n");
-}
-
-// How many actions.
-fn say_count<R: Eprint>(rt: &R, n: usize) {
-    say_number(rt, n);
-    if n == 1 {
-        say(rt, b" action");
-        return;
-    }
-    say(rt, b" actions");
+    say(rt, format_args!("\n  {}\n", Shown(rule)));
 }
 
 // Shows the run of n actions that the table allows, and the line of the book that it breaks, with the
@@ -139,12 +102,15 @@ pub fn show<R: Eprint>(
 )
     requires { RunInList tower.now run.now n }
 {
-    of_file(rt, table);
-    say(rt, b"a run of ");
-    say_count(rt, n);
-    say(rt, b" that it allows breaks a rule of ");
-    say(rt, book);
-    say(rt, b"\n");
+    let actions = if n == 1 { "action" } else { "actions" };
+    in_file(
+        rt,
+        table,
+        format_args!(
+            "a run of {n} {actions} that it allows breaks a rule of {}",
+            Shown(book)
+        ),
+    );
     say_run(rt, tower, run, n);
-    say_line(rt, book, text, line, line_start(text, line), place);
+    say_line(rt, book, text, line, place);
 }

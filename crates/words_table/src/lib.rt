@@ -2,301 +2,208 @@
 #![tactic(auto)]
 
 use base::Reason;
-use place_table::layout;
-use program_saying::{in_file, of_file, say, say_number};
+use place_table::{Fault, Part, StepFault};
+use program_saying::{Shown, in_file, say};
+use std::fmt;
+use std::fmt::{Display, Formatter, Write};
 use std::io::Eprint;
 
-// The value that stands for no action.
-const NONE: usize = 255;
+// The longest table file; the programs read one byte more of a longer one.
+const LONGEST: usize = 52012;
 
-// A value, and what it must be.
-fn must_be<R: Eprint>(rt: &R, name: &[u8], value: usize, must: &[u8], limit: usize) {
-    say(rt, name);
-    say_number(rt, value);
-    say(rt, must);
-    say_number(rt, limit);
-    say(rt, b"\n");
-}
+// What is wrong with the layout.
+#[derive(Clone, Copy)]
+struct LayoutFault(Fault);
 
-// A value of a row or of a step.
-fn of_part<R: Eprint>(
-    rt: &R,
-    part: &[u8],
-    number: usize,
-    name: &[u8],
-    value: usize,
-    must: &[u8],
-    limit: usize,
-) {
-    say(rt, part);
-    say_number(rt, number);
-    must_be(rt, name, value, must, limit);
-}
-
-// The length of the file.
-fn length<R: Eprint>(rt: &R, value: usize, limit: usize) {
-    if 52012 < value {
-        say(
-            rt,
-            b"the file has more than 52012 bytes, more than any table\n",
-        );
-        return;
-    }
-    must_be(
-        rt,
-        b"the file has ",
-        value,
-        b" bytes; by its counts of rows and steps it must have ",
-        limit,
-    );
-}
-
-// What is wrong in the rows and steps.
-fn parts<R: Eprint>(rt: &R, what: u8, number: usize, value: usize, limit: usize) {
-    match what {
-        layout::ROW_STATE => of_part(
-            rt,
-            b"row ",
-            number,
-            b": its state is ",
-            value,
-            b"; it must be below the number of states, ",
-            limit,
-        ),
-        layout::FIRST_STEP => of_part(
-            rt,
-            b"row ",
-            number,
-            b": its first step is ",
-            value,
-            b"; by the rows before it, it must be ",
-            limit,
-        ),
-        layout::STEP_ACTION => of_part(
-            rt,
-            b"step ",
-            number,
-            b" (counted from 0 over all rows): its action is ",
-            value,
-            b"; it must be below the number of actions, ",
-            limit,
-        ),
-        layout::STEP_ORDER => of_part(
-            rt,
-            b"step ",
-            number,
-            b" (counted from 0 over all rows): its action is ",
-            value,
-            b"; the actions of a row rise, so it must be at least ",
-            limit,
-        ),
-        layout::STEP_TARGET => of_part(
-            rt,
-            b"step ",
-            number,
-            b" (counted from 0 over all rows): its target row is ",
-            value,
-            b"; it must be below the number of rows, ",
-            limit,
-        ),
-        _ => of_part(
-            rt,
-            b"up to row ",
-            number,
-            b" the rows have ",
-            value,
-            b" steps; the header says ",
-            limit,
-        ),
-    }
-}
-
-// What is wrong in the header.
-fn header<R: Eprint>(rt: &R, what: u8, number: usize, value: usize, limit: usize) {
-    match what {
-        layout::NO_HEADER => must_be(
-            rt,
-            b"the file has ",
-            value,
-            b" bytes; a table file begins with a header of ",
-            limit,
-        ),
-        layout::ROWS => must_be(
-            rt,
-            b"the number of rows (bytes 0 and 1) is ",
-            value,
-            b"; it must be 1 to ",
-            limit,
-        ),
-        layout::STATES => must_be(
-            rt,
-            b"the number of states (bytes 8 and 9) is ",
-            value,
-            b"; it must be 1 to ",
-            limit,
-        ),
-        layout::ACTIONS => must_be(
-            rt,
-            b"the number of actions (bytes 10 and 11) is ",
-            value,
-            b"; it must be 1 to ",
-            limit,
-        ),
-        layout::ROWS_OFFSET => must_be(
-            rt,
-            b"the offset of the rows (bytes 4 and 5) is ",
-            value,
-            b"; it must be ",
-            limit,
-        ),
-        layout::STEPS_OFFSET => must_be(
-            rt,
-            b"the offset of the steps (bytes 6 and 7) is ",
-            value,
-            b"; by the number of rows it must be ",
-            limit,
-        ),
-        layout::LENGTH => length(rt, value, limit),
-        _ => parts(rt, what, number, value, limit),
+impl Display for LayoutFault {
+    fn fmt<W: Write>(&self, f: &mut Formatter<W>) -> fmt::Result {
+        let Fault { part, value, limit } = self.0;
+        match part {
+            Part::NoHeader => write!(
+                f,
+                "the file has {value} bytes; a table file begins with a header of {limit}"
+            ),
+            Part::Rows => write!(
+                f,
+                "the number of rows (bytes 0 and 1) is {value}; it must be 1 to {limit}"
+            ),
+            Part::States => write!(
+                f,
+                "the number of states (bytes 8 and 9) is {value}; it must be 1 to {limit}"
+            ),
+            Part::Actions => write!(
+                f,
+                "the number of actions (bytes 10 and 11) is {value}; it must be 1 to {limit}"
+            ),
+            Part::RowsOffset => write!(
+                f,
+                "the offset of the rows (bytes 4 and 5) is {value}; it must be {limit}"
+            ),
+            Part::StepsOffset => write!(
+                f,
+                "the offset of the steps (bytes 6 and 7) is {value}; by the number of rows it must be {limit}"
+            ),
+            Part::Length if LONGEST < value => {
+                f.write_str("the file has more than 52012 bytes, more than any table")
+            }
+            Part::Length => write!(
+                f,
+                "the file has {value} bytes; by its counts of rows and steps it must have {limit}"
+            ),
+            Part::RowState(row) => write!(
+                f,
+                "row {row}: its state is {value}; it must be below the number of states, {limit}"
+            ),
+            Part::FirstStep(row) => write!(
+                f,
+                "row {row}: its first step is {value}; by the rows before it, it must be {limit}"
+            ),
+            Part::StepAction(step) => write!(
+                f,
+                "step {step} (counted from 0 over all rows): its action is {value}; it must be below the number of actions, {limit}"
+            ),
+            Part::StepOrder(step) => write!(
+                f,
+                "step {step} (counted from 0 over all rows): its action is {value}; the actions of a row rise, so it must be at least {limit}"
+            ),
+            Part::StepTarget(step) => write!(
+                f,
+                "step {step} (counted from 0 over all rows): its target row is {value}; it must be below the number of rows, {limit}"
+            ),
+            Part::StepCount(row) => write!(
+                f,
+                "up to row {row} the rows have {value} steps; the header says {limit}"
+            ),
+        }
     }
 }
 
 // The table is for another tower.
-fn other_tower<R: Eprint>(rt: &R, bytes: &[u8], tower: &[u8], tower_bytes: &[u8]) {
-    say(rt, b"the table is for a tower with ");
-    say_number(rt, place_table::states(bytes));
-    say(rt, b" states and ");
-    say_number(rt, place_table::actions(bytes));
-    say(rt, b" actions; ");
-    say(rt, tower);
-    say(rt, b" has ");
-    say_number(rt, place_tower::states(tower_bytes));
-    say(rt, b" and ");
-    say_number(rt, place_tower::actions(tower_bytes));
-    say(rt, b"\n");
+fn other_tower<R: Eprint>(rt: &R, table: &[u8], bytes: &[u8], tower: &[u8], tower_bytes: &[u8]) {
+    in_file(
+        rt,
+        table,
+        format_args!(
+            "the table is for a tower with {} states and {} actions; {} has {} and {}",
+            place_table::states(bytes),
+            place_table::actions(bytes),
+            Shown(tower),
+            place_tower::states(tower_bytes),
+            place_tower::actions(tower_bytes)
+        ),
+    );
 }
 
 // 13: the layout, or another tower's table.
 pub fn layout<R: Eprint>(rt: &R, table: &[u8], bytes: &[u8], tower: &[u8], tower_bytes: &[u8]) {
-    let fault = place_table::wrong_layout(bytes);
-    of_file(rt, table);
-    if fault.what == 0 {
-        other_tower(rt, bytes, tower, tower_bytes);
-        return;
+    match place_table::check_layout(bytes) {
+        Ok(()) => other_tower(rt, table, bytes, tower, tower_bytes),
+        Err(fault) => in_file(rt, table, LayoutFault(fault)),
     }
-    header(rt, fault.what, fault.number, fault.value, fault.limit);
 }
 
-// Begins a sentence about a row.
-fn of_row<R: Eprint>(rt: &R, table: &[u8], bytes: &[u8], row: usize) {
-    say(rt, table);
-    say(rt, b", row ");
-    say_number(rt, row);
-    say(rt, b", state ");
-    say_number(rt, place_table::row_state(bytes, row));
-    say(rt, b": ");
+// A row of a table: the name of the file, its bytes, and the number of the row.
+#[derive(Clone, Copy)]
+struct Row<'a> {
+    table: &'a [u8],
+    bytes: &'a [u8],
+    number: usize,
+}
+
+impl<'a> Row<'a> {
+    // Says what is wrong with the row.
+    fn say<R: Eprint>(&self, rt: &R, words: impl Display + Drop) {
+        let number = self.number;
+        let state = place_table::row_state(self.bytes, number);
+        say(
+            rt,
+            format_args!(
+                "{}, row {number}, state {state}: {words}\n",
+                Shown(self.table)
+            ),
+        );
+    }
 }
 
 // Whose an action is that may not be withheld.
-fn whose<R: Eprint>(rt: &R, tower: &[u8], action: usize) {
+fn whose(tower: &[u8], action: usize) -> &'static str {
     if file_kinds::goes_on(place_tower::kind(tower, action)) {
-        say(rt, b" is sure to come");
-        return;
+        "is sure to come"
+    } else {
+        "is the player's"
     }
-    say(rt, b" is the player's");
 }
 
 // b: the action that is withheld and may not be.
-fn withheld<R: Eprint>(rt: &R, table: &[u8], bytes: &[u8], tower: &[u8], row: usize) {
-    of_row(rt, table, bytes, row);
-    let action = place_table::withheld(tower, bytes, row);
-    if action == NONE {
-        say(
+fn withheld<R: Eprint>(rt: &R, tower: &[u8], row: &Row<'_>) {
+    let Some(action) = place_table::withheld(tower, row.bytes, row.number) else {
+        return row.say(
             rt,
-            b"an action that may not be withheld is enabled there and not allowed\n",
+            "an action that may not be withheld is enabled there and not allowed",
         );
-        return;
-    }
-    say(rt, b"action ");
-    say_number(rt, action);
-    whose(rt, tower, action);
-    say(rt, b" and enabled there, and the row does not allow it\n");
-}
-
-// An allowed action leads to a row of another state.
-fn other_state<R: Eprint>(rt: &R, bytes: &[u8], row: usize, action: usize, state: usize) {
-    let to = place_table::target_row(bytes, row, action);
-    say(rt, b" leads to state ");
-    say_number(rt, state);
-    say(rt, b", and its target row ");
-    say_number(rt, to);
-    say(rt, b" has state ");
-    say_number(rt, place_table::row_state(bytes, to));
-    say(rt, b"\n");
-}
-
-// c: the allowed action that is not enabled or leads elsewhere.
-fn wrong_step<R: Eprint>(rt: &R, table: &[u8], bytes: &[u8], tower: &[u8], row: usize) {
-    of_row(rt, table, bytes, row);
-    let action = place_table::wrong_step(tower, bytes, row);
-    if action == NONE {
-        say(
-            rt,
-            b"an allowed action is not enabled there, or its target row has not the state that it leads to\n",
-        );
-        return;
-    }
-    let state = place_tower::target(tower, place_table::row_state(bytes, row), action);
-    say(rt, b"action ");
-    say_number(rt, action);
-    if state == NONE {
-        say(rt, b" is allowed, and not enabled in this state\n");
-        return;
-    }
-    other_state(rt, bytes, row, action, state);
-}
-
-// d: the row has no step, or steps of the player's alone.
-fn stopped<R: Eprint>(rt: &R, table: &[u8], bytes: &[u8], row: usize) {
-    of_row(rt, table, bytes, row);
-    if place_table::row_count(bytes, row) == 0 {
-        say(
-            rt,
-            b"the row allows no action, so that the tower stops there\n",
-        );
-        return;
-    }
-    say(
+    };
+    let whose = whose(tower, action);
+    row.say(
         rt,
-        b"the row allows no action but the player's, so that the tower stops there when nobody plays\n",
+        format_args!("action {action} {whose} and enabled there, and the row does not allow it"),
     );
 }
 
+// c: the allowed action that is not enabled or leads elsewhere.
+fn wrong_step<R: Eprint>(rt: &R, tower: &[u8], row: &Row<'_>) {
+    match place_table::wrong_step(tower, row.bytes, row.number) {
+        Some(StepFault::NotEnabled { action }) => row.say(
+            rt,
+            format_args!("action {action} is allowed, and not enabled in this state"),
+        ),
+        Some(
+            StepFault::OtherState {
+                action,
+                state,
+                target_row,
+            },
+        ) => row.say(
+            rt,
+            format_args!(
+                "action {action} leads to state {state}, and its target row {target_row} has state {}",
+                place_table::row_state(row.bytes, target_row)
+            ),
+        ),
+        None => row.say(
+            rt,
+            "an allowed action is not enabled there, or its target row has not the state that it leads to",
+        ),
+    }
+}
+
+// d: the row has no step, or steps of the player's alone.
+fn stopped<R: Eprint>(rt: &R, row: &Row<'_>) {
+    let words = if place_table::row_count(row.bytes, row.number) == 0 {
+        "the row allows no action, so that the tower stops there"
+    } else {
+        "the row allows no action but the player's, so that the tower stops there when nobody plays"
+    };
+    row.say(rt, words);
+}
+
 // a: row 0 has another state.
-fn start<R: Eprint>(rt: &R, table: &[u8], bytes: &[u8], tower: &[u8]) {
-    of_row(rt, table, bytes, 0);
-    say(rt, b"the tower starts in state ");
-    say_number(rt, place_tower::start(tower));
-    say(rt, b"\n");
+fn start<R: Eprint>(rt: &R, tower: &[u8], row: &Row<'_>) {
+    let state = place_tower::start(tower);
+    row.say(rt, format_args!("the tower starts in state {state}"));
 }
 
 // 14: why a table is not good.
 pub fn not_good<R: Eprint>(rt: &R, table: &[u8], bytes: &[u8], tower: &[u8], reason: Reason) {
+    let row = |number| Row {
+        table,
+        bytes,
+        number,
+    };
     match reason {
-        Reason::Start => {
-            start(rt, table, bytes, tower);
-        }
-        Reason::Withheld(row) => {
-            withheld(rt, table, bytes, tower, row);
-        }
-        Reason::WrongStep(row) => {
-            wrong_step(rt, table, bytes, tower, row);
-        }
-        Reason::Stopped(row) => {
-            stopped(rt, table, bytes, row);
-        }
-        Reason::Broken => {
-            in_file(rt, table, b"a run that it allows breaks a rule of the book");
-        }
+        Reason::Start => start(rt, tower, &row(0)),
+        Reason::Withheld(number) => withheld(rt, tower, &row(number)),
+        Reason::WrongStep(number) => wrong_step(rt, tower, &row(number)),
+        Reason::Stopped(number) => stopped(rt, &row(number)),
+        Reason::Broken => in_file(rt, table, "a run that it allows breaks a rule of the book"),
     }
 }

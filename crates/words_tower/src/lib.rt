@@ -1,220 +1,210 @@
 // What is wrong with a tower file: 1 to 5, and 12 where the tower alone is to blame.
 #![tactic(auto)]
 
-use place_bytes::{down, two_at};
-use program_saying::{of_file, say, say_number};
+use place_bytes::two_at;
+use place_tower::ActionFault;
+use program_saying::in_file;
+use std::fmt;
+use std::fmt::{Display, Formatter, Write};
 use std::io::Eprint;
 
 // The longest tower file; the programs read one byte more of a longer one.
 const LONGEST: usize = 3640;
 
-// So many bytes, or more than the longest file has.
-fn say_length<R: Eprint>(rt: &R, length: usize) {
-    if LONGEST < length {
-        say(rt, b"more than 3640 bytes");
-        return;
+// The length of a file, or that it has more bytes than the longest has.
+#[derive(Clone, Copy)]
+struct FileSize(usize);
+
+impl Display for FileSize {
+    fn fmt<W: Write>(&self, f: &mut Formatter<W>) -> fmt::Result {
+        let length = self.0;
+        if LONGEST < length {
+            f.write_str("more than 3640 bytes")
+        } else {
+            write!(f, "{length} bytes")
+        }
     }
-    say_number(rt, length);
-    say(rt, b" bytes");
 }
 
-// An offset that is wrong.
-fn offset<R: Eprint>(rt: &R, file: &[u8], name: &[u8], value: usize, right: usize) {
-    of_file(rt, file);
-    say(rt, name);
-    say(rt, b" is ");
-    say_number(rt, value);
-    say(rt, b"; it must be ");
-    say_number(rt, right);
-    say(rt, b"\n");
+// The marks that there are.
+#[derive(Clone, Copy)]
+pub struct Marks(pub usize);
+
+impl Display for Marks {
+    fn fmt<W: Write>(&self, f: &mut Formatter<W>) -> fmt::Result {
+        let marks = self.0;
+        match marks {
+            0 => f.write_str("the tower has no marks"),
+            1 => f.write_str("the tower has 1 mark, p0"),
+            _ => write!(f, "the tower has {marks} marks, p0 to p{}", marks - 1),
+        }
+    }
+}
+
+// A value of the header that is wrong, and what it must be.
+fn must_be<R: Eprint>(rt: &R, file: &[u8], name: &str, value: usize, right: impl Display + Drop) {
+    in_file(
+        rt,
+        file,
+        format_args!("{name} is {value}; it must be {right}"),
+    );
 }
 
 // The length is not that of the counts.
 fn length<R: Eprint>(rt: &R, file: &[u8], bytes: &[u8]) {
-    of_file(rt, file);
-    say(rt, b"the file has ");
-    say_length(rt, bytes.len());
-    say(rt, b"; with ");
-    say_number(rt, place_tower::states(bytes));
-    say(rt, b" states and ");
-    say_number(rt, place_tower::actions(bytes));
-    say(rt, b" actions it must have ");
-    say_number(
+    let length = FileSize(bytes.len());
+    let states = place_tower::states(bytes);
+    let actions = place_tower::actions(bytes);
+    let right = place_tower::state_place(bytes, states);
+    in_file(
         rt,
-        place_tower::state_place(bytes, place_tower::states(bytes)),
+        file,
+        format_args!(
+            "the file has {length}; with {states} states and {actions} actions it must have {right}"
+        ),
     );
-    say(rt, b"\n");
 }
 
 // 1: no header, an offset, or the length.
 pub fn size<R: Eprint>(rt: &R, file: &[u8], bytes: &[u8]) {
+    let actions_at = two_at(bytes, 4);
+    let states_at = two_at(bytes, 6);
+    let right = place_tower::states_place(bytes);
     if bytes.len() < 8 {
-        of_file(rt, file);
-        say(rt, b"the file has ");
-        say_length(rt, bytes.len());
-        say(rt, b"; a tower file begins with a header of 8\n");
-        return;
-    }
-    if two_at(bytes, 4) != 8 {
-        offset(
+        let length = FileSize(bytes.len());
+        in_file(
             rt,
             file,
-            b"the offset of the actions (bytes 4 and 5)",
-            two_at(bytes, 4),
+            format_args!("the file has {length}; a tower file begins with a header of 8"),
+        );
+    } else if actions_at != 8 {
+        must_be(
+            rt,
+            file,
+            "the offset of the actions (bytes 4 and 5)",
+            actions_at,
             8,
         );
-        return;
-    }
-    if two_at(bytes, 6) != place_tower::states_place(bytes) {
-        offset(
+    } else if states_at != right {
+        must_be(
             rt,
             file,
-            b"the offset of the states (bytes 6 and 7)",
-            two_at(bytes, 6),
-            place_tower::states_place(bytes),
+            "the offset of the states (bytes 6 and 7)",
+            states_at,
+            right,
         );
-        return;
+    } else {
+        length(rt, file, bytes);
     }
-    length(rt, file, bytes);
-}
-
-// A count that is out of range.
-fn count<R: Eprint>(rt: &R, file: &[u8], name: &[u8], value: usize, right: &[u8]) {
-    of_file(rt, file);
-    say(rt, name);
-    say(rt, b" is ");
-    say_number(rt, value);
-    say(rt, b"; it must be ");
-    say(rt, right);
-    say(rt, b"\n");
-}
-
-// Whether a number is from 1 to a limit.
-fn from_1(n: usize, most: usize) -> bool {
-    if n == 0 {
-        return false;
-    }
-    n <= most
 }
 
 // 2: a count, or the start state.
 pub fn range<R: Eprint>(rt: &R, file: &[u8], bytes: &[u8]) {
     let states = place_tower::states(bytes);
-    if !from_1(states, 200) {
-        count(
-            rt,
-            file,
-            b"the number of states (byte 0)",
-            states,
-            b"1 to 200",
-        );
-        return;
-    }
     let actions = place_tower::actions(bytes);
-    if !from_1(actions, 16) {
-        count(
+    let marks = place_tower::marks(bytes);
+    if !(1..=200).contains(&states) {
+        must_be(
             rt,
             file,
-            b"the number of actions (byte 1)",
-            actions,
-            b"1 to 16",
+            "the number of states (byte 0)",
+            states,
+            "1 to 200",
         );
-        return;
+    } else if !(1..=16).contains(&actions) {
+        must_be(
+            rt,
+            file,
+            "the number of actions (byte 1)",
+            actions,
+            "1 to 16",
+        );
+    } else if 16 < marks {
+        must_be(rt, file, "the number of marks (byte 2)", marks, "0 to 16");
+    } else {
+        let last = states.saturating_sub(1);
+        must_be(
+            rt,
+            file,
+            "the start state (byte 3)",
+            place_tower::start(bytes),
+            format_args!("a state, 0 to {last}"),
+        );
     }
-    let marks = place_tower::marks(bytes);
-    if 16 < marks {
-        count(rt, file, b"the number of marks (byte 2)", marks, b"0 to 16");
-        return;
-    }
-    of_file(rt, file);
-    say(rt, b"the start state (byte 3) is ");
-    say_number(rt, place_tower::start(bytes));
-    say(rt, b"; it must be a state, 0 to ");
-    say_number(rt, down(states));
-    say(rt, b"\n");
 }
 
 // 3: the length or the kind of an action.
 pub fn action<R: Eprint>(rt: &R, file: &[u8], bytes: &[u8]) {
-    let spot = place_tower::bad_action(bytes);
-    of_file(rt, file);
-    say(rt, b"action ");
-    say_number(rt, spot.action);
-    if spot.value == 0 {
-        say(rt, b": its length (byte ");
-        say_number(rt, spot.at);
-        say(rt, b") is 0; it must be 1 to 255\n");
-        return;
+    match place_tower::bad_action(bytes) {
+        Some(ActionFault::Length { action, at }) => in_file(
+            rt,
+            file,
+            format_args!("action {action}: its length (byte {at}) is 0; it must be 1 to 255"),
+        ),
+        Some(ActionFault::Kind { action, at, kind }) => in_file(
+            rt,
+            file,
+            format_args!(
+                "action {action}: its kind (byte {at}) is {kind}; it must be 0, the player's, 1, ours, or 2, sure to come"
+            ),
+        ),
+        None => in_file(rt, file, "the length or the kind of an action is wrong"),
     }
-    say(rt, b": its kind (byte ");
-    say_number(rt, spot.at);
-    say(rt, b") is ");
-    say_number(rt, spot.value);
-    say(
-        rt,
-        b"; it must be 0, the player's, 1, ours, or 2, sure to come\n",
-    );
 }
 
 // 4: a target.
 pub fn target<R: Eprint>(rt: &R, file: &[u8], bytes: &[u8]) {
-    let spot = place_tower::bad_target(bytes);
-    of_file(rt, file);
-    say(rt, b"state ");
-    say_number(rt, spot.state);
-    say(rt, b", action ");
-    say_number(rt, spot.action);
-    say(rt, b": its target (byte ");
-    say_number(rt, spot.at);
-    say(rt, b") is ");
-    say_number(rt, spot.value);
-    say(rt, b"; it must be a state, 0 to ");
-    say_number(rt, down(place_tower::states(bytes)));
-    say(rt, b", or 255 where the action is not enabled\n");
-}
-
-// The marks that there are.
-pub fn say_marks<R: Eprint>(rt: &R, marks: usize) {
-    if marks == 0 {
-        say(rt, b"the tower has no marks\n");
-        return;
-    }
-    if marks == 1 {
-        say(rt, b"the tower has 1 mark, p0\n");
-        return;
-    }
-    say(rt, b"the tower has ");
-    say_number(rt, marks);
-    say(rt, b" marks, p0 to p");
-    say_number(rt, down(marks));
-    say(rt, b"\n");
+    let Some(fault) = place_tower::bad_target(bytes) else {
+        return in_file(rt, file, "a target is wrong");
+    };
+    let last = place_tower::states(bytes).saturating_sub(1);
+    in_file(
+        rt,
+        file,
+        format_args!(
+            "state {}, action {}: its target (byte {}) is {}; it must be a state, 0 to {last}, or 255 where the action is not enabled",
+            fault.state, fault.action, fault.at, fault.target
+        ),
+    );
 }
 
 // 5: a mark of a state.
 pub fn mask<R: Eprint>(rt: &R, file: &[u8], bytes: &[u8]) {
-    let spot = place_tower::bad_mask(bytes);
-    of_file(rt, file);
-    say(rt, b"state ");
-    say_number(rt, spot.state);
-    say(rt, b" (bytes from ");
-    say_number(rt, spot.at);
-    say(rt, b" on) has mark p");
-    say_number(rt, spot.value);
-    say(rt, b"; ");
-    say_marks(rt, place_tower::marks(bytes));
+    let marks = Marks(place_tower::marks(bytes));
+    let Some(fault) = place_tower::bad_mark(bytes) else {
+        return in_file(rt, file, marks);
+    };
+    in_file(
+        rt,
+        file,
+        format_args!(
+            "state {} (bytes from {} on) has mark p{}; {marks}",
+            fault.state, fault.at, fault.mark
+        ),
+    );
+}
+
+// Where a dead end is, if one is found.
+#[derive(Clone, Copy)]
+struct DeadEnd(Option<usize>);
+
+impl Display for DeadEnd {
+    fn fmt<W: Write>(&self, f: &mut Formatter<W>) -> fmt::Result {
+        match self.0 {
+            Some(state) => write!(f, ", such as state {state}"),
+            None => Ok(()),
+        }
+    }
 }
 
 // 12 without a rule.
 pub fn dead_end<R: Eprint>(rt: &R, file: &[u8], bytes: &[u8]) {
-    of_file(rt, file);
-    say(
+    let such_as = DeadEnd(place_tower::stuck(bytes));
+    in_file(
         rt,
-        b"no table is good for this tower, even without any rule: a dead end cannot be kept away from, a state that no action leaves but the player's",
+        file,
+        format_args!(
+            "no table is good for this tower, even without any rule: a dead end cannot be kept away from, a state that no action leaves but the player's{such_as}; the rules are not to blame"
+        ),
     );
-    let state = place_tower::stuck(bytes);
-    if state < place_tower::states(bytes) {
-        say(rt, b", such as state ");
-        say_number(rt, state);
-    }
-    say(rt, b"; the rules are not to blame\n");
 }

@@ -1,24 +1,14 @@
 -- `alternative_bytes::both_cell` meets its contract, by the laws of Ways.
 use borrow.Author.Rules.{rules}
+use Rattle.book_progression.proofs.Cells.{cell_low}
 use Rattle.alternative_bytes.proofs.Ways.{both_first, both_merged}
 use Rattle.alternative_bytes.proofs.both_cell.Goals as goal
 
-ruleset all = (rules, both_first, both_merged)
+pub returns-in_default : goal.returns-in_default
+returns-in_default c = both_first _ _ _ _ c.in_default.ensures
 
-pub returns-then-other-eq0 : goal.returns-then-other-eq0
-returns-then-other-eq0 c = search all
-
-pub overflow_sub-other : goal.overflow_sub-other
-overflow_sub-other c = search all
-
-pub merged-left-requires : goal.merged-left-requires
-merged-left-requires c = search all
-
-pub overflow_add-result : goal.overflow_add-result
-overflow_add-result c = search all
-
-pub overflow_cast-result : goal.overflow_cast-result
-overflow_cast-result c = search all
+pub merged-requires-clause-r_bound : goal.merged-requires-clause-r_bound
+merged-requires-clause-r_bound c = cell_low _ _ c.in-Some.ensures (search rules)
 
 pub returns : goal.returns
-returns c = search all
+returns c = rw c.cell.ensures (both_merged _ _ _ _ _ _ c.in-Some.ensures c.merged.ensures)

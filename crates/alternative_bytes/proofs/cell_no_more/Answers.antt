@@ -1,27 +1,19 @@
 -- `alternative_bytes::cell_no_more` meets its contract, by the laws of Ways.
 use borrow.Author.Rules.{rules}
-use Rattle.alternative_bytes.proofs.Ways.{no_more_same, no_more_none, more_than_none, no_more_always, no_more_until, more_other}
+use Rattle.alternative_bytes.proofs.Ways.{no_more_none, more_than_none, no_more_always, no_more_until, no_more_other}
 use Rattle.alternative_bytes.proofs.cell_no_more.Goals as goal
 
-ruleset all = (rules, no_more_same, no_more_none, more_than_none, no_more_always, no_more_until, more_other)
+pub returns-in_default : goal.returns-in_default
+returns-in_default c = no_more_none _ _ _ _ c.in_default.ensures
 
-pub returns-then-cell-other : goal.returns-then-cell-other
-returns-then-cell-other c = search all
+pub returns-in_default-pending : goal.returns-in_default-pending
+returns-in_default-pending c = more_than_none _ _ _ _ _ c.in-Some.ensures c.in_default-pending.ensures
 
-pub returns-then-cell-eq0 : goal.returns-then-cell-eq0
-returns-then-cell-eq0 c = search all
+pub returns-in-11 : goal.returns-in-11
+returns-in-11 c = no_more_always _ _ _ _ _ c.in-Some.ensures _ c.in-Some-pending.ensures _ c.code.ensures _ c.in-11.is c.le.ensures
 
-pub returns-then-other-eq0 : goal.returns-then-other-eq0
-returns-then-other-eq0 c = search all
+pub returns-in-12 : goal.returns-in-12
+returns-in-12 c = no_more_until _ _ _ _ _ c.in-Some.ensures _ c.in-Some-pending.ensures _ c.code.ensures _ c.in-12.is c.le-in-12.ensures
 
-pub code-code-requires : goal.code-code-requires
-code-code-requires c = search all
-
-pub returns-then-code-eq-ALWAYS : goal.returns-then-code-eq-ALWAYS
-returns-then-code-eq-ALWAYS c = search all
-
-pub returns-then-code-eq-UNTIL : goal.returns-then-code-eq-UNTIL
-returns-then-code-eq-UNTIL c = search all
-
-pub returns : goal.returns
-returns c = search all
+pub returns-in_default-code : goal.returns-in_default-code
+returns-in_default-code c = no_more_other _ _ _ _ _ c.in-Some.ensures _ c.in-Some-pending.ensures _ c.code.ensures _ (search rules) (search rules) c.eq.ensures

@@ -12,18 +12,14 @@ pub two_values-requires : goal.two_values-requires
 unfolding book_said
 two_values-requires c = search rules
 
-pub enum_known-book-in-Refused-1 : goal.enum_known-book-in-Refused-1
-unfolding book_said
-enum_known-book-in-Refused-1 c = search rules
-
 pub refused-requires : goal.refused-requires
 unfolding book_said
 refused-requires c = search rules
 
-pub returns-in-Read : goal.returns-in-Read
+pub returns-in-Ok : goal.returns-in-Ok
 unfolding book_said
-returns-in-Read c = search (shown_by book_said)
+returns-in-Ok c = search (shown_by book_said)
 
-pub returns-in-Refused : goal.returns-in-Refused
+pub returns-in-Err : goal.returns-in-Err
 unfolding book_said
-returns-in-Refused c = search (shown_by book_said)
+returns-in-Err c = search (shown_by book_said)

@@ -16,26 +16,10 @@ pub enum_known-verdict : goal.enum_known-verdict
 unfolding verdict_said
 enum_known-verdict c = search rules
 
-pub not_good-requires : goal.not_good-requires
+pub returns-in-Ok : goal.returns-in-Ok
 unfolding verdict_said
-not_good-requires c = search rules
+returns-in-Ok c = search (shown_by verdict_said)
 
-pub enum_known-verdict-in-Refused-1 : goal.enum_known-verdict-in-Refused-1
+pub returns-in-Err : goal.returns-in-Err
 unfolding verdict_said
-enum_known-verdict-in-Refused-1 c = search rules
-
-pub refused-requires : goal.refused-requires
-unfolding verdict_said
-refused-requires c = search rules
-
-pub returns-in-Good : goal.returns-in-Good
-unfolding verdict_said
-returns-in-Good c = search (shown_by verdict_said)
-
-pub returns-in-NotGood : goal.returns-in-NotGood
-unfolding verdict_said
-returns-in-NotGood c = search (shown_by verdict_said)
-
-pub returns-in-Refused : goal.returns-in-Refused
-unfolding verdict_said
-returns-in-Refused c = search (shown_by verdict_said)
+returns-in-Err c = search (shown_by verdict_said)

@@ -12,18 +12,14 @@ pub value-requires : goal.value-requires
 unfolding follow_said
 value-requires c = search rules
 
-pub enum_known-followed-in-Refused-1 : goal.enum_known-followed-in-Refused-1
-unfolding follow_said
-enum_known-followed-in-Refused-1 c = search rules
-
 pub refused-requires : goal.refused-requires
 unfolding follow_said
 refused-requires c = search rules
 
-pub returns-in-Row : goal.returns-in-Row
+pub returns-in-Ok : goal.returns-in-Ok
 unfolding follow_said
-returns-in-Row c = search (shown_by follow_said)
+returns-in-Ok c = search (shown_by follow_said)
 
-pub returns-in-Refused : goal.returns-in-Refused
+pub returns-in-Err : goal.returns-in-Err
 unfolding follow_said
-returns-in-Refused c = search (shown_by follow_said)
+returns-in-Err c = search (shown_by follow_said)

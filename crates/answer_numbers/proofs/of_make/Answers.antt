@@ -12,18 +12,14 @@ pub value-requires : goal.value-requires
 unfolding make_said
 value-requires c = search rules
 
-pub enum_known-made-in-Refused-1 : goal.enum_known-made-in-Refused-1
-unfolding make_said
-enum_known-made-in-Refused-1 c = search rules
-
 pub refused-requires : goal.refused-requires
 unfolding make_said
 refused-requires c = search rules
 
-pub returns-in-Made : goal.returns-in-Made
+pub returns-in-Ok : goal.returns-in-Ok
 unfolding make_said
-returns-in-Made c = search (shown_by make_said)
+returns-in-Ok c = search (shown_by make_said)
 
-pub returns-in-Refused : goal.returns-in-Refused
+pub returns-in-Err : goal.returns-in-Err
 unfolding make_said
-returns-in-Refused c = search (shown_by make_said)
+returns-in-Err c = search (shown_by make_said)

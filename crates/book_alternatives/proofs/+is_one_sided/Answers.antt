@@ -1,20 +1,14 @@
 -- `book_alternatives::is_one_sided` meets its contract, by the laws of Sides.
 use Rattle.book_progression.proofs.Nodes.{first_below, until_below, second_below}
-use Rattle.book_alternatives.proofs.Sides.{sides_leaf, sides_two, sides_only, sides_until, sides_both}
+use Rattle.book_alternatives.proofs.Sides.{sides_leaf, sides_only, sides_until, sides_both}
 use borrow.Author.Rules.{rules}
 use Rattle.book_alternatives.proofs.+is_one_sided.Goals as goal
 
 pub returns-then-code-le-WANTED : goal.returns-then-code-le-WANTED
 returns-then-code-le-WANTED t c = search (rules, sides_leaf)
 
-pub returns-then-is_two_sided : goal.returns-then-is_two_sided
-returns-then-is_two_sided t c = search (rules, sides_two)
-
 pub is_one_sided-requires : goal.is_one_sided-requires
 is_one_sided-requires t c = second_below _ _ _ _ c.second.ensures c.code-code.ensures (search rules) (search rules) t (search rules)
-
-pub returns-then-not-is_one_sided : goal.returns-then-not-is_one_sided
-returns-then-not-is_one_sided t c = search (rules, sides_two)
 
 pub is_one_sided-requires-then-code-lt-NO_MORE : goal.is_one_sided-requires-then-code-lt-NO_MORE
 is_one_sided-requires-then-code-lt-NO_MORE t c = first_below _ _ _ _ c.first.ensures c.code-code.ensures (search rules) (search rules) (search rules) t (search rules)

@@ -16,8 +16,8 @@ is_timed-requires t c = first_below _ _ _ _ c.first.ensures c.code-code.ensures 
 pub returns-then-is_timed : goal.returns-then-is_timed
 returns-then-is_timed t c = search (rules, timed_first)
 
-pub is_timed-requires-2 : goal.is_timed-requires-2
-is_timed-requires-2 t c = second_below _ _ _ _ c.second.ensures c.code-code.ensures (search rules) (search rules) t (search rules)
+pub is_timed-requires-else-is_timed : goal.is_timed-requires-else-is_timed
+is_timed-requires-else-is_timed t c = second_below _ _ _ _ c.second.ensures c.code-code.ensures (search rules) (search rules) t (search rules)
 
-pub returns : goal.returns
-returns t c = search (rules, timed_second)
+pub returns-else-is_timed : goal.returns-else-is_timed
+returns-else-is_timed t c = search (rules, timed_second)

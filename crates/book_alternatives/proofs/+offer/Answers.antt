@@ -1,59 +1,69 @@
 -- `book_alternatives::offer` meets its contract, by the laws of Offering and InPlace.
-use Rattle.book_alternatives.proofs.Offering.{offer_node, offer_own, fresh_few, part_node, part_inside, part_ready, stays_ready, second_is_node, second_part_ready, two_ready, offered_tested, offered_alone, offered_stays, offered_two}
-use Rattle.book_alternatives.proofs.InPlace.{in_place_ready, offered_one}
+use mathlib.Core.Path.{refl}
+use Rattle.book_alternatives.proofs.Offering.{fresh_few, part_second, part_first, part_node, part_inside, part_ready, stays_ready, second_is_node, second_part_ready, two_ready, offered_broken, offered_passes, offered_alone, offered_second, offered_first, offered_two}
+use Rattle.book_alternatives.proofs.InPlace.{offered_one}
 use borrow.Author.Rules.{rules}
 use Rattle.book_alternatives.proofs.+offer.Goals as goal
-
-pub gives_one-requires : goal.gives_one-requires
-gives_one-requires t c = search (rules, offer_node)
-
-pub offer_one-requires : goal.offer_one-requires
-offer_one-requires t c = search (rules, in_place_ready)
 
 pub returns-then-gives_one : goal.returns-then-gives_one
 returns-then-gives_one t c = search (rules, offered_one)
 
-pub looks-look-requires : goal.looks-look-requires
-looks-look-requires t c = search (rules, offer_node)
+pub fresh-requires : goal.fresh-requires
+fresh-requires t c = part_node _ _ _ _ _ _ _ c.in-Part.ensures (part_second _ _ _ _ c.second-part.ensures refl) refl _ _ _ c.requires
 
-pub tested-requires : goal.tested-requires
-tested-requires t c = search (rules, offer_own)
+pub alone-requires-clause-part_lt_n : goal.alone-requires-clause-part_lt_n
+alone-requires-clause-part_lt_n t c = part_inside _ _ _ _ _ _ _ c.in-Part.ensures (part_second _ _ _ _ c.second-part.ensures refl) refl _ _ _ c.requires
 
-pub returns-then-look-le-PASSES : goal.returns-then-look-le-PASSES
-returns-then-look-le-PASSES t c = search (rules, offered_tested)
+pub alone-requires-clause-r_bound : goal.alone-requires-clause-r_bound
+alone-requires-clause-r_bound t c = fresh_few _ _ _ c.fresh.ensures (part_node _ _ _ _ _ _ _ c.in-Part.ensures (part_second _ _ _ _ c.second-part.ensures refl) refl _ _ _ c.requires)
 
-pub looked_part-part-requires : goal.looked_part-part-requires
-looked_part-part-requires t c = search (rules, offer_node)
-
-pub fresh-fresh-requires : goal.fresh-fresh-requires
-fresh-fresh-requires t c = search (rules, part_node)
-
-pub alone-requires : goal.alone-requires
-alone-requires t c = record { own_ready = search (rules, offer_own); part_lt_n = search (rules, part_inside); r_bound = search (rules, fresh_few, part_node) }
-
-pub returns-then-look-eq-PART : goal.returns-then-look-eq-PART
-returns-then-look-eq-PART t c = search (rules, offered_alone)
+pub fresh-requires-in-Second : goal.fresh-requires-in-Second
+fresh-requires-in-Second t c = part_node _ _ _ _ _ _ _ c.in-Second.ensures (part_second _ _ _ _ c.second-part-in-Second.ensures refl) refl _ _ _ c.requires
 
 pub offer-one-requires : goal.offer-one-requires
-offer-one-requires t c = part_ready _ _ _ _ _ _ _ c.looks-look.ensures c.looked_part-part.ensures (search rules) _ _ _ (search rules) _ c.fresh-fresh.ensures t (search rules)
+offer-one-requires t c = part_ready _ _ _ _ _ _ _ c.in-Second.ensures (part_second _ _ _ _ c.second-part-in-Second.ensures refl) refl _ _ _ c.requires _ c.fresh-in-Second.ensures t (search rules)
 
 pub stay-requires : goal.stay-requires
-stay-requires t c = stays_ready _ _ _ _ _ _ _ _ _ c.looks-look.ensures _ c.looked_part-part.ensures (search rules) _ c.fresh-fresh.ensures _ _ _ c.offer-one.ensures c.requires
+stay-requires t c = stays_ready _ _ _ _ _ _ _ _ _ c.in-Second.ensures _ (part_second _ _ _ _ c.second-part-in-Second.ensures refl) refl _ c.fresh-in-Second.ensures _ _ _ c.offer-one.ensures c.requires
 
-pub returns-then-look-ne-BOTH : goal.returns-then-look-ne-BOTH
-returns-then-look-ne-BOTH t c = offered_stays _ _ _ _ _ _ _ _ _ c.looks-look.ensures _ c.looked_part-part.ensures (search rules) _ c.fresh-fresh.ensures _ _ _ c.offer-one.ensures c.requires _ _ _ c.stay.ensures (search rules) (search rules)
+pub fresh-requires-in-First : goal.fresh-requires-in-First
+fresh-requires-in-First t c = part_node _ _ _ _ _ _ _ c.in-First.ensures (part_first _ _ _ _ c.first-part.ensures refl) refl _ _ _ c.requires
 
-pub second-second-requires : goal.second-second-requires
-second-second-requires t c = search (rules, offer_node)
+pub offer-one-requires-in-First : goal.offer-one-requires-in-First
+offer-one-requires-in-First t c = part_ready _ _ _ _ _ _ _ c.in-First.ensures (part_first _ _ _ _ c.first-part.ensures refl) refl _ _ _ c.requires _ c.fresh-in-First.ensures t (search rules)
 
-pub fresh-requires : goal.fresh-requires
-fresh-requires t c = second_is_node _ _ _ _ _ _ _ _ _ c.looks-look.ensures _ c.looked_part-part.ensures (search rules) _ c.fresh-fresh.ensures _ _ _ c.offer-one.ensures c.requires (search rules) _ c.second-second.ensures
+pub stay-requires-in-First : goal.stay-requires-in-First
+stay-requires-in-First t c = stays_ready _ _ _ _ _ _ _ _ _ c.in-First.ensures _ (part_first _ _ _ _ c.first-part.ensures refl) refl _ c.fresh-in-First.ensures _ _ _ c.offer-one-in-First.ensures c.requires
+
+pub fresh-requires-in-Both : goal.fresh-requires-in-Both
+fresh-requires-in-Both t c = part_node _ _ _ _ _ _ _ c.in-Both.ensures (part_first _ _ _ _ c.first-first.ensures refl) refl _ _ _ c.requires
+
+pub offer-one-requires-in-Both : goal.offer-one-requires-in-Both
+offer-one-requires-in-Both t c = part_ready _ _ _ _ _ _ _ c.in-Both.ensures (part_first _ _ _ _ c.first-first.ensures refl) refl _ _ _ c.requires _ c.fresh-in-Both.ensures t (search rules)
+
+pub fresh-requires-in-Both-2 : goal.fresh-requires-in-Both-2
+fresh-requires-in-Both-2 t c = second_is_node _ _ _ _ _ _ _ _ _ c.in-Both.ensures _ (part_first _ _ _ _ c.first-first.ensures refl) refl _ c.fresh-in-Both.ensures _ _ _ c.offer-one-in-Both.ensures c.requires refl _ c.second-second.ensures
 
 pub offer-two-requires : goal.offer-two-requires
-offer-two-requires t c = second_part_ready _ _ _ _ _ _ _ _ _ c.looks-look.ensures _ c.looked_part-part.ensures (search rules) _ c.fresh-fresh.ensures _ _ _ c.offer-one.ensures c.requires (search rules) _ c.second-second.ensures _ c.fresh.ensures t (search rules)
+offer-two-requires t c = second_part_ready _ _ _ _ _ _ _ _ _ c.in-Both.ensures _ (part_first _ _ _ _ c.first-first.ensures refl) refl _ c.fresh-in-Both.ensures _ _ _ c.offer-one-in-Both.ensures c.requires refl _ c.second-second.ensures _ c.fresh-in-Both-2.ensures t (search rules)
 
 pub of_two-requires : goal.of_two-requires
-of_two-requires t c = two_ready _ _ _ _ _ _ _ _ _ c.looks-look.ensures _ c.looked_part-part.ensures (search rules) _ c.fresh-fresh.ensures _ _ _ c.offer-one.ensures c.requires (search rules) _ c.second-second.ensures _ c.fresh.ensures _ _ _ c.offer-two.ensures
+of_two-requires t c = two_ready _ _ _ _ _ _ _ _ _ c.in-Both.ensures _ (part_first _ _ _ _ c.first-first.ensures refl) refl _ c.fresh-in-Both.ensures _ _ _ c.offer-one-in-Both.ensures c.requires refl _ c.second-second.ensures _ c.fresh-in-Both-2.ensures _ _ _ c.offer-two.ensures
 
-pub returns : goal.returns
-returns t c = offered_two _ _ _ _ _ _ _ _ _ c.looks-look.ensures _ c.looked_part-part.ensures (search rules) _ c.fresh-fresh.ensures _ _ _ c.offer-one.ensures c.requires (search rules) _ c.second-second.ensures _ c.fresh.ensures _ _ _ c.offer-two.ensures _ _ _ c.of_two.ensures
+pub returns-in-Broken : goal.returns-in-Broken
+returns-in-Broken t c = offered_broken _ _ _ _ _ _ _ _ _ c.in-Broken.ensures _ _ c.tested.ensures refl
+
+pub returns-in-Passes : goal.returns-in-Passes
+returns-in-Passes t c = offered_passes _ _ _ _ _ _ _ _ _ c.in-Passes.ensures _ _ c.tested-in-Passes.ensures refl
+
+pub returns-in-Part : goal.returns-in-Part
+returns-in-Part t c = offered_alone _ _ _ _ _ _ _ _ _ c.in-Part.ensures _ (part_second _ _ _ _ c.second-part.ensures refl) refl _ c.fresh.ensures _ _ c.alone.ensures refl
+
+pub returns-in-Second : goal.returns-in-Second
+returns-in-Second t c = offered_second _ _ _ _ _ _ _ _ _ c.in-Second.ensures _ (part_second _ _ _ _ c.second-part-in-Second.ensures refl) refl _ c.fresh-in-Second.ensures _ _ _ c.offer-one.ensures c.requires _ _ _ c.stay.ensures refl
+
+pub returns-in-First : goal.returns-in-First
+returns-in-First t c = offered_first _ _ _ _ _ _ _ _ _ c.in-First.ensures _ (part_first _ _ _ _ c.first-part.ensures refl) refl _ c.fresh-in-First.ensures _ _ _ c.offer-one-in-First.ensures c.requires _ _ _ c.stay-in-First.ensures refl
+
+pub returns-in-Both : goal.returns-in-Both
+returns-in-Both t c = offered_two _ _ _ _ _ _ _ _ _ c.in-Both.ensures _ (part_first _ _ _ _ c.first-first.ensures refl) refl _ c.fresh-in-Both.ensures _ _ _ c.offer-one-in-Both.ensures c.requires refl _ c.second-second.ensures _ c.fresh-in-Both-2.ensures _ _ _ c.offer-two.ensures _ _ _ c.of_two.ensures

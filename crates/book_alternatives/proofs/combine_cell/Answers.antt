@@ -3,11 +3,11 @@ use borrow.Author.Rules.{rules}
 use Rattle.book_alternatives.proofs.Combining.{cell_none, cell_combined, cell_ready}
 use Rattle.book_alternatives.proofs.combine_cell.Goals as goal
 
-pub returns-then-cell-eq0 : goal.returns-then-cell-eq0
-returns-then-cell-eq0 c = search (rules, cell_none)
+pub returns-in_default : goal.returns-in_default
+returns-in_default c = cell_none _ _ _ _ _ _ _ _ _ c.in_default.ensures c.requires.step_ready
 
 pub combine_node-requires : goal.combine_node-requires
-combine_node-requires c = search (rules, cell_ready)
+combine_node-requires c = cell_ready _ _ _ _ _ c.args.d _ _ _ c.in-Some.r c.in-Some.ensures (search rules) c.requires.step_ready c.requires.k_lt_n
 
 pub returns : goal.returns
-returns c = search (rules, cell_combined)
+returns c = cell_combined _ _ _ _ _ _ _ _ _ c.in-Some.r c.in-Some.ensures _ _ _ c.combine_node.ensures c.requires.k_lt_n c.requires.step_ready

@@ -1,10 +1,6 @@
 -- `book_alternatives::combine_in_place` meets its contract, by the laws of InPlace.
-use borrow.Author.Rules.{rules}
-use Rattle.book_alternatives.proofs.InPlace.{place_ready, place_on, place_broken}
+use Rattle.book_alternatives.proofs.InPlace.{place_on, place_broken}
 use Rattle.book_alternatives.proofs.combine_in_place.Goals as goal
-
-pub progress-requires : goal.progress-requires
-progress-requires c = search (rules, place_ready)
 
 pub returns-then-progress : goal.returns-then-progress
 returns-then-progress c = search (place_on)

@@ -6,8 +6,11 @@ use Rattle.book_alternatives.proofs.combine_lines.Goals as goal
 pub loop-i-init : goal.loop-i-init
 loop-i-init c = search (rules, lines_first)
 
-pub combine_line-left-requires : goal.combine_line-left-requires
-combine_line-left-requires c = record { line = search (rules, is_line); n_value = search rules; step_ready = search (rules, lines_ready) }
+pub combine_line-left-requires-clause-line : goal.combine_line-left-requires-clause-line
+combine_line-left-requires-clause-line c = search (rules, is_line)
+
+pub combine_line-left-requires-clause-step_ready : goal.combine_line-left-requires-clause-step_ready
+combine_line-left-requires-clause-step_ready c = search (rules, lines_ready)
 
 pub loop-i-preserved : goal.loop-i-preserved
 loop-i-preserved c = search (lines_next)

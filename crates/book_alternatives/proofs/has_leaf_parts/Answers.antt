@@ -1,17 +1,11 @@
 -- `book_alternatives::has_leaf_parts` meets its contract, by the laws of Sides.
 use borrow.Author.Rules.{rules}
 use Rattle.book_progression.proofs.Nodes.{second_node, until_node}
-use Rattle.book_alternatives.proofs.Sides.{sides_two, leaf_only, leaf_both}
+use Rattle.book_alternatives.proofs.Sides.{leaf_only, leaf_both}
 use Rattle.book_alternatives.proofs.has_leaf_parts.Goals as goal
-
-pub returns-then-code-lt-NO_MORE : goal.returns-then-code-lt-NO_MORE
-returns-then-code-lt-NO_MORE c = search (rules, sides_two)
 
 pub code-requires : goal.code-requires
 code-requires c = second_node _ _ _ _ c.second.ensures c.code-code.ensures (search rules) (search rules)
-
-pub returns-then-code-gt-WANTED : goal.returns-then-code-gt-WANTED
-returns-then-code-gt-WANTED c = search (rules, sides_two)
 
 pub returns-then-code-ne-UNTIL : goal.returns-then-code-ne-UNTIL
 returns-then-code-ne-UNTIL c = search (rules, leaf_only)

@@ -1,5 +1,6 @@
 -- `book_alternatives::looks` meets its contract, by the laws of Looking.
 use borrow.Author.Rules.{rules}
+use Rattle.std.proofs.Common.{◌≤◌, arith}
 use Rattle.book_progression.proofs.Nodes.{first_node, second_node}
 use Rattle.book_alternatives.proofs.Looking.{looks_leaf_holds, looks_leaf_fails, looks_and, looks_always, looks_until_ends, looks_until_late, looks_until, looks_next, looks_next_fails, looks_or_both, looks_or_second_holds, looks_or_first, looks_or_first_holds, looks_or_second}
 use Rattle.book_alternatives.proofs.looks.Goals as goal
@@ -22,11 +23,11 @@ part_holds-requires c = second_node _ _ _ _ c.second-second.ensures c.code-code.
 pub returns-then-part_holds : goal.returns-then-part_holds
 returns-then-part_holds c = search (rules, looks_until_ends)
 
-pub returns-then-r-d : goal.returns-then-r-d
-returns-then-r-d c = search (rules, looks_until_late)
+pub returns-then-lt : goal.returns-then-lt
+returns-then-lt c = search (rules, looks_until_late)
 
 pub returns-then-code-eq-UNTIL : goal.returns-then-code-eq-UNTIL
-returns-then-code-eq-UNTIL c = search (rules, looks_until)
+returns-then-code-eq-UNTIL c = let early : c.args.d.0 ≤ c.args.r.0 = grind (arith, c.if-lt.ensures) in search (rules, looks_until)
 
 pub returns-then-compares : goal.returns-then-compares
 returns-then-compares c = search (rules, looks_next)

@@ -1,10 +1,7 @@
 -- `book_alternatives::offer_one` meets its contract, by the laws of InPlace.
 use borrow.Author.Rules.{rules}
-use Rattle.book_alternatives.proofs.InPlace.{one_ready, one_on, one_broken}
+use Rattle.book_alternatives.proofs.InPlace.{one_on, one_broken}
 use Rattle.book_alternatives.proofs.offer_one.Goals as goal
-
-pub progress-requires : goal.progress-requires
-progress-requires c = search (rules, one_ready)
 
 pub returns-then-progress : goal.returns-then-progress
 returns-then-progress c = search (rules, one_on)

@@ -1,12 +1,9 @@
 use borrow.Author.Rules.{rules}
-use Rattle.book_alternatives.proofs.Joining.{joining_first, joining_ready, joining_next, joining_end}
+use Rattle.book_alternatives.proofs.Joining.{joining_first, joining_next, joining_end}
 use Rattle.book_alternatives.proofs.progressed.Goals as goal
 
 pub loop-i-init : goal.loop-i-init
 loop-i-init c = search (rules, joining_first)
-
-pub join_behind-left-requires : goal.join_behind-left-requires
-join_behind-left-requires c = record { alternative_ready = search (rules, joining_ready); joined_stands = search rules }
 
 pub loop-i-preserved : goal.loop-i-preserved
 loop-i-preserved c = search (rules, joining_next)

@@ -1,10 +1,6 @@
 -- `book_alternatives::progressed` meets its contract, by the laws of Joining.
-use Prim.Native.Nat.{◌-◌}
 use Rattle.book_alternatives.proofs.Joining.{Joining}
 use Rattle.book_alternatives.proofs.progressed.Given as goal
 
 abbrev pub invariant-loop-i : goal.invariant-loop-i
 invariant-loop-i l = Joining l.book l.n l.mask l.d l.old l.from l.count l.initial.sets l.initial.room l.left l.i l.sets l.room
-
-abbrev pub decreases-loop-i : goal.decreases-loop-i
-decreases-loop-i l = l.count - l.i

@@ -1,4 +1,3 @@
--- `book_formula::mark_code` meets its contract; each need follows by the laws of its way.
 use Rattle.book_formula.proofs.Ways.{code_with, code_without}
 use borrow.Author.Rules.{rules}
 use Rattle.book_formula.proofs.mark_code.Goals as goal

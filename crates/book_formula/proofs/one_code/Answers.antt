@@ -1,4 +1,3 @@
--- `book_formula::one_code` meets its contract; each need follows by the laws of its way.
 use Rattle.book_formula.proofs.Ways.{code_always, code_other}
 use borrow.Author.Rules.{rules}
 use Rattle.book_formula.proofs.one_code.Goals as goal

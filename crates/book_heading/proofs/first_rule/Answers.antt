@@ -1,4 +1,3 @@
--- Each goal follows by the laws of its way.
 use Rattle.book_heading.proofs.Ways.{first_one, first_zero}
 use borrow.Author.Rules.{rules}
 use Rattle.book_heading.proofs.first_rule.Goals as goal

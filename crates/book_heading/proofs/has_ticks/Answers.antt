@@ -1,4 +1,3 @@
--- Each goal follows by the laws of its way.
 use Rattle.book_heading.proofs.Ways.{word_read}
 use borrow.Author.Rules.{rules}
 use Rattle.book_heading.proofs.has_ticks.Goals as goal

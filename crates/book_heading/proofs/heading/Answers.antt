@@ -1,4 +1,3 @@
--- Each goal follows by the laws of its way.
 use Rattle.book_heading.proofs.Ways.{headed_ticks, headed_plain}
 use borrow.Author.Rules.{rules}
 use Rattle.book_heading.proofs.heading.Goals as goal

@@ -1,12 +1,11 @@
--- Each goal follows by the laws of its way.
-use Rattle.book_heading.proofs.Ways.{usual_read, usual_none}
-use borrow.Author.Rules.{rules}
+use mathlib.Core.Path.{ap}
+use Rattle.book_heading.specs.Heading.{usual_of}
 use Rattle.book_heading.proofs.usual.Goals as goal
 
-ruleset all = (rules, usual_read, usual_none)
+pub returns-in-Ok : goal.returns-in-Ok
+unfolding usual_of
+returns-in-Ok c = ap usual_of c.in-Ok.ensures
 
-pub returns-in-Read : goal.returns-in-Read
-returns-in-Read c = search all
-
-pub returns-in-Refused : goal.returns-in-Refused
-returns-in-Refused c = search all
+pub returns-in-Err : goal.returns-in-Err
+unfolding usual_of
+returns-in-Err c = ap usual_of c.in-Err.ensures

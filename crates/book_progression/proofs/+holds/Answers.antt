@@ -10,20 +10,20 @@ returns-then-code-ge-NO_MORE t c = search (rules, holds_timed)
 pub holds-left-requires : goal.holds-left-requires
 holds-left-requires t c = first_below _ _ _ _ c.first.ensures c.code-code.ensures (search rules) (search rules) (search rules) t (search rules)
 
-pub returns-then-not-left : goal.returns-then-not-left
-returns-then-not-left t c = search (rules, holds_and_not)
+pub returns-else-left : goal.returns-else-left
+returns-else-left t c = search (rules, holds_and_not)
 
 pub holds-requires : goal.holds-requires
 holds-requires t c = second_below _ _ _ _ c.second.ensures c.code-code.ensures (search rules) (search rules) t (search rules)
 
-pub returns-then-code-eq-AND : goal.returns-then-code-eq-AND
-returns-then-code-eq-AND t c = search (rules, holds_and)
-
 pub returns-then-left : goal.returns-then-left
-returns-then-left t c = search (rules, holds_or_first)
+returns-then-left t c = search (rules, holds_and)
 
-pub holds-requires-2 : goal.holds-requires-2
-holds-requires-2 t c = second_below _ _ _ _ c.second-2.ensures c.code-code.ensures (search rules) (search rules) t (search rules)
+pub returns-then-left-2 : goal.returns-then-left-2
+returns-then-left-2 t c = search (rules, holds_or_first)
 
-pub returns : goal.returns
-returns t c = search (rules, holds_or)
+pub holds-requires-else-left-2 : goal.holds-requires-else-left-2
+holds-requires-else-left-2 t c = second_below _ _ _ _ c.second-else-left-2.ensures c.code-code.ensures (search rules) (search rules) t (search rules)
+
+pub returns-else-left-2 : goal.returns-else-left-2
+returns-else-left-2 t c = search (rules, holds_or)

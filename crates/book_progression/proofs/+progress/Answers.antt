@@ -1,23 +1,11 @@
 -- `book_progression::progress` meets its contract, by the laws of Nodes and Progressing.
 use Rattle.book_progression.proofs.Nodes.{first_node, until_node, second_node}
-use Rattle.book_progression.proofs.Progressing.{progress_leaf, progress_next, progress_until_ends, progress_until_late, progress_until_broken, progress_until, progress_and_broken, progress_and, progress_or_second_holds, progress_or_first, progress_or_first_holds, progress_or_second, first_ready, until_ready, second_ready, still_ready, is_next}
+use Rattle.book_progression.proofs.Progressing.{progress_leaf, progress_until_ends, progress_until_late, progress_until_broken, progress_until, progress_and_broken, progress_and, progress_or_second_holds, progress_or_first, progress_or_first_holds, progress_or_second, first_ready, until_ready, second_ready, is_next}
 use borrow.Author.Rules.{rules}
 use Rattle.book_progression.proofs.+progress.Goals as goal
 
-pub code-code-requires : goal.code-code-requires
-code-code-requires t c = c.stay_nested-at.ensures.ready.node
-
-pub leaf_holds-requires : goal.leaf_holds-requires
-leaf_holds-requires t c = record { node = c.stay_nested-at.ensures.ready.node; k_bound = search rules }
-
 pub returns-then-code-le-WANTED : goal.returns-then-code-le-WANTED
 returns-then-code-le-WANTED t c = c.stay_nested-at.ensures.says _ _ _ (search (rules, progress_leaf))
-
-pub second-second-requires : goal.second-second-requires
-second-second-requires t c = c.stay_nested-at.ensures.ready.node
-
-pub first-first-requires : goal.first-first-requires
-first-first-requires t c = c.stay_nested-at.ensures.ready.node
 
 pub part_holds-requires : goal.part_holds-requires
 part_holds-requires t c = second_node _ _ _ _ c.second-second.ensures c.code-code.ensures (search rules) c.stay_nested-at.ensures.ready.node
@@ -25,8 +13,8 @@ part_holds-requires t c = second_node _ _ _ _ c.second-second.ensures c.code-cod
 pub returns-then-part_holds : goal.returns-then-part_holds
 returns-then-part_holds t c = c.stay_nested-at.ensures.says _ _ _ (search (rules, progress_until_ends))
 
-pub returns-then-at-d : goal.returns-then-at-d
-returns-then-at-d t c = c.stay_nested-at.ensures.says _ _ _ (search (rules, progress_until_late))
+pub returns-then-lt : goal.returns-then-lt
+returns-then-lt t c = c.stay_nested-at.ensures.says _ _ _ (search (rules, progress_until_late))
 
 pub fresh-requires : goal.fresh-requires
 fresh-requires t c = until_node _ _ _ _ c.first-first.ensures c.code-code.ensures (search rules) c.stay_nested-at.ensures.ready.node
@@ -37,17 +25,11 @@ progress-requires t c = until_ready _ _ _ _ _ _ c.first-first.ensures c.code-cod
 pub returns-then-not-progress : goal.returns-then-not-progress
 returns-then-not-progress t c = c.stay_nested-at.ensures.says _ _ _ (progress_until_broken _ _ _ _ _ _ _ c.code-code.ensures (search rules) _ _ c.second-second.ensures c.part_holds.ensures (search rules) (search rules) _ _ _ _ c.first-first.ensures c.fresh.ensures c.progress.ensures (search rules))
 
-pub stay-requires : goal.stay-requires
-stay-requires t c = still_ready _ _ _ _ _ c.stay_nested-at.ensures.ready (search rules)
-
 pub returns-then-code-eq-UNTIL : goal.returns-then-code-eq-UNTIL
 returns-then-code-eq-UNTIL t c = c.stay_nested-at.ensures.says _ _ _ (progress_until _ _ _ _ _ _ _ c.code-code.ensures (search rules) _ _ c.second-second.ensures c.part_holds.ensures (search rules) (search rules) _ _ _ _ c.first-first.ensures c.fresh.ensures c.progress.ensures _ (search rules) c.stay.ensures)
 
 pub progress_next-requires : goal.progress_next-requires
 progress_next-requires t c = is_next _ _ _ _ _ c.code-code.ensures (search rules) c.stay_nested-at.ensures.other (search rules) c.stay_nested-at.ensures.ready
-
-pub returns-then-code-ge-NO_MORE : goal.returns-then-code-ge-NO_MORE
-returns-then-code-ge-NO_MORE t c = c.stay_nested-at.ensures.says _ _ _ (search (rules, progress_next))
 
 pub fresh-requires-then-code-eq-AND : goal.fresh-requires-then-code-eq-AND
 fresh-requires-then-code-eq-AND t c = first_node _ _ _ _ c.first-first.ensures c.code-code.ensures (search rules) (search rules) c.stay_nested-at.ensures.ready.node

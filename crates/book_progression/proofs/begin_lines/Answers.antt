@@ -6,8 +6,8 @@ use Rattle.book_progression.proofs.begin_lines.Goals as goal
 pub loop-at-init : goal.loop-at-init
 loop-at-init c = search (rules, begin_first)
 
-pub begin_line-requires : goal.begin_line-requires
-begin_line-requires c = record { line = search (rules, is_line); cells_len = search rules }
+pub begin_line-requires-clause-line : goal.begin_line-requires-clause-line
+begin_line-requires-clause-line c = search (rules, is_line)
 
 pub loop-at-preserved : goal.loop-at-preserved
 loop-at-preserved c = search (rules, begin_next)

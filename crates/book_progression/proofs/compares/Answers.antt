@@ -1,16 +1,21 @@
--- `book_progression::compares` meets its contract, by the laws of Putting.
-use Rattle.book_progression.proofs.Putting.{compares_no_more, compares_less, compares_no_less, compares_more}
+-- `book_progression::compares` meets its contract.
 use borrow.Author.Rules.{rules}
+use Rattle.logic.specs.Book.{compares}
+use Rattle.reading.specs.BookArea.{comparison_code}
 use Rattle.book_progression.proofs.compares.Goals as goal
 
-pub returns-then-code-eq-NO_MORE : goal.returns-then-code-eq-NO_MORE
-returns-then-code-eq-NO_MORE c = search (rules, compares_no_more)
+pub returns-in-7 : goal.returns-in-7
+unfolding compares comparison_code
+returns-in-7 c = search rules
 
-pub returns-then-code-eq-LESS : goal.returns-then-code-eq-LESS
-returns-then-code-eq-LESS c = search (rules, compares_less)
+pub returns-in-8 : goal.returns-in-8
+unfolding compares comparison_code
+returns-in-8 c = search rules
 
-pub returns-then-code-eq-NO_LESS : goal.returns-then-code-eq-NO_LESS
-returns-then-code-eq-NO_LESS c = search (rules, compares_no_less)
+pub returns-in-9 : goal.returns-in-9
+unfolding compares comparison_code
+returns-in-9 c = search rules
 
-pub returns : goal.returns
-returns c = search (rules, compares_more)
+pub returns-in_default : goal.returns-in_default
+unfolding compares comparison_code
+returns-in_default c = search rules

@@ -6,14 +6,8 @@ use Rattle.book_progression.proofs.leaf_holds.Goals as goal
 
 ruleset all = (rules, leaf_low, mark_low, holds_constant, holds_mark)
 
-pub code-code-requires : goal.code-code-requires
-code-code-requires c = search all
-
 pub returns-then-code-le-TRUE : goal.returns-then-code-le-TRUE
 returns-then-code-le-TRUE c = search all
-
-pub number-requires : goal.number-requires
-number-requires c = search all
 
 pub marked-there-requires : goal.marked-there-requires
 marked-there-requires c = search all

@@ -1,13 +1,13 @@
 -- `book_progression::progress_cell` meets its contract, by the laws of Stepping.
-use Rattle.book_progression.proofs.Stepping.{cell_none, cell_progresses, cell_ready}
 use borrow.Author.Rules.{rules}
+use Rattle.book_progression.proofs.Stepping.{cell_none, cell_progresses, cell_ready}
 use Rattle.book_progression.proofs.progress_cell.Goals as goal
 
-pub returns-then-cell-eq0 : goal.returns-then-cell-eq0
-returns-then-cell-eq0 c = search (rules, cell_none)
+pub returns-in_default : goal.returns-in_default
+returns-in_default c = cell_none _ _ _ _ _ _ c.in_default.ensures
 
 pub progress-requires : goal.progress-requires
-progress-requires c = search (rules, cell_ready)
+progress-requires c = cell_ready _ _ _ _ _ c.in-Some.ensures (search rules) (search rules) (search rules)
 
 pub returns : goal.returns
-returns c = search (rules, cell_progresses)
+returns c = cell_progresses _ _ _ _ _ _ _ _ _ c.in-Some.ensures c.progress.ensures

@@ -1,15 +1,11 @@
 -- `book_progression::progress_line` meets its contract, by the laws of Lines.
 use Rattle.book_progression.proofs.Lines.{line_starts, line_progresses, line_passes, line_node, line_ready}
-use Rattle.book_progression.proofs.Nodes.{cast_byte}
 use mathlib.Core.Path.{refl}
 use borrow.Author.Rules.{rules}
 use Rattle.book_progression.proofs.progress_line.Goals as goal
 
 pub returns-then-book-at-ne-ALWAYS : goal.returns-then-book-at-ne-ALWAYS
 returns-then-book-at-ne-ALWAYS c = line_starts _ _ _ _ refl _ _ (search rules)
-
-pub overflow_cast-k : goal.overflow_cast-k
-overflow_cast-k c = search (rules, cast_byte)
 
 pub passes-requires : goal.passes-requires
 passes-requires c = line_node _ _ _ refl (search rules)

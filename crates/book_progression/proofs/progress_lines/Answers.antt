@@ -6,8 +6,8 @@ use Rattle.book_progression.proofs.progress_lines.Goals as goal
 pub loop-i-init : goal.loop-i-init
 loop-i-init c = search (rules, lines_first)
 
-pub progress_line-requires : goal.progress_line-requires
-progress_line-requires c = record { line = search (rules, is_line); cells_len = search rules }
+pub progress_line-requires-clause-line : goal.progress_line-requires-clause-line
+progress_line-requires-clause-line c = search (rules, is_line)
 
 pub returns-then-not-progress_line : goal.returns-then-not-progress_line
 returns-then-not-progress_line c = search (rules, lines_broken)

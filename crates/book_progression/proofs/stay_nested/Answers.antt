@@ -1,9 +1,6 @@
-use Rattle.book_progression.proofs.Nesting.{nesting_first, nesting_less, nesting_node, nesting_next, nesting_end}
+use Rattle.book_progression.proofs.Nesting.{nesting_less, nesting_node, nesting_next}
 use borrow.Author.Rules.{rules}
 use Rattle.book_progression.proofs.stay_nested.Goals as goal
-
-pub loop-d-init : goal.loop-d-init
-loop-d-init c = search (rules, nesting_first)
 
 pub fresh-left-requires : goal.fresh-left-requires
 fresh-left-requires c = nesting_node _ _ _ _ _ _ _ _ c.loop-d.invariant _ c.code.ensures _ (search rules) c.second-node.ensures
@@ -13,6 +10,3 @@ loop-d-smaller c = nesting_less _ _ _ _ _ _ _ _ c.loop-d.invariant _ c.code.ensu
 
 pub loop-d-preserved : goal.loop-d-preserved
 loop-d-preserved c = nesting_next _ _ _ _ _ _ _ _ c.loop-d.invariant _ c.code.ensures _ _ _ (search rules) c.stay.ensures (search rules) c.second-node.ensures c.fresh-left.ensures
-
-pub returns : goal.returns
-returns c = search (rules, nesting_end)

@@ -1,24 +1,14 @@
--- `book_tokens::comparison` meets its contract; each need follows by the laws of its way.
-use Rattle.book_tokens.proofs.Laws.{comparison_below, comparison_above, comparison_none, below_inside, above_inside}
+use Rattle.book_tokens.proofs.Laws.{comparison_below, comparison_above, comparison_none}
 use borrow.Author.Rules.{rules}
 use Rattle.book_tokens.proofs.comparison.Goals as goal
 
-ruleset all = (rules, comparison_below, comparison_above, comparison_none, below_inside, above_inside)
+ruleset all = (rules, comparison_below, comparison_above, comparison_none)
 
-pub byte_at-b-requires : goal.byte_at-b-requires
-byte_at-b-requires c = search all
+pub returns-in-60 : goal.returns-in-60
+returns-in-60 c = search all
 
-pub with_equals-requires : goal.with_equals-requires
-with_equals-requires c = search all
+pub returns-in-62 : goal.returns-in-62
+returns-in-62 c = search all
 
-pub returns-then-b-eq60 : goal.returns-then-b-eq60
-returns-then-b-eq60 c = search all
-
-pub with_equals-requires-then-b-eq62 : goal.with_equals-requires-then-b-eq62
-with_equals-requires-then-b-eq62 c = search above_inside
-
-pub returns-then-b-eq62 : goal.returns-then-b-eq62
-returns-then-b-eq62 c = search all
-
-pub returns : goal.returns
-returns c = search all
+pub returns-in_default : goal.returns-in_default
+returns-in_default c = search all

@@ -1,19 +1,15 @@
 -- `checker::answer` meets its contract.
 use borrow.Author.Rules.{rules}
-use mathlib.Core.Path.{refl}
+use mathlib.Core.Path.{refl, ap, ◌∙◌}
+use Rattle.std.specs.Prelude.{Ok}
 use Rattle.checker.proofs.Ways.{answered}
 use Rattle.checker.proofs.answer.Goals as goal
 
-ruleset all = (rules, answered)
+pub returns-in-None : goal.returns-in-None
+returns-in-None c = answered _ _ _ (c.in_ok-found.was {u = tt} ∙ ap Ok c.in-None.is) refl
 
-pub returns-in-Good : goal.returns-in-Good
-returns-in-Good c = search all
+pub returns-in-Some : goal.returns-in-Some
+returns-in-Some c = answered _ _ _ (c.in_ok-found.was {u = tt} ∙ ap Ok c.in-Some.is) refl
 
-pub returns-in-NotGood : goal.returns-in-NotGood
-returns-in-NotGood c = search all
-
-pub returns-in-Refused : goal.returns-in-Refused
-returns-in-Refused c = search all
-
-pub returns-in-Broken : goal.returns-in-Broken
-returns-in-Broken c = answered _ _ _ c.in-Broken.is refl
+pub returns-in_err-found : goal.returns-in_err-found
+returns-in_err-found c = search (rules, answered, c.in_err-found.was)

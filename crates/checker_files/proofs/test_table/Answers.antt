@@ -15,14 +15,8 @@ returns-then-not-for_tower c = search all
 pub judge_rows-requires : goal.judge_rows-requires
 judge_rows-requires c = search all
 
-pub enum_told-1 : goal.enum_told-1
-enum_told-1 c = search all
+pub returns-in_err-judge_rows : goal.returns-in_err-judge_rows
+returns-in_err-judge_rows c = search all
 
-pub enum_known-reason : goal.enum_known-reason
-enum_known-reason c = search all
-
-pub returns-in-Right : goal.returns-in-Right
-returns-in-Right c = search all
-
-pub returns-in-Wrong : goal.returns-in-Wrong
-returns-in-Wrong c = search all
+pub returns : goal.returns
+returns c = search all

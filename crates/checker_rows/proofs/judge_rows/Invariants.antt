@@ -8,6 +8,3 @@ use Rattle.checker_rows.proofs.judge_rows.Given as goal
 
 abbrev pub invariant-loop-r : goal.invariant-loop-r
 invariant-loop-r l = Left (rows_from (tower_of l.tower) (table_of l.table)) 0 l.rows l.rows l.r
-
-abbrev pub decreases-loop-r : goal.decreases-loop-r
-decreases-loop-r l = l.rows - l.r

@@ -9,6 +9,3 @@ use Rattle.checker_rows.proofs.some_withheld.Given as goal
 
 abbrev pub invariant-loop-a : goal.invariant-loop-a
 invariant-loop-a l = Left (some_of (withheld (tower_of l.tower) (table_of l.table) l.r)) 0 l.actions l.actions l.a
-
-abbrev pub decreases-loop-a : goal.decreases-loop-a
-decreases-loop-a l = l.actions - l.a

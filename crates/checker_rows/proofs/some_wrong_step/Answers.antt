@@ -5,9 +5,6 @@ use Rattle.checker_rows.proofs.some_wrong_step.Goals as goal
 
 ruleset all = (rules, has_header, row_end_fits, left_fits, scan_wrong_steps, left_start, some_found, some_more, some_end)
 
-pub row_first-i-requires : goal.row_first-i-requires
-row_first-i-requires c = search all
-
 pub row_count-requires : goal.row_count-requires
 row_count-requires c = search all
 
@@ -23,14 +20,11 @@ wrong_step-requires c = search all
 pub returns-then-wrong_step : goal.returns-then-wrong_step
 returns-then-wrong_step c = search all
 
-pub overflow_add-i : goal.overflow_add-i
-overflow_add-i c = search all
-
-pub loop-i-smaller : goal.loop-i-smaller
-loop-i-smaller c = search all
-
 pub loop-i-preserved : goal.loop-i-preserved
 loop-i-preserved c = search all
 
 pub returns : goal.returns
 returns c = search all
+
+pub row_first-first-requires : goal.row_first-first-requires
+row_first-first-requires c = search all

@@ -8,6 +8,3 @@ use Rattle.checker_rows.proofs.some_wrong_step.Given as goal
 
 abbrev pub invariant-loop-i : goal.invariant-loop-i
 invariant-loop-i l = Left (some_of (wrong_at l.tower l.table l.r)) (row_first l.table l.r) (row_count l.table l.r) l.end l.i
-
-abbrev pub decreases-loop-i : goal.decreases-loop-i
-decreases-loop-i l = l.end - l.i

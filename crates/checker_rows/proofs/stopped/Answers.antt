@@ -5,9 +5,6 @@ use Rattle.checker_rows.proofs.stopped.Goals as goal
 
 ruleset all = (rules, has_header, row_end_fits, left_inside, left_action, left_fits, scan_stopped, step_goes_on, step_stops, left_start, every_end)
 
-pub row_first-i-requires : goal.row_first-i-requires
-row_first-i-requires c = search all
-
 pub row_count-requires : goal.row_count-requires
 row_count-requires c = search all
 
@@ -29,14 +26,11 @@ goes_on-requires c = search all
 pub returns-then-goes_on : goal.returns-then-goes_on
 returns-then-goes_on c = search all
 
-pub overflow_add-i : goal.overflow_add-i
-overflow_add-i c = search all
-
-pub loop-i-smaller : goal.loop-i-smaller
-loop-i-smaller c = search all
-
 pub loop-i-preserved : goal.loop-i-preserved
 loop-i-preserved c = search all
 
 pub returns : goal.returns
 returns c = search all
+
+pub row_first-first-requires : goal.row_first-first-requires
+row_first-first-requires c = search all

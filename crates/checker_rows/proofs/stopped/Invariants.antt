@@ -8,6 +8,3 @@ use Rattle.checker_rows.proofs.stopped.Given as goal
 
 abbrev pub invariant-loop-i : goal.invariant-loop-i
 invariant-loop-i l = Left (every (stops_at l.tower l.table)) (row_first l.table l.r) (row_count l.table l.r) l.end l.i
-
-abbrev pub decreases-loop-i : goal.decreases-loop-i
-decreases-loop-i l = l.end - l.i

@@ -11,12 +11,6 @@ row_state-x-requires c = search all
 pub step_action-requires : goal.step_action-requires
 step_action-requires c = search all
 
-pub target-reached-requires : goal.target-reached-requires
-target-reached-requires c = search all
-
-pub enum_known-reached : goal.enum_known-reached
-enum_known-reached c = search all
-
 pub enum_told-1 : goal.enum_told-1
 enum_told-1 c = search all
 
@@ -31,3 +25,6 @@ row_state-requires c = search all
 
 pub returns : goal.returns
 returns c = search all
+
+pub target-requires : goal.target-requires
+target-requires c = search all

@@ -20,10 +20,6 @@ pub loop-r-init : goal.loop-r-init
 unfolding step_place step_size
 loop-r-init c = search all
 
-pub overflow_add-r : goal.overflow_add-r
-unfolding step_place step_size
-overflow_add-r c = search all
-
 pub row_count-count-requires : goal.row_count-count-requires
 unfolding step_place step_size
 row_count-count-requires c = search rules
@@ -47,10 +43,6 @@ returns-then-not-row_right c = search all
 pub overflow_add-first : goal.overflow_add-first
 unfolding step_place step_size
 overflow_add-first c = omega inside
-
-pub loop-r-smaller : goal.loop-r-smaller
-unfolding step_place step_size
-loop-r-smaller c = search all
 
 pub loop-r-preserved : goal.loop-r-preserved
 unfolding step_place step_size

@@ -5,6 +5,3 @@ use Rattle.file_table.proofs.rows_right.Given as goal
 
 abbrev pub invariant-loop-r : goal.invariant-loop-r
 invariant-loop-r l = RowsLeft l.bytes l.first l.r
-
-abbrev pub decreases-loop-r : goal.decreases-loop-r
-decreases-loop-r l = l.rows - l.r

@@ -14,14 +14,11 @@ row_count-requires c = search all
 pub reachable_steps-requires : goal.reachable_steps-requires
 reachable_steps-requires c = search all
 
-pub overflow_add-i : goal.overflow_add-i
-overflow_add-i c = search all
+pub overflow_add-end : goal.overflow_add-end
+overflow_add-end c = search all
 
 pub loop-i-init : goal.loop-i-init
 loop-i-init c = search all
-
-pub overflow_sub-i : goal.overflow_sub-i
-overflow_sub-i c = search all
 
 pub step_action-found-requires : goal.step_action-found-requires
 step_action-found-requires c = search all
@@ -34,9 +31,6 @@ returns-then-found-action c = search all
 
 pub returns-then-found-action-2 : goal.returns-then-found-action-2
 returns-then-found-action-2 c = search all
-
-pub loop-i-smaller : goal.loop-i-smaller
-loop-i-smaller c = search all
 
 pub loop-i-preserved : goal.loop-i-preserved
 loop-i-preserved c = search all

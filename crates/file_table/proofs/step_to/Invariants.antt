@@ -5,6 +5,3 @@ use Rattle.file_table.proofs.step_to.Given as goal
 
 abbrev pub invariant-loop-i : goal.invariant-loop-i
 invariant-loop-i l = GreaterFrom l.bytes l.row l.action l.first l.i
-
-abbrev pub decreases-loop-i : goal.decreases-loop-i
-decreases-loop-i l = l.i - l.first

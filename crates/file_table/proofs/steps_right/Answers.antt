@@ -16,10 +16,6 @@ pub loop-i-init : goal.loop-i-init
 unfolding step_place step_size
 loop-i-init c = search all
 
-pub overflow_add-i : goal.overflow_add-i
-unfolding step_place step_size
-overflow_add-i c = omega inside
-
 pub step_right-requires : goal.step_right-requires
 unfolding step_place step_size
 step_right-requires c = search all
@@ -35,10 +31,6 @@ step_action-low-requires c = search rules
 pub overflow_add-low : goal.overflow_add-low
 unfolding step_place step_size
 overflow_add-low c = search all
-
-pub loop-i-smaller : goal.loop-i-smaller
-unfolding step_place step_size
-loop-i-smaller c = search all
 
 pub loop-i-preserved : goal.loop-i-preserved
 unfolding step_place step_size

@@ -5,6 +5,3 @@ use Rattle.file_table.proofs.steps_right.Given as goal
 
 abbrev pub invariant-loop-i : goal.invariant-loop-i
 invariant-loop-i l = StepsLeft l.bytes l.first l.count l.end l.low l.i
-
-abbrev pub decreases-loop-i : goal.decreases-loop-i
-decreases-loop-i l = l.end - l.i

@@ -28,14 +28,5 @@ returns-then-actions-action c = search all
 pub step_to-requires : goal.step_to-requires
 step_to-requires c = search all
 
-pub enum_known-next : goal.enum_known-next
-enum_known-next c = search all
-
-pub enum_told-1 : goal.enum_told-1
-enum_told-1 c = search all
-
-pub returns-in-Row : goal.returns-in-Row
-returns-in-Row c = search all
-
-pub returns-in-Nothing : goal.returns-in-Nothing
-returns-in-Nothing c = search all
+pub returns : goal.returns
+returns c = search all

@@ -14,19 +14,19 @@ pub shape_of-known-in_default : goal.shape_of-known-in_default
 shape_of-known-in_default c = search (rules, room_there)
 
 pub returns-in_default : goal.returns-in_default
-returns-in_default c = record { lines_followed = search lines_stop; noted_2 = search (rules, noted_there) }
+returns-in_default c = record { lines_followed = search (lines_stop, c.in_default.ensures); noted_2 = search (rules, noted_there) }
 
 pub follow_line-so_far-requires : goal.follow_line-so_far-requires
-follow_line-so_far-requires c = record { rows_judgeable = search rules; noted = search (rules, noted_there); on_row = search (rules, row_there); tick_le_most_tick = search tick_small }
+follow_line-so_far-requires c = record { rows_judgeable = search rules; noted = search (rules, noted_there); on_row = search (rules, row_there); tick_le_most_tick = search (tick_small, c.in-Some.ensures) }
 
 pub overflow_add-line : goal.overflow_add-line
-overflow_add-line c = search (rules, line_fits_word)
+overflow_add-line c = search (rules, line_fits_word, c.in-Some.ensures)
 
 pub loop-at-smaller : goal.loop-at-smaller
-loop-at-smaller c = search at_falls
+loop-at-smaller c = search (at_falls, c.in-Some.ensures)
 
 pub loop-at-preserved : goal.loop-at-preserved
-loop-at-preserved c = search lines_more
+loop-at-preserved c = search (lines_more, c.in-Some.ensures)
 
 pub shape_of-known : goal.shape_of-known
 shape_of-known c = search (rules, room_there)

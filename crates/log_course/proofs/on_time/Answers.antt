@@ -11,8 +11,8 @@ enum_told-1 c = search all
 pub enum_known-due : goal.enum_known-due
 enum_known-due c = search all
 
-pub returns-in-Free : goal.returns-in-Free
-returns-in-Free c = search all
+pub returns-in-None : goal.returns-in-None
+returns-in-None c = search all
 
-pub returns-in-At : goal.returns-in-At
-returns-in-At c = search all
+pub returns-in-Some : goal.returns-in-Some
+returns-in-Some c = search all

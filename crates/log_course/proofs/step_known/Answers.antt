@@ -38,12 +38,6 @@ step_to-requires-2 c = search all
 pub enum_known-next : goal.enum_known-next
 enum_known-next c = search all
 
-pub enum_told-1 : goal.enum_told-1
-enum_told-1 c = search all
-
-pub returns-in_default : goal.returns-in_default
-returns-in_default c = search all
-
 pub overflow_add-known : goal.overflow_add-known
 overflow_add-known c = search all
 
@@ -60,4 +54,4 @@ pub shape_of-known : goal.shape_of-known
 shape_of-known c = search all
 
 pub returns : goal.returns
-returns c = search all
+returns c = search (all, c.in_ok-next.was)

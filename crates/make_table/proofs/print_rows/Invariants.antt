@@ -5,6 +5,3 @@ use Rattle.make_table.proofs.print_rows.Given as goal
 
 abbrev pub invariant-loop-row : goal.invariant-loop-row
 invariant-loop-row g l = l.rows ≡ rows_of l.table
-
-abbrev pub decreases-loop-row : goal.decreases-loop-row
-decreases-loop-row g l = l.rows - l.row

@@ -11,7 +11,7 @@ pub make_files-answer-requires : goal.make_files-answer-requires
 make_files-answer-requires c = room_there _ _ _ _ _ _ _ _ _ c.long_enough.ensures (search (not-false, c.if-not-long_enough.false-raw))
 
 pub shape_of-out : goal.shape_of-out
-shape_of-out c = search (c.make_files-answer.auto, c.out-1)
+shape_of-out c = search c.make_files-answer.auto
 
 pub shape_of-nodes : goal.shape_of-nodes
 shape_of-nodes c = search (kept_on, c.clear.auto.nodes, c.make_files-answer.auto.nodes)

@@ -13,12 +13,6 @@ has_step-count-requires c = search all
 pub overflow_add-count : goal.overflow_add-count
 overflow_add-count c = search all
 
-pub overflow_add-a : goal.overflow_add-a
-overflow_add-a c = search all
-
-pub loop-a-smaller : goal.loop-a-smaller
-loop-a-smaller c = search all
-
 pub loop-a-preserved : goal.loop-a-preserved
 loop-a-preserved c = search all
 

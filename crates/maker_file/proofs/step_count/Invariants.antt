@@ -6,6 +6,3 @@ use Rattle.maker_file.proofs.step_count.Given as goal
 
 abbrev pub invariant-loop-a : goal.invariant-loop-a
 invariant-loop-a l = Counting l.graph l.flags l.actions l.i l.count l.a
-
-abbrev pub decreases-loop-a : goal.decreases-loop-a
-decreases-loop-a l = l.actions - l.a

@@ -16,12 +16,6 @@ step_count-total-requires c = search all
 pub overflow_add-total : goal.overflow_add-total
 overflow_add-total c = search all
 
-pub overflow_add-r : goal.overflow_add-r
-overflow_add-r c = search all
-
-pub loop-r-smaller : goal.loop-r-smaller
-loop-r-smaller c = search all
-
 pub loop-r-preserved : goal.loop-r-preserved
 loop-r-preserved c = search all
 

@@ -6,6 +6,3 @@ use Rattle.maker_file.proofs.total_steps.Given as goal
 
 abbrev pub invariant-loop-r : goal.invariant-loop-r
 invariant-loop-r l = Totalling l.graph l.flags l.area l.actions l.rows l.total l.r
-
-abbrev pub decreases-loop-r : goal.decreases-loop-r
-decreases-loop-r l = l.rows - l.r

@@ -26,12 +26,6 @@ write_row-requires c = search all
 pub overflow_add-first : goal.overflow_add-first
 overflow_add-first c = search all
 
-pub overflow_add-row : goal.overflow_add-row
-overflow_add-row c = search all
-
-pub loop-row-smaller : goal.loop-row-smaller
-loop-row-smaller c = search all
-
 pub loop-row-preserved : goal.loop-row-preserved
 loop-row-preserved c = search (listing_more, c.requires.laid, c.loop-row.invariant)
 

@@ -6,6 +6,3 @@ use Rattle.maker_file.proofs.write_rows.Given as goal
 
 abbrev pub invariant-loop-row : goal.invariant-loop-row
 invariant-loop-row l = ListingSteps l.layout l.graph l.flags l.area l.actions l.rows l.initial.out l.out l.first l.row
-
-abbrev pub decreases-loop-row : goal.decreases-loop-row
-decreases-loop-row l = l.rows - l.row

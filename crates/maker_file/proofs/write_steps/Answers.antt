@@ -14,12 +14,6 @@ pair_of-requires c = search all
 pub write_steps_of-next-requires : goal.write_steps_of-next-requires
 write_steps_of-next-requires c = search all
 
-pub overflow_add-done : goal.overflow_add-done
-overflow_add-done c = search all
-
-pub loop-done-smaller : goal.loop-done-smaller
-loop-done-smaller c = search all
-
 pub loop-done-preserved : goal.loop-done-preserved
 loop-done-preserved c = search packing_more
 

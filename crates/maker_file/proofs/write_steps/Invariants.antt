@@ -6,6 +6,3 @@ use Rattle.maker_file.proofs.write_steps.Given as goal
 
 abbrev pub invariant-loop-done : goal.invariant-loop-done
 invariant-loop-done l = Packing l.graph l.flags l.area l.actions l.rows l.initial.out l.p l.out l.next l.done
-
-abbrev pub decreases-loop-done : goal.decreases-loop-done
-decreases-loop-done l = l.rows - l.done

@@ -10,12 +10,6 @@ loop-a-init c = search all
 pub write_allowed-next-requires : goal.write_allowed-next-requires
 write_allowed-next-requires c = record { laid = search all; row = search all; a_lt_actions = search all; a_in_bounds = search all }
 
-pub overflow_add-a : goal.overflow_add-a
-overflow_add-a c = search all
-
-pub loop-a-smaller : goal.loop-a-smaller
-loop-a-smaller c = search all
-
 pub loop-a-preserved : goal.loop-a-preserved
 loop-a-preserved c = search all
 

@@ -9,6 +9,3 @@ use Rattle.maker_file.proofs.write_steps_of.Given as goal
 
 abbrev pub invariant-loop-a : goal.invariant-loop-a
 invariant-loop-a l = Filling (rest (step_from l.graph l.flags (classes_part l.area) (order_of l.area l.rows) l.i) l.actions l.a) (steps_in l.graph l.flags (classes_part l.area) (order_of l.area l.rows) l.actions l.i) l.initial.out l.p l.out l.next
-
-abbrev pub decreases-loop-a : goal.decreases-loop-a
-decreases-loop-a l = l.actions - l.a

@@ -14,12 +14,6 @@ noted-j-requires c = search all
 pub mark_before-requires : goal.mark_before-requires
 mark_before-requires c = record { listed_graph = search rules; in_bounds = search rules; j_lt_n = search entry_there; marks_size_in_bounds = search rules }
 
-pub overflow_add-p : goal.overflow_add-p
-overflow_add-p c = search all
-
-pub loop-p-smaller : goal.loop-p-smaller
-loop-p-smaller c = search all
-
 pub loop-p-preserved : goal.loop-p-preserved
 loop-p-preserved c = search all
 

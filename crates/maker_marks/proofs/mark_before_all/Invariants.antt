@@ -8,6 +8,3 @@ use Rattle.maker_marks.proofs.mark_before_all.Given as goal
 
 abbrev pub invariant-loop-p : goal.invariant-loop-p
 invariant-loop-p l = (MarkedBeforeAll l.n l.actions l.graph l.flags l.classes l.initial.marks l.p l.marks) × (length l.marks ≡ length l.initial.marks)
-
-abbrev pub decreases-loop-p : goal.decreases-loop-p
-decreases-loop-p l = l.entries - l.p

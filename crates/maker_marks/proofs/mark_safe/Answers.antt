@@ -13,12 +13,6 @@ bounds-flags-i c = search all
 pub bounds-marks-i : goal.bounds-marks-i
 bounds-marks-i c = search all
 
-pub overflow_add-i : goal.overflow_add-i
-overflow_add-i c = search all
-
-pub loop-i-smaller : goal.loop-i-smaller
-loop-i-smaller c = search all
-
 pub loop-i-preserved : goal.loop-i-preserved
 loop-i-preserved c = search all
 

@@ -16,12 +16,6 @@ loop-i-init c = search all
 pub mark_with_first-requires : goal.mark_with_first-requires
 mark_with_first-requires c = record { i_in_bounds = search all; i_in_bounds_2 = search all; i_in_bounds_3 = search all; i_bound = search firsts_most }
 
-pub overflow_add-i : goal.overflow_add-i
-overflow_add-i c = search all
-
-pub loop-i-smaller : goal.loop-i-smaller
-loop-i-smaller c = search all
-
 pub loop-i-preserved : goal.loop-i-preserved
 loop-i-preserved c = firsts_more _ _ _ _ _ _ _ c.requires c.mark_with_first.ensures c.loop-i.invariant (search rules) (search rules)
 

@@ -6,6 +6,3 @@ use Rattle.maker_marks.proofs.mark_with_firsts.Given as goal
 
 abbrev pub invariant-loop-i : goal.invariant-loop-i
 invariant-loop-i l = MarkingFirsts l.i l.flags l.classes l.initial.marks l.marks
-
-abbrev pub decreases-loop-i : goal.decreases-loop-i
-decreases-loop-i l = l.n - l.i

@@ -10,12 +10,6 @@ loop-a-init c = search all
 pub meet_by-met-requires : goal.meet_by-met-requires
 meet_by-met-requires c = search all
 
-pub overflow_add-a : goal.overflow_add-a
-overflow_add-a c = search all
-
-pub loop-a-smaller : goal.loop-a-smaller
-loop-a-smaller c = search all
-
 pub loop-a-preserved : goal.loop-a-preserved
 loop-a-preserved c = search all
 

@@ -6,6 +6,3 @@ use Rattle.maker_order.proofs.expand.Given as goal
 
 abbrev pub invariant-loop-a : goal.invariant-loop-a
 invariant-loop-a l = Expanding l.graph l.flags l.pairs l.actions l.i l.initial.area l.initial.met l.area l.met l.a
-
-abbrev pub decreases-loop-a : goal.decreases-loop-a
-decreases-loop-a l = l.actions - l.a

@@ -10,12 +10,6 @@ loop-i-init c = search all
 pub bounds-area-i : goal.bounds-area-i
 bounds-area-i c = search all
 
-pub overflow_add-i : goal.overflow_add-i
-overflow_add-i c = search all
-
-pub loop-i-smaller : goal.loop-i-smaller
-loop-i-smaller c = search all
-
 pub loop-i-preserved : goal.loop-i-preserved
 loop-i-preserved c = search all
 

@@ -10,12 +10,6 @@ loop-next-init c = search all
 pub visit-height-requires : goal.visit-height-requires
 visit-height-requires c = search all
 
-pub overflow_add-next : goal.overflow_add-next
-overflow_add-next c = search all
-
-pub loop-next-smaller : goal.loop-next-smaller
-loop-next-smaller c = search all
-
 pub loop-next-preserved : goal.loop-next-preserved
 loop-next-preserved c = search all
 

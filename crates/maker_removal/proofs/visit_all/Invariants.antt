@@ -7,6 +7,3 @@ use Rattle.maker_removal.proofs.visit_all.Given as goal
 
 abbrev pub invariant-loop-next : goal.invariant-loop-next
 invariant-loop-next l = ScanningCells (tower_of l.tower) l.n l.graph l.initial.area l.next l.area l.height
-
-abbrev pub decreases-loop-next : goal.decreases-loop-next
-decreases-loop-next l = l.n - l.next

@@ -33,12 +33,6 @@ same_step-requires c = record { flagged_graph = search rules; i_lt_pairs = searc
 pub returns-then-not-same_step : goal.returns-then-not-same_step
 returns-then-not-same_step c = search all
 
-pub overflow_add-a : goal.overflow_add-a
-overflow_add-a c = search all
-
-pub loop-a-smaller : goal.loop-a-smaller
-loop-a-smaller c = search all
-
 pub loop-a-preserved : goal.loop-a-preserved
 loop-a-preserved c = search all
 

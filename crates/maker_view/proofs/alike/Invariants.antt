@@ -8,6 +8,3 @@ use Rattle.maker_view.proofs.alike.Given as goal
 
 abbrev pub invariant-loop-a : goal.invariant-loop-a
 invariant-loop-a l = Left (every (same_shows l.graph l.flags l.classes l.i l.j)) 0 l.actions l.actions l.a
-
-abbrev pub decreases-loop-a : goal.decreases-loop-a
-decreases-loop-a l = l.actions - l.a

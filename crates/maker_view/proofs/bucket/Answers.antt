@@ -28,12 +28,6 @@ seen-requires c = search all
 pub overflow_add-sum-in-loop-next : goal.overflow_add-sum-in-loop-next
 overflow_add-sum-in-loop-next c = search all
 
-pub overflow_add-next : goal.overflow_add-next
-overflow_add-next c = search all
-
-pub loop-next-smaller : goal.loop-next-smaller
-loop-next-smaller c = search all
-
 pub loop-next-preserved : goal.loop-next-preserved
 loop-next-preserved c = search all
 

@@ -7,6 +7,3 @@ use Rattle.maker_view.proofs.bucket.Given as goal
 
 abbrev pub invariant-loop-next : goal.invariant-loop-next
 invariant-loop-next l = (Summing (view_of l.graph l.flags l.actions l.classes) l.i l.next l.sum) × (l.next ≤ l.actions)
-
-abbrev pub decreases-loop-next : goal.decreases-loop-next
-decreases-loop-next l = l.actions - l.next

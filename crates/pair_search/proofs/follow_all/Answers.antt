@@ -11,9 +11,6 @@ actions-actions-requires c = search all
 pub loop-a-init : goal.loop-a-init
 loop-a-init c = (search (rules, actions_read, grow_start), search rules, search rules, search rules)
 
-pub overflow_add-a : goal.overflow_add-a
-overflow_add-a c = search all
-
 pub step-n-requires : goal.step-n-requires
 step-n-requires c = record { searching = search (rules, grow_ready); a_bound = search (rules, grow_listed) }
 
@@ -32,11 +29,13 @@ shape_of-graph-then-first-gt-MOST c = search all
 pub returns-then-first-gt-MOST : goal.returns-then-first-gt-MOST
 returns-then-first-gt-MOST c = search (rules, grow_many)
 
-pub loop-a-smaller : goal.loop-a-smaller
-loop-a-smaller c = search all
-
 pub loop-a-preserved : goal.loop-a-preserved
-loop-a-preserved c = (search (rules, grow_more), search rules, search rules, search rules)
+loop-a-preserved c = (
+  grow_more _ _ _ _ _ _ _ _ _ _ _ _ c.loop-a.invariant.0 _ _ _ _ c.loop-a-test.true c.step-n.ensures _ c.first.ensures c.if-first-gt-MOST.false (search rules) (search rules),
+  search rules,
+  search rules,
+  search rules,
+)
 
 pub shape_of-pairs : goal.shape_of-pairs
 shape_of-pairs c = search all

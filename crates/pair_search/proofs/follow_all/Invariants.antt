@@ -8,6 +8,3 @@ use Rattle.pair_search.proofs.follow_all.Given as goal
 
 abbrev pub invariant-loop-a : goal.invariant-loop-a
 invariant-loop-a l = Growing (walked l.tower l.table l.rows) l.nodes l.wide l.initial.pairs l.i l.met l.actions l.a l.pairs l.index l.graph l.n × (length l.pairs ≡ length l.initial.pairs) × (length l.index ≡ length l.initial.index) × (length l.graph ≡ length l.initial.graph)
-
-abbrev pub decreases-loop-a : goal.decreases-loop-a
-decreases-loop-a l = l.actions - l.a

@@ -1,10 +1,6 @@
--- The loop keeps what `Taking` says: the first j are taken. Those that are left become fewer.
-use Prim.Native.Nat.{◌-◌}
+-- The loop keeps what `Taking` says: the first j are taken.
 use Rattle.pair_sets.proofs.Taking.{Taking}
 use Rattle.pair_sets.proofs.take_alternatives.Given as goal
 
 abbrev pub invariant-loop-j : goal.invariant-loop-j
 invariant-loop-j l = Taking l.cells l.initial.entries l.t l.room l.at l.count l.j l.entries
-
-abbrev pub decreases-loop-j : goal.decreases-loop-j
-decreases-loop-j l = l.count - l.j

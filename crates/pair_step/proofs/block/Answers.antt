@@ -20,12 +20,6 @@ blocked_code-code-requires c = record { files = search all; x_bound = search all
 pub put_move-requires : goal.put_move-requires
 put_move-requires c = record { graph_size_in_bounds = search all; i_lt_pair_room = search all; a_lt_action_room = search all }
 
-pub overflow_add-a : goal.overflow_add-a
-overflow_add-a c = search all
-
-pub loop-a-smaller : goal.loop-a-smaller
-loop-a-smaller c = search all
-
 pub loop-a-preserved : goal.loop-a-preserved
 loop-a-preserved c = block_next _ _ _ _ _ _ _ _ _ _ c.put_move.ensures c.loop-a.invariant c.blocked_code-code.ensures c.loop-a-test.true
 

@@ -6,6 +6,3 @@ use Rattle.pair_step.proofs.block.Given as goal
 
 abbrev pub invariant-loop-a : goal.invariant-loop-a
 invariant-loop-a l = Blocking (walked l.tower l.table l.rows) l.pairs l.i l.x l.actions l.a l.initial.graph l.graph
-
-abbrev pub decreases-loop-a : goal.decreases-loop-a
-decreases-loop-a l = l.actions - l.a

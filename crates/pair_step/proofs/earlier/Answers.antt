@@ -1,17 +1,14 @@
 use borrow.Author.Rules.{rules}
-use Rattle.pair_step.proofs.Entering.{action_room_below, earlier_found, earlier_none}
+use Rattle.pair_step.proofs.Entering.{action_room_below, earlier_found}
 use Rattle.pair_step.proofs.earlier.Goals as goal
 
-ruleset all = (rules, action_room_below, earlier_found, earlier_none)
+ruleset all = (rules, action_room_below)
 
 pub step_length-d-requires : goal.step_length-d-requires
 step_length-d-requires c = search all
 
 pub loop-b-init : goal.loop-b-init
 loop-b-init c = search all
-
-pub overflow_add-b : goal.overflow_add-b
-overflow_add-b c = search all
 
 pub step_length-e-requires : goal.step_length-e-requires
 step_length-e-requires c = search all
@@ -20,16 +17,7 @@ pub enabled-requires : goal.enabled-requires
 enabled-requires c = search all
 
 pub returns-then-enabled : goal.returns-then-enabled
-returns-then-enabled c = search all
-
-pub loop-b-smaller-else-enabled : goal.loop-b-smaller-else-enabled
-loop-b-smaller-else-enabled c = search all
-
-pub loop-b-preserved-else-enabled : goal.loop-b-preserved-else-enabled
-loop-b-preserved-else-enabled c = search all
-
-pub loop-b-smaller : goal.loop-b-smaller
-loop-b-smaller c = search all
+returns-then-enabled c = search (rules, earlier_found)
 
 pub loop-b-preserved : goal.loop-b-preserved
 loop-b-preserved c = search all

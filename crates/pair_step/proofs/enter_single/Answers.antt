@@ -12,17 +12,17 @@ number-x-requires c = record { i_bound = search all; entries_size_in_bounds = se
 pub tower_state-z-requires : goal.tower_state-z-requires
 tower_state-z-requires c = record { files = search all; x_bound = search all }
 
-pub earlier-b-requires : goal.earlier-b-requires
-earlier-b-requires c = record { fit_tower = search all; x_bound = search all; a_bound = search all; graph_size_in_bounds = search all; i_lt_pair_room = search all }
+pub earlier-requires : goal.earlier-requires
+earlier-requires c = record { fit_tower = search all; x_bound = search all; a_bound = search all; graph_size_in_bounds = search all; i_lt_pair_room = search all }
 
 pub take_over-requires : goal.take_over-requires
-take_over-requires c = record { move_leads = search all; fact = search all; graph_size_in_bounds = search all; i_lt_pair_room = search all; b_lt_action_room = search all; number_bound = search all }
+take_over-requires c = record { move_leads = search (all, c.in-Some.ensures); fact = search all; graph_size_in_bounds = search all; i_lt_pair_room = search all; b_lt_action_room = search (all, c.in-Some.ensures); number_bound = search all }
 
-pub shape_of-pairs-then-b-a : goal.shape_of-pairs-then-b-a
-shape_of-pairs-then-b-a c = search all
+pub shape_of-pairs-in-Some : goal.shape_of-pairs-in-Some
+shape_of-pairs-in-Some c = search all
 
-pub returns-then-b-a : goal.returns-then-b-a
-returns-then-b-a c = search all
+pub returns-in-Some : goal.returns-in-Some
+returns-in-Some c = search all
 
 pub step_length-d-requires : goal.step_length-d-requires
 step_length-d-requires c = record { fit_tower = search all; x_bound = search all; a_bound = search all }

@@ -5,11 +5,11 @@ use Rattle.pair_step.proofs.lead.Goals as goal
 
 ruleset all = (rules, moves_written, lead_again)
 
-pub led_before-m-requires : goal.led_before-m-requires
-led_before-m-requires c = search all
+pub led_before-requires : goal.led_before-requires
+led_before-requires c = search all
 
-pub returns-then-m-ge-FIRST_PAIR : goal.returns-then-m-ge-FIRST_PAIR
-returns-then-m-ge-FIRST_PAIR c = search all
+pub returns-in-Some : goal.returns-in-Some
+returns-in-Some c = search all
 
 pub look_up-requires : goal.look_up-requires
 look_up-requires c = record { searching = search rules; a_bound = search rules; a_value = search rules }

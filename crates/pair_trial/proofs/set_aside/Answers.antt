@@ -10,9 +10,6 @@ loop-j-init c = search all
 pub overflow_mul-j : goal.overflow_mul-j
 overflow_mul-j c = search all
 
-pub overflow_add-j : goal.overflow_add-j
-overflow_add-j c = search all
-
 pub overflow_mul-j-in-loop-j : goal.overflow_mul-j-in-loop-j
 overflow_mul-j-in-loop-j c = search all
 
@@ -21,12 +18,6 @@ overflow_add-to c = search all
 
 pub copy-requires : goal.copy-requires
 copy-requires c = record { n_in_bounds = search all; n_in_bounds_2 = search all }
-
-pub overflow_add-j-in-loop-j : goal.overflow_add-j-in-loop-j
-overflow_add-j-in-loop-j c = search all
-
-pub loop-j-smaller : goal.loop-j-smaller
-loop-j-smaller c = search all
 
 pub loop-j-preserved : goal.loop-j-preserved
 loop-j-preserved c = search all

@@ -5,6 +5,3 @@ use Rattle.pair_trial.proofs.set_aside.Given as goal
 
 abbrev pub invariant-loop-j : goal.invariant-loop-j
 invariant-loop-j l = Copying l.cells l.sets l.left l.initial.room l.to l.j l.room
-
-abbrev pub decreases-loop-j : goal.decreases-loop-j
-decreases-loop-j l = l.left - l.j

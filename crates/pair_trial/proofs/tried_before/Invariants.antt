@@ -4,6 +4,3 @@ use Rattle.pair_trial.proofs.tried_before.Given as goal
 
 abbrev pub invariant-loop-b : goal.invariant-loop-b
 invariant-loop-b l = l.b ≤ l.a
-
-abbrev pub decreases-loop-b : goal.decreases-loop-b
-decreases-loop-b l = l.a - l.b

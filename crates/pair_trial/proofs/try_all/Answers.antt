@@ -10,9 +10,6 @@ actions-actions-requires c = search all
 pub loop-a-init : goal.loop-a-init
 loop-a-init c = search all
 
-pub overflow_add-a : goal.overflow_add-a
-overflow_add-a c = search all
-
 pub try_action-requires : goal.try_action-requires
 try_action-requires c = record { trial = search all; a_bound = search all; sets_size_in_bounds = search all; room_size_in_bounds = search all }
 
@@ -24,9 +21,6 @@ shape_of-room-then-try_action c = search all
 
 pub returns-then-try_action : goal.returns-then-try_action
 returns-then-try_action c = search all
-
-pub loop-a-smaller : goal.loop-a-smaller
-loop-a-smaller c = search all
 
 pub loop-a-preserved : goal.loop-a-preserved
 loop-a-preserved c = search all

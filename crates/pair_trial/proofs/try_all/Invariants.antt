@@ -8,6 +8,3 @@ use Rattle.pair_trial.proofs.try_all.Given as goal
 
 abbrev pub invariant-loop-a : goal.invariant-loop-a
 invariant-loop-a l = Trying (walked l.tower l.table l.rows) l.nodes l.pairs l.i l.room l.a × (length l.sets ≡ length l.initial.sets) × (length l.room ≡ length l.initial.room)
-
-abbrev pub decreases-loop-a : goal.decreases-loop-a
-decreases-loop-a l = l.actions - l.a

@@ -11,46 +11,10 @@ pub enum_known-answer : goal.enum_known-answer
 unfolding log_line ascii
 enum_known-answer c = search all
 
-pub named-requires : goal.named-requires
+pub returns-in-Err : goal.returns-in-Err
 unfolding log_line ascii
-named-requires c = search all
+returns-in-Err c = search all
 
-pub enum_known-answer-in-Line-1 : goal.enum_known-answer-in-Line-1
+pub returns-in-Ok : goal.returns-in-Ok
 unfolding log_line ascii
-enum_known-answer-in-Line-1 c = search all
-
-pub named-requires-in-Line : goal.named-requires-in-Line
-unfolding log_line ascii
-named-requires-in-Line c = search all
-
-pub enum_known-answer-in-NotGood-1 : goal.enum_known-answer-in-NotGood-1
-unfolding log_line ascii
-enum_known-answer-in-NotGood-1 c = search all
-
-pub not_good-requires : goal.not_good-requires
-unfolding log_line ascii
-not_good-requires c = search all
-
-pub enum_known-answer-in-Refused-1 : goal.enum_known-answer-in-Refused-1
-unfolding log_line ascii
-enum_known-answer-in-Refused-1 c = search all
-
-pub refusal-requires : goal.refusal-requires
-unfolding log_line ascii
-refusal-requires c = search all
-
-pub returns-in-Row : goal.returns-in-Row
-unfolding log_line ascii
-returns-in-Row c = search all
-
-pub returns-in-Line : goal.returns-in-Line
-unfolding log_line ascii
-returns-in-Line c = search all
-
-pub returns-in-NotGood : goal.returns-in-NotGood
-unfolding log_line ascii
-returns-in-NotGood c = search all
-
-pub returns-in-Refused : goal.returns-in-Refused
-unfolding log_line ascii
-returns-in-Refused c = search all
+returns-in-Ok c = search all

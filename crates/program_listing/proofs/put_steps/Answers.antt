@@ -5,9 +5,6 @@ use Rattle.program_listing.proofs.put_steps.Goals as goal
 
 ruleset all = (rules, header_of, steps_start, steps_fit, next_fits, steps_on, steps_end)
 
-pub row_first-i-requires : goal.row_first-i-requires
-row_first-i-requires c = search all
-
 pub row_count-requires : goal.row_count-requires
 row_count-requires c = search all
 
@@ -26,12 +23,6 @@ step_target-target-requires c = search all
 pub put_step-next-requires : goal.put_step-next-requires
 put_step-next-requires c = search all
 
-pub overflow_add-i : goal.overflow_add-i
-overflow_add-i c = search all
-
-pub loop-i-smaller : goal.loop-i-smaller
-loop-i-smaller c = search all
-
 pub loop-i-preserved : goal.loop-i-preserved
 loop-i-preserved c = search all
 
@@ -40,3 +31,6 @@ shape_of-out c = search all
 
 pub returns : goal.returns
 returns c = search all
+
+pub row_first-first-requires : goal.row_first-first-requires
+row_first-first-requires c = search all

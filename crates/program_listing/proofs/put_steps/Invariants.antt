@@ -5,6 +5,3 @@ use Rattle.program_listing.proofs.put_steps.Given as goal
 
 abbrev pub invariant-loop-i : goal.invariant-loop-i
 invariant-loop-i l = StepsToPrint l.table l.row l.initial.out l.at l.end l.out l.next l.i
-
-abbrev pub decreases-loop-i : goal.decreases-loop-i
-decreases-loop-i l = l.end - l.i

@@ -4,6 +4,3 @@ use Rattle.program_log.proofs.read_noting.Given as goal
 
 abbrev pub invariant-loop-turns : goal.invariant-loop-turns
 invariant-loop-turns g l = BetweenParts l.table l.initial.known l.known l.initial.part l.part l.held l.course
-
-abbrev pub decreases-loop-turns : goal.decreases-loop-turns
-decreases-loop-turns g l = l.turns

@@ -6,29 +6,14 @@ use Rattle.program_run.proofs.next.Goals as goal
 
 ruleset all = (rules, cast_byte, action_low, time_fits, walk_on, walk_enabled)
 
-pub bounds-run-at : goal.bounds-run-at
-bounds-run-at c = search all
-
-pub overflow_cast-action : goal.overflow_cast-action
-overflow_cast-action c = search all
-
 pub step_length-length-requires : goal.step_length-length-requires
 step_length-length-requires c = search all
 
 pub target-requires : goal.target-requires
 target-requires c = search all
 
-pub enum_known-state : goal.enum_known-state
-enum_known-state c = search all
-
-pub enum_told-1 : goal.enum_told-1
-enum_told-1 c = search all
-
 pub returns-in_default : goal.returns-in_default
 returns-in_default c = search all
-
-pub overflow_add-result : goal.overflow_add-result
-overflow_add-result c = search all
 
 pub overflow_add-result-2 : goal.overflow_add-result-2
 overflow_add-result-2 c = search all

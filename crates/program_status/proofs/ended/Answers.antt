@@ -1,5 +1,8 @@
-use Rattle.std.proofs.Common.{◌<◌, length, arith, get_or-set_same}
+use mathlib.Core.Path.{◌∙◌}
+use lib.Seq.{length-take-le}
+use Rattle.std.proofs.Common.{rules}
+use Rattle.program_status.proofs.Ways.{ended_way}
 use Rattle.program_status.proofs.ended.Goals as goal
 
 pub returns : goal.returns
-returns c = let inside : 4095 < length c.loop-i.out = omega (arith, c.loop-i.invariant) in get_or-set_same _ 4095 _ 1 inside
+returns c = ended_way _ _ (c.copy_from_slice.auto.self ∙ length-take-le _ _ (search rules)) (search rules)

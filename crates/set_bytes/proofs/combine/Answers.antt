@@ -10,15 +10,3 @@ returns-then-a-gt-MOST c = search all
 
 pub returns-then-b-gt-MOST : goal.returns-then-b-gt-MOST
 returns-then-b-gt-MOST c = search all
-
-pub combine_by-requires : goal.combine_by-requires
-combine_by-requires c = record { has_nodes = search all; sets_ready = search all; a_bound = search all; b_bound = search all }
-
-pub shape_of-sets : goal.shape_of-sets
-shape_of-sets c = search all
-
-pub shape_of-room : goal.shape_of-room
-shape_of-room c = search all
-
-pub returns : goal.returns
-returns c = search all

@@ -1,10 +1,6 @@
--- The loop keeps what `Dropping` says: of the first i those that stay are in front. Those that are left become fewer.
-use Prim.Native.Nat.{◌-◌}
+-- The loop keeps what `Dropping` says: of the first i those that stay are in front.
 use Rattle.set_bytes.proofs.Dropping.{Dropping}
 use Rattle.set_bytes.proofs.drop_needless.Given as goal
 
 abbrev pub invariant-loop-i : goal.invariant-loop-i
 invariant-loop-i l = Dropping l.book l.n l.room l.initial.order l.m l.c l.order l.i l.left
-
-abbrev pub decreases-loop-i : goal.decreases-loop-i
-decreases-loop-i l = l.m - l.i

@@ -5,20 +5,5 @@ use Rattle.set_bytes.proofs.gather_pair.Goals as goal
 
 ruleset all = (rules, pair_gathered)
 
-pub overflow_mul-c : goal.overflow_mul-c
-overflow_mul-c c = search all
-
-pub put_both-requires : goal.put_both-requires
-put_both-requires c = record { has_nodes = search all; n_in_bounds = search all; n_in_bounds_2 = search all; n_in_bounds_3 = search all }
-
-pub add-requires : goal.add-requires
-add-requires c = record { has_nodes = search all; n_le_alternative_size = search all; candidates_size_in_bounds = search all; m_in_bounds = search all; c_lt_most_candidates = search all }
-
-pub shape_of-room : goal.shape_of-room
-shape_of-room c = search all
-
-pub shape_of-order : goal.shape_of-order
-shape_of-order c = search all
-
 pub returns : goal.returns
 returns c = search all

@@ -7,32 +7,8 @@ ruleset all = (rules, pairs_start, pairs_end, pair_fits, row_room)
 pub loop-i-init : goal.loop-i-init
 loop-i-init c = search all
 
-pub overflow_mul-i : goal.overflow_mul-i
-overflow_mul-i c = search all
-
-pub overflow_add-p : goal.overflow_add-p
-overflow_add-p c = search all
-
-pub overflow_mul-b : goal.overflow_mul-b
-overflow_mul-b c = search all
-
-pub gather_row-left-requires : goal.gather_row-left-requires
-gather_row-left-requires c = record { has_nodes = search all; room_for = search all; alternative_size_in_bounds = search all; set_size_in_bounds = search all; b_bound = search all }
-
-pub overflow_add-i : goal.overflow_add-i
-overflow_add-i c = search all
-
-pub loop-i-smaller : goal.loop-i-smaller
-loop-i-smaller c = search all
+pub gather_row-left-requires-clause-room_for : goal.gather_row-left-requires-clause-room_for
+gather_row-left-requires-clause-room_for c = search all
 
 pub loop-i-preserved : goal.loop-i-preserved
 loop-i-preserved c = (pairs_more _ _ _ _ _ _ _ _ _ _ _ _ _ _ _ c.gather_row-left.ensures c.loop-i.invariant.0, search rules)
-
-pub shape_of-room : goal.shape_of-room
-shape_of-room c = search all
-
-pub shape_of-order : goal.shape_of-order
-shape_of-order c = search all
-
-pub returns : goal.returns
-returns c = search all

@@ -1,11 +1,8 @@
--- The loop keeps what `Gathered` says of the first j of the row. Those that are left become fewer.
-use Prim.Native.Nat.{◌-◌, ◌≤◌}
+-- The loop keeps what `Gathered` says of the first j of the row.
+use Prim.Native.Nat.{◌≤◌}
 use Rattle.set_bytes.specs.SetBytes.{row_of}
 use Rattle.set_bytes.specs.Promises.{Gathered}
 use Rattle.set_bytes.proofs.gather_row.Given as goal
 
 abbrev pub invariant-loop-j : goal.invariant-loop-j
 invariant-loop-j l = Gathered l.left l.book l.n (row_of l.sets l.n l.p l.q l.j) l.initial.room l.initial.order l.m l.c l.j l.room l.order × (l.j ≤ l.b)
-
-abbrev pub decreases-loop-j : goal.decreases-loop-j
-decreases-loop-j l = l.b - l.j

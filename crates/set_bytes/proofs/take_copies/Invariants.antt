@@ -1,10 +1,7 @@
--- The loop keeps what `AllTaken` says of the first i. Those that are left become fewer.
-use Prim.Native.Nat.{◌-◌, ◌≤◌}
+-- The loop keeps what `AllTaken` says of the first i.
+use Prim.Native.Nat.{◌≤◌}
 use Rattle.set_bytes.specs.Promises.{AllTaken}
 use Rattle.set_bytes.proofs.take_copies.Given as goal
 
 abbrev pub invariant-loop-i : goal.invariant-loop-i
 invariant-loop-i l = AllTaken l.n l.sets l.p l.i l.initial.room l.initial.order l.room l.order × (l.i ≤ l.a)
-
-abbrev pub decreases-loop-i : goal.decreases-loop-i
-decreases-loop-i l = l.a - l.i

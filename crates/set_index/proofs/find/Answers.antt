@@ -4,23 +4,11 @@ use Rattle.set_index.proofs.find.Goals as goal
 
 ruleset all = (rules, find_start, find_less, find_hit, find_miss, find_end)
 
-pub head-at-requires : goal.head-at-requires
-head-at-requires c = search all
-
 pub loop-at-init : goal.loop-at-init
 loop-at-init c = search all
 
-pub overflow_sub-i : goal.overflow_sub-i
-overflow_sub-i c = search all
-
-pub same-requires : goal.same-requires
-same-requires c = search all
-
 pub returns-then-same : goal.returns-then-same
 returns-then-same c = search all
-
-pub link-at-requires : goal.link-at-requires
-link-at-requires c = search all
 
 pub loop-at-smaller : goal.loop-at-smaller
 loop-at-smaller c = search all

@@ -4,35 +4,14 @@ use Rattle.set_index.proofs.hash.Goals as goal
 
 ruleset all = (rules, number_product, entry_start, next_alternative, entry_sum_fits, entry_more, entry_end)
 
-pub overflow_add-i : goal.overflow_add-i
-overflow_add-i c = search all
-
-pub first-end-requires : goal.first-end-requires
-first-end-requires c = search all
-
-pub number-h-requires : goal.number-h-requires
-number-h-requires c = search all
-
 pub overflow_mul-h : goal.overflow_mul-h
 overflow_mul-h c = search all
-
-pub first-s-requires : goal.first-s-requires
-first-s-requires c = search all
 
 pub loop-s-init : goal.loop-s-init
 loop-s-init c = search all
 
-pub alternative_hash-h-requires : goal.alternative_hash-h-requires
-alternative_hash-h-requires c = search all
-
 pub overflow_add-h : goal.overflow_add-h
 overflow_add-h c = search all
-
-pub overflow_add-s : goal.overflow_add-s
-overflow_add-s c = search all
-
-pub loop-s-smaller : goal.loop-s-smaller
-loop-s-smaller c = search all
 
 pub loop-s-preserved : goal.loop-s-preserved
 loop-s-preserved c = search all

@@ -7,6 +7,3 @@ ruleset all = (rules, bucket_there, head_read)
 
 pub head-requires : goal.head-requires
 head-requires c = search all
-
-pub returns : goal.returns
-returns c = search all

@@ -1,12 +1,14 @@
--- `text_numerals::is_digit` meets its contract; each need follows by the laws of its way.
-use Rattle.text_numerals.proofs.Laws.{digit_below, digit_above}
+use Rattle.text_numerals.proofs.Laws.{digit_between, digit_below, digit_above}
 use borrow.Author.Rules.{rules}
 use Rattle.text_numerals.proofs.is_digit.Goals as goal
 
-ruleset all = (rules, digit_below, digit_above)
+ruleset all = (rules, digit_between, digit_below, digit_above)
 
-pub returns-then-b-lt48 : goal.returns-then-b-lt48
-returns-then-b-lt48 c = search all
+pub returns-in-48-to-57 : goal.returns-in-48-to-57
+returns-in-48-to-57 c = search all
 
-pub returns : goal.returns
-returns c = search all
+pub returns-in_default : goal.returns-in_default
+returns-in_default c = search all
+
+pub returns-in_default-2 : goal.returns-in_default-2
+returns-in_default-2 c = search all

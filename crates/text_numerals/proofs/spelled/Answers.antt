@@ -1,4 +1,3 @@
--- `text_numerals::spelled` meets its contract; each need follows by the laws of its way.
 use Rattle.text_numerals.proofs.Laws.{spelled_none, spelled_some}
 use borrow.Author.Rules.{rules}
 use Rattle.text_numerals.proofs.spelled.Goals as goal

@@ -1,6 +1,6 @@
 -- `why::show_run` meets its contract.
 use borrow.Author.Rules.{rules}
-use Rattle.why.proofs.Ways.{write_held, write_lower, write_pair, write_action, run_short, run_judgeable, run_shown}
+use Rattle.why.proofs.Ways.{write_held, write_lower, write_pair, write_action, run_short, run_judgeable, run_told}
 use Rattle.why.proofs.show_run.Goals as goal
 
 pub write_run-requires : goal.write_run-requires
@@ -9,8 +9,8 @@ write_run-requires c = record { holds_graph = search (rules, write_held); met_fr
 pub judge-place-requires : goal.judge-place-requires
 judge-place-requires c = record { run_given = search (rules, run_judgeable); states_size_in_bounds = search rules; marks_size_in_bounds = search rules; kept_size_in_bounds = search rules }
 
-pub returns-in-TooShort : goal.returns-in-TooShort
-returns-in-TooShort c = search (rules, run_short)
+pub returns-in_default : goal.returns-in_default
+returns-in_default c = search (rules, run_short)
 
-pub returns-in-Run : goal.returns-in-Run
-returns-in-Run c = search (rules, run_shown)
+pub returns : goal.returns
+returns c = search (rules, run_told)

@@ -5,6 +5,3 @@ use Rattle.why_judging.proofs.judge_both.Given as goal
 abbrev pub invariant-loop-i : goal.invariant-loop-i
 invariant-loop-i l =
     NodeJudging l.tower l.nodes l.run l.states l.marks l.n l.k l.initial.kept l.i l.kept
-
-abbrev pub decreases-loop-i : goal.decreases-loop-i
-decreases-loop-i l = l.i

@@ -13,12 +13,6 @@ loop-k-init c = nodes_first _ _ _ _ _ _ (search rules)
 pub judge_node-requires : goal.judge_node-requires
 judge_node-requires c = search all
 
-pub overflow_add-k : goal.overflow_add-k
-overflow_add-k c = search all
-
-pub loop-k-smaller : goal.loop-k-smaller
-loop-k-smaller c = search all
-
 pub loop-k-preserved : goal.loop-k-preserved
 loop-k-preserved c = search all
 

@@ -5,6 +5,3 @@ use Rattle.why_judging.proofs.judge_in_order.Given as goal
 
 abbrev pub invariant-loop-k : goal.invariant-loop-k
 invariant-loop-k l = NodesJudging l.tower l.nodes l.run l.states l.n l.initial.kept l.k l.kept
-
-abbrev pub decreases-loop-k : goal.decreases-loop-k
-decreases-loop-k l = l.count - l.k

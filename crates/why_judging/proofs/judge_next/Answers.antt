@@ -16,17 +16,11 @@ second-q-requires c = search all
 pub loop-i-init : goal.loop-i-init
 loop-i-init c = search all
 
-pub overflow_sub-i : goal.overflow_sub-i
-overflow_sub-i c = search all
-
 pub next_at-b-requires : goal.next_at-b-requires
 next_at-b-requires c = record { node_next = search all; code_value = search all; bound = search all; k_bound = search all; t_value = search all; q_value = search all; i_lt_n = search all }
 
 pub put_kept-requires : goal.put_kept-requires
 put_kept-requires c = record { kept_size_in_bounds = search all; k_bound = search all; i_lt_position_room = search all }
-
-pub loop-i-smaller : goal.loop-i-smaller
-loop-i-smaller c = search all
 
 pub loop-i-preserved : goal.loop-i-preserved
 loop-i-preserved c = search all

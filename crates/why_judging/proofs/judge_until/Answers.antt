@@ -17,9 +17,6 @@ second-q-requires c = search all
 pub loop-i-init : goal.loop-i-init
 loop-i-init c = (search all, search all)
 
-pub overflow_sub-i : goal.overflow_sub-i
-overflow_sub-i c = search all
-
 pub ends_at-far-requires : goal.ends_at-far-requires
 ends_at-far-requires c = record { node_next = search all; k_value = search all; p_value = search all; q_value = search all; i_lt_n = search all; node_waits = search all }
 
@@ -28,9 +25,6 @@ within-requires c = search all
 
 pub put_kept-requires : goal.put_kept-requires
 put_kept-requires c = record { kept_size_in_bounds = search all; k_bound = search all; i_lt_position_room = search all }
-
-pub loop-i-smaller : goal.loop-i-smaller
-loop-i-smaller c = search all
 
 pub loop-i-preserved : goal.loop-i-preserved
 loop-i-preserved c = (search all, search all)

@@ -6,6 +6,3 @@ use Rattle.why_judging.proofs.judge_until.Given as goal
 abbrev pub invariant-loop-i : goal.invariant-loop-i
 invariant-loop-i l =
     NodeJudging l.tower l.nodes l.run l.states l.marks l.n l.k l.initial.kept l.i l.kept × NodeWaits l.far l.tower l.nodes l.run l.states l.n l.k l.i
-
-abbrev pub decreases-loop-i : goal.decreases-loop-i
-decreases-loop-i l = l.i

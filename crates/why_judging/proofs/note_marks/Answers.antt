@@ -10,12 +10,6 @@ loop-i-init c = search all
 pub note_moment-requires : goal.note_moment-requires
 note_moment-requires c = record { run_held = search all; i_lt_n = search all; marks_size_in_bounds = search all }
 
-pub overflow_add-i : goal.overflow_add-i
-overflow_add-i c = search all
-
-pub loop-i-smaller : goal.loop-i-smaller
-loop-i-smaller c = search all
-
 pub loop-i-preserved : goal.loop-i-preserved
 loop-i-preserved c = search all
 

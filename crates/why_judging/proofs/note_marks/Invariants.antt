@@ -5,6 +5,3 @@ use Rattle.why_judging.proofs.note_marks.Given as goal
 
 abbrev pub invariant-loop-i : goal.invariant-loop-i
 invariant-loop-i l = Marking l.tower l.run l.states l.n l.initial.marks l.i l.marks
-
-abbrev pub decreases-loop-i : goal.decreases-loop-i
-decreases-loop-i l = l.n - l.i

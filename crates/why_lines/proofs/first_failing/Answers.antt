@@ -13,12 +13,6 @@ kept_at-requires c = search all
 pub returns-then-not-kept_at : goal.returns-then-not-kept_at
 returns-then-not-kept_at c = so_far_found _ _ _ _ c.loop-i.invariant _ c.loop-i-test.true c.kept_at.ensures c.if-not-kept_at.true-raw
 
-pub overflow_add-i : goal.overflow_add-i
-overflow_add-i c = search all
-
-pub loop-i-smaller : goal.loop-i-smaller
-loop-i-smaller c = search all
-
 pub loop-i-preserved : goal.loop-i-preserved
 loop-i-preserved c = search all
 

@@ -1,10 +1,6 @@
 -- The loop keeps what `Looking` says: the lines before this one are kept. Those that are left become fewer.
-use Prim.Native.Nat.{◌-◌}
 use Rattle.why_lines.proofs.Failing.{Looking}
 use Rattle.why_lines.proofs.lowest.Given as goal
 
 abbrev pub invariant-loop-l : goal.invariant-loop-l
 invariant-loop-l l = Looking l.tower l.nodes l.run l.states l.n l.lines l.l
-
-abbrev pub decreases-loop-l : goal.decreases-loop-l
-decreases-loop-l l = l.lines - l.l

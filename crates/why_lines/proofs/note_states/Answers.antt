@@ -26,12 +26,6 @@ overflow_cast-run c = search all
 pub next_state-x-requires : goal.next_state-x-requires
 next_state-x-requires c = search all
 
-pub overflow_add-i : goal.overflow_add-i
-overflow_add-i c = search all
-
-pub loop-i-smaller : goal.loop-i-smaller
-loop-i-smaller c = search all
-
 pub loop-i-preserved : goal.loop-i-preserved
 loop-i-preserved c = search all
 

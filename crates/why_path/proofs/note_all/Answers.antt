@@ -7,14 +7,8 @@ ruleset all = (rules, noting_all, pair_before, noting_more, noted_all)
 pub loop-i-init : goal.loop-i-init
 loop-i-init c = search all
 
-pub overflow_sub-i : goal.overflow_sub-i
-overflow_sub-i c = search all
-
 pub note_pair-requires : goal.note_pair-requires
 note_pair-requires c = record { holds_graph = search rules; ways_size_in_bounds = search rules; i_lt_n = search rules; steps_noted = search all }
-
-pub loop-i-smaller : goal.loop-i-smaller
-loop-i-smaller c = search all
 
 pub loop-i-preserved : goal.loop-i-preserved
 loop-i-preserved c = search all

@@ -6,6 +6,3 @@ use Rattle.why_path.proofs.note_all.Given as goal
 
 abbrev pub invariant-loop-i : goal.invariant-loop-i
 invariant-loop-i l = NotingBack l.n l.actions l.graph (16 * l.n) (16 * l.i) l.initial.ways l.ways
-
-abbrev pub decreases-loop-i : goal.decreases-loop-i
-decreases-loop-i l = l.i

@@ -8,14 +8,8 @@ ruleset all = (rules, step_before, noting_step, noted_pair)
 pub loop-a-init : goal.loop-a-init
 loop-a-init c = noting_pair _ _ _ _ _ _ (search rules) (search rules) refl
 
-pub overflow_sub-a : goal.overflow_sub-a
-overflow_sub-a c = search all
-
 pub note_step-requires : goal.note_step-requires
 note_step-requires c = record { holds_graph = search rules; ways_size_in_bounds = search rules; i_lt_n = search rules; a_lt_actions = search rules; steps_noted = search all }
-
-pub loop-a-smaller : goal.loop-a-smaller
-loop-a-smaller c = search all
 
 pub loop-a-preserved : goal.loop-a-preserved
 loop-a-preserved c = search all

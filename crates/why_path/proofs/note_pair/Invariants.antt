@@ -6,6 +6,3 @@ use Rattle.why_path.proofs.note_pair.Given as goal
 
 abbrev pub invariant-loop-a : goal.invariant-loop-a
 invariant-loop-a l = NotingBack l.n l.actions l.graph (16 * l.i + l.actions) (16 * l.i + l.a) l.initial.ways l.ways
-
-abbrev pub decreases-loop-a : goal.decreases-loop-a
-decreases-loop-a l = l.a

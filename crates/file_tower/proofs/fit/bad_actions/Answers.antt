@@ -17,12 +17,6 @@ bad_action-requires c = search all
 pub returns-then-bad_action : goal.returns-then-bad_action
 returns-then-bad_action c = search all
 
-pub overflow_add-a : goal.overflow_add-a
-overflow_add-a c = search all
-
-pub loop-a-smaller : goal.loop-a-smaller
-loop-a-smaller c = search all
-
 pub loop-a-preserved : goal.loop-a-preserved
 loop-a-preserved c = search all
 

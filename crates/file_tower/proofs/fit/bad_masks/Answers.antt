@@ -17,12 +17,6 @@ bad_mask-requires c = search all
 pub returns-then-bad_mask : goal.returns-then-bad_mask
 returns-then-bad_mask c = search all
 
-pub overflow_add-x : goal.overflow_add-x
-overflow_add-x c = search all
-
-pub loop-x-smaller : goal.loop-x-smaller
-loop-x-smaller c = search all
-
 pub loop-x-preserved : goal.loop-x-preserved
 loop-x-preserved c = search all
 

@@ -17,12 +17,6 @@ bad_targets_of-requires c = search all
 pub returns-then-bad_targets_of : goal.returns-then-bad_targets_of
 returns-then-bad_targets_of c = search all
 
-pub overflow_add-x : goal.overflow_add-x
-overflow_add-x c = search all
-
-pub loop-x-smaller : goal.loop-x-smaller
-loop-x-smaller c = search all
-
 pub loop-x-preserved : goal.loop-x-preserved
 loop-x-preserved c = search all
 

@@ -9,6 +9,3 @@ use Rattle.file_tower.proofs.fit.bad_targets.Given as goal
 
 abbrev pub invariant-loop-x : goal.invariant-loop-x
 invariant-loop-x l = Left (some_of (bad_targets_of l.bytes)) 0 (states_of l.bytes) l.states l.x
-
-abbrev pub decreases-loop-x : goal.decreases-loop-x
-decreases-loop-x l = l.states - l.x

@@ -9,6 +9,3 @@ use Rattle.file_tower.proofs.fit.bad_targets_of.Given as goal
 
 abbrev pub invariant-loop-a : goal.invariant-loop-a
 invariant-loop-a l = Left (some_of (bad_target l.bytes l.x)) 0 (actions_of l.bytes) l.actions l.a
-
-abbrev pub decreases-loop-a : goal.decreases-loop-a
-decreases-loop-a l = l.actions - l.a

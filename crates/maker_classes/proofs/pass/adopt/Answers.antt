@@ -25,12 +25,6 @@ overflow_mul-i-in-loop-p c = search all
 pub put_two_bytes-requires : goal.put_two_bytes-requires
 put_two_bytes-requires c = search all
 
-pub overflow_add-p : goal.overflow_add-p
-overflow_add-p c = search all
-
-pub loop-p-smaller : goal.loop-p-smaller
-loop-p-smaller c = search all
-
 pub loop-p-preserved : goal.loop-p-preserved
 loop-p-preserved c = search all
 

@@ -6,6 +6,3 @@ use Rattle.maker_classes.proofs.pass.adopt.Given as goal
 
 abbrev pub invariant-loop-p : goal.invariant-loop-p
 invariant-loop-p l = Adopting l.n l.p l.initial.area l.marks l.separated l.area
-
-abbrev pub decreases-loop-p : goal.decreases-loop-p
-decreases-loop-p l = l.separated - l.p

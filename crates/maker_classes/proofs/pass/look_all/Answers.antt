@@ -22,12 +22,6 @@ loop-i-init c = (search pass_start, search rules, search rules, search rules)
 pub look-separated-requires : goal.look-separated-requires
 look-separated-requires c = search all
 
-pub overflow_add-i : goal.overflow_add-i
-overflow_add-i c = search all
-
-pub loop-i-smaller : goal.loop-i-smaller
-loop-i-smaller c = search all
-
 pub loop-i-preserved : goal.loop-i-preserved
 loop-i-preserved c = (search pass_more, search rules, search rules, search rules)
 

@@ -8,6 +8,3 @@ use Rattle.maker_classes.proofs.pass.look_all.Given as goal
 
 abbrev pub invariant-loop-i : goal.invariant-loop-i
 invariant-loop-i l = (PassedFrom l.graph l.flags l.actions l.n l.initial.area l.i l.area l.marks l.separated) × (length l.area ≡ length l.initial.area) × (length l.marks ≡ length l.initial.marks) × (l.i ≤ l.n)
-
-abbrev pub decreases-loop-i : goal.decreases-loop-i
-decreases-loop-i l = l.n - l.i

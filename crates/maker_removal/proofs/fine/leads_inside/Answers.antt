@@ -8,17 +8,5 @@ ruleset all = (rules, judged_graph, led_inside, led_outside)
 pub actions-requires : goal.actions-requires
 actions-requires c = search all
 
-pub allowed-led-requires : goal.allowed-led-requires
-allowed-led-requires c = search all
-
-pub enum_known-led : goal.enum_known-led
-enum_known-led c = search all
-
-pub enum_told-1 : goal.enum_told-1
-enum_told-1 c = search all
-
-pub returns-in_default : goal.returns-in_default
-returns-in_default c = search all
-
 pub returns : goal.returns
 returns c = search all

@@ -18,12 +18,6 @@ not_forced-requires c = search all
 pub returns-then-not-not_forced : goal.returns-then-not-not_forced
 returns-then-not-not_forced c = search all
 
-pub overflow_add-a : goal.overflow_add-a
-overflow_add-a c = search all
-
-pub loop-a-smaller : goal.loop-a-smaller
-loop-a-smaller c = search all
-
 pub loop-a-preserved : goal.loop-a-preserved
 loop-a-preserved c = search all
 

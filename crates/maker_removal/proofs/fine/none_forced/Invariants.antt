@@ -10,6 +10,3 @@ use Rattle.maker_removal.proofs.fine.none_forced.Given as goal
 
 abbrev pub invariant-loop-a : goal.invariant-loop-a
 invariant-loop-a l = Left (every (not_forced_at (tower_of l.tower) l.graph (safe_in l.flags) l.i)) 0 (tower_of l.tower).actions l.actions l.a
-
-abbrev pub decreases-loop-a : goal.decreases-loop-a
-decreases-loop-a l = l.actions - l.a

@@ -13,12 +13,6 @@ loop-i-init c = search all
 pub list_pair-requires : goal.list_pair-requires
 list_pair-requires c = record { holds_graph = search rules; lists_end_in_bounds = search rules; i_lt_n = search rules; listed = search rules }
 
-pub overflow_add-i : goal.overflow_add-i
-overflow_add-i c = search all
-
-pub loop-i-smaller : goal.loop-i-smaller
-loop-i-smaller c = search all
-
 pub loop-i-preserved : goal.loop-i-preserved
 loop-i-preserved c = search all
 

@@ -6,6 +6,3 @@ use Rattle.pair_graph.proofs.predecessors.list_all.Given as goal
 
 abbrev pub invariant-loop-i : goal.invariant-loop-i
 invariant-loop-i l = ListingCells l.n l.actions l.graph (16 * l.n) (16 * l.i) l.initial.area l.area
-
-abbrev pub decreases-loop-i : goal.decreases-loop-i
-decreases-loop-i l = l.n - l.i

@@ -10,12 +10,6 @@ loop-a-init c = search all
 pub list_cell-requires : goal.list_cell-requires
 list_cell-requires c = record { holds_graph = search rules; lists_end_in_bounds = search rules; i_lt_n = search rules; a_lt_actions = search rules; listed = search rules }
 
-pub overflow_add-a : goal.overflow_add-a
-overflow_add-a c = search all
-
-pub loop-a-smaller : goal.loop-a-smaller
-loop-a-smaller c = search all
-
 pub loop-a-preserved : goal.loop-a-preserved
 loop-a-preserved c = search all
 

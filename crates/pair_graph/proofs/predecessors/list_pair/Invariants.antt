@@ -6,6 +6,3 @@ use Rattle.pair_graph.proofs.predecessors.list_pair.Given as goal
 
 abbrev pub invariant-loop-a : goal.invariant-loop-a
 invariant-loop-a l = ListingCells l.n l.actions l.graph (16 * l.i + l.actions) (16 * l.i + l.a) l.initial.area l.area
-
-abbrev pub decreases-loop-a : goal.decreases-loop-a
-decreases-loop-a l = l.actions - l.a

@@ -1,8 +1,7 @@
-use Rattle.std.proofs.Common.{rules}
-use Rattle.program_files.proofs.Ways.{number_way}
+use native.Mathlib.Omega.{arith}
+use Rattle.base.specs.Bytes.{number_at}
 use Rattle.program_files.proofs.naming.number.Goals as goal
 
-ruleset all = (rules, number_way)
-
 pub returns : goal.returns
-returns c = search all
+unfolding number_at
+returns c = omega (arith, c.from_le_bytes.ensures)

@@ -6,12 +6,6 @@ use Rattle.testing.proofs.table.test_table_field.Goals as goal
 
 ruleset all = (rules, not-true, not-false, holds_by, header_of)
 
-pub laid_out-requires : goal.laid_out-requires
-laid_out-requires c = search all
-
-pub returns-then-not-laid_out : goal.returns-then-not-laid_out
-returns-then-not-laid_out c = search all
-
 pub rows-requires : goal.rows-requires
 rows-requires c = search all
 
@@ -29,21 +23,3 @@ row_field-requires c = search all
 
 pub step_field-requires : goal.step_field-requires
 step_field-requires c = search all
-
-pub returns-in-0 : goal.returns-in-0
-returns-in-0 c = search all
-
-pub returns-in-1 : goal.returns-in-1
-returns-in-1 c = search all
-
-pub returns-in-2 : goal.returns-in-2
-returns-in-2 c = search all
-
-pub returns-in-3 : goal.returns-in-3
-returns-in-3 c = search all
-
-pub returns-in-4-to-6 : goal.returns-in-4-to-6
-returns-in-4-to-6 c = search all
-
-pub returns-in_default : goal.returns-in_default
-returns-in_default c = search all

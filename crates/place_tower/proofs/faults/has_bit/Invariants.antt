@@ -1,8 +1,0 @@
--- Nothing has to hold from turn to turn; fewer bits are left.
-use Rattle.place_tower.proofs.faults.has_bit.Given as goal
-
-abbrev pub invariant-loop-left : goal.invariant-loop-left
-invariant-loop-left l = Unit {0}
-
-abbrev pub decreases-loop-left : goal.decreases-loop-left
-decreases-loop-left l = l.left

@@ -1,9 +1,0 @@
--- The bytes written are among the bytes; the number of turns left falls.
-use Rattle.std.proofs.Common.{◌≤◌, length}
-use Rattle.program_files.proofs.writing.write_whole.Given as goal
-
-abbrev pub invariant-loop-turns : goal.invariant-loop-turns
-invariant-loop-turns g l = l.done ≤ length l.bytes
-
-abbrev pub decreases-loop-turns : goal.decreases-loop-turns
-decreases-loop-turns g l = l.turns
