@@ -7,7 +7,7 @@ use mathlib.Core.Path.{◌≡◌, refl, sym, ◌∙◌, ap, subst}
 use mathlib.Core.Bool.{Bool, true, false, not, ◌&&◌, ◌||◌}
 use Rattle.std.specs.Prelude.{Option, None, Some}
 use mathlib.Core.List.{List}
-use lib.ListN.{length, get_or, set, take, drop, length-set, drop_of_length-le}
+use lib.ListN.{length, get_or, set, drop, length-set, drop_of_length-le}
 use lib.Seq.{drop-cons, get_or-set_same, get_or-set_other, ext_get_or}
 use lib.Dec.{ltb, eqb}
 use borrow.Author.Tests.{not-true, not-false, le-ltb, eq-eqb, ne_eqb}
@@ -19,18 +19,17 @@ use Rattle.logic.specs.Book.{Formula, constant}
 use Rattle.logic.specs.declared.Tick.{Tick}
 use Rattle.logic.proofs.Ordering.{at_most_number}
 use Rattle.std.proofs.Common.{is_le, nat_cmp}
-use borrow.Rule.Slice.PartMut.{put_mid}
 use Rattle.pending.specs.Pending.{Pending, coming}
 use Rattle.alternatives.specs.Alternatives.{first_cell, later_cells, no_more_ticks, no_more_cell, asks_no_more, cell_number, earlier, both_cells, both}
 use Rattle.alternatives.proofs.Orders.{no_more_cell_refl}
 use Rattle.alternatives.proofs.Antichain.{both_sized}
 use Rattle.area_bytes.proofs.Numbers.{same_bytes}
-use Rattle.book_progression.specs.PendingBytes.{cell_of, pending_of}
+use Rattle.book_progression.specs.PendingBytes.{cell_of}
 use Rattle.book_progression.specs.NodeBytes.{code_of}
 use Rattle.book_progression.specs.Promises.{AreNodes, Merged, Beside, EmptyTo}
 use Rattle.book_progression.proofs.Cells.{cell_empty, cell_one_more}
 use Rattle.book_progression.proofs.Nodes.{by_kind, by_always, by_until}
-use Rattle.book_progression.proofs.Areas.{beside_none, beside_set, beside_both, beside_back, part_back, lent, lent_length}
+use Rattle.book_progression.proofs.Areas.{beside_none, beside_set, beside_both}
 use Rattle.alternative_bytes.specs.AlternativeBytes.{alternative_in}
 use Rattle.alternative_bytes.specs.Promises.{CellNoMore, CellBoth, EqualTo, DifferAt, NoMore, BothPut, Copied}
 use Rattle.alternative_bytes.proofs.Laws.{cell_number_of, alternative_length, alternative_cell, both_cell_at}
@@ -296,18 +295,20 @@ filling_on Says first to n area k v going low fits says =
         let last : j ≡ k = omega arith in
         rw last (subst (Says k) (sym (get_or-set_same area (to + k) v 0 (omega (arith, going.size)))) says)
 
--- The bytes of an alternative take the place of others.
-pub copied : (n : ℕ) (area : List ℕ) (p : ℕ) (room : List ℕ) (to : ℕ) (bytes : List ℕ) → bytes ≡ take (p + n - p) (drop p area)
-    → p + n ≤ length area → to + n ≤ length room → Copied n area p room to (put_mid to (to + n - to) room bytes)
-unfolding alternative_in
-copied n area p room to bytes are fits fits' =
-    record {
-      beside = beside_back room to n bytes fits' many;
-      is = ap pending_of (part_back room to n bytes fits' many ∙ are ∙ lent area p n);
-    }
-  where
-    many : length bytes ≡ n
-    many = ap length are ∙ lent_length area p n fits
+-- what byte j of a copy should be
+abbrev pub SameByte : List ℕ → ℕ → ℕ → ℕ → Type 0
+SameByte area p j byte = byte ≡ get_or area (p + j) 0
+
+module _ (n : ℕ) (area : List ℕ) (p : ℕ) (room : List ℕ) (to : ℕ) (after : List ℕ) (k : ℕ) (over : n ≤ k) (fits : to + n ≤ length room) where
+  pub copy_end : Filling (SameByte area p) room to n after k → p + n ≤ length area → Copied n area p room to after
+  copy_end going fits_p =
+      let length_to = alternative_length after n to (omega (arith, going.size)) in
+      record {
+        beside = going.beside;
+        is = ext_get_or None (alternative_in after n to) (alternative_in area n p) (length_to ∙ sym (alternative_length area n p fits_p))
+            (λ i inside. let low : i < n = omega (arith, length_to) in
+            alternative_cell after n to i low ∙ ap cell_of (going.says i (omega arith)) ∙ sym (alternative_cell area n p i low));
+      }
 
 -- ---- both of two alternatives
 

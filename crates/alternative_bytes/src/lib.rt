@@ -149,7 +149,9 @@ pub fn copy(n: usize, area: &[u8], p: usize, room: &mut [u8], to: usize)
     requires n_in_bounds_2 { to + n ≤ length room.old }
     ensures { Copied n area.now p room.old to room.new }
 {
-    room[to..to + n].copy_from_slice(&area[p..p + n]);
+    for k in 0..n {
+        room[to + k] = area[p + k];
+    }
 }
 
 // The alternative at `to` of the room becomes both of those at p and q: where the cell at q is empty,

@@ -562,7 +562,10 @@ fn copy_combined(next: usize, sets: &mut [u8])
     if 16 < next {
         return;
     }
-    sets.copy_within(COMBINED..COMBINED + SIZE * next, JOINED);
+    let size = SIZE * next;
+    for k in 0..size {
+        sets[JOINED + k] = sets[COMBINED + k];
+    }
 }
 
 // It is joined with what stands so far, of which there are `count`; if there are none, it is copied.

@@ -1,7 +1,6 @@
 // The place at which a line is not of the grammar: an automaton over its tokens, with the open
 // brackets on a stack.
 use crate::fault::{Fault, Finding, misfit};
-use arrayvec::ArrayVec;
 use place_bytes::byte_at;
 
 // What is expected.
@@ -21,16 +20,46 @@ enum Expected {
 }
 
 // An open bracket: of a formula; of U before its comma, and behind it.
-#[derive(Clone, Copy, Default, PartialEq, Eq)]
+#[derive(Clone, Copy, PartialEq, Eq)]
 enum Open {
-    #[default]
     Plain,
     FirstPart,
     SecondPart,
 }
 
 // The open brackets of a line; no line that is read has more.
-type Stack = ArrayVec<Open, 4096>;
+#[derive(Drop)]
+struct Stack {
+    kinds: [Open; 4096],
+    open: usize,
+}
+
+impl Stack {
+    // No bracket is open.
+    fn new() -> Stack {
+        Stack {
+            kinds: [Open::Plain; 4096],
+            open: 0,
+        }
+    }
+
+    // One more is open, if there is room for it.
+    fn push(&mut self, kind: Open) -> Option<()> {
+        *self.kinds.get_mut(self.open)? = kind;
+        self.open = self.open.saturating_add(1);
+        Some(())
+    }
+
+    // The last one is closed, if one is open.
+    fn pop(&mut self) -> Option<Open> {
+        self.open = self.open.checked_sub(1)?;
+        self.kinds.get(self.open).copied()
+    }
+
+    fn is_empty(&self) -> bool {
+        self.open == 0
+    }
+}
 
 // How far a line was read: the place, and what is expected there.
 #[derive(Clone, Copy)]
@@ -99,9 +128,7 @@ fn negated(line: &[u8], at: usize) -> Step {
 
 // A bracket is opened.
 fn opened(at: usize, kind: Open, stack: &mut Stack) -> Step {
-    if stack.try_push(kind).is_err() {
-        return Err(None);
-    }
+    stack.push(kind).ok_or(None)?;
     on(next(at), Expected::Unit)
 }
 

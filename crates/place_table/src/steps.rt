@@ -25,7 +25,7 @@ fn step_of(bytes: &[u8], row: usize, action: usize) -> Option<usize> {
 
 // Whether a row has an action.
 pub fn has(bytes: &[u8], row: usize, action: usize) -> bool {
-    step_of(bytes, row, action).is_some()
+    step_of(bytes, row, action).is_some_and(|step| step < fields::steps_count(bytes))
 }
 
 // Whether a row withholds an action that is enabled and may not be withheld.

@@ -3,39 +3,41 @@
 // this only looks for the place, and is proved to be safe.
 #![tactic(auto)]
 
-use arrayvec::ArrayVec;
-
-// What is known up to a place: of each open bracket whether no such letter may stand in it, and whether
-// the unit behind E comes.
+// What is known up to a place: how many brackets are open, of each of them whether no such letter may
+// stand in it, and whether the unit behind E comes.
 #[derive(Drop)]
 struct Known {
-    brackets: ArrayVec<bool, 32>,
+    open: usize,
+    barred: [bool; 32],
     behind_e: bool,
 }
 
 impl Known {
     // Whether no such letter may stand here.
     fn bars(&self) -> bool {
-        self.behind_e || self.brackets.last().copied().unwrap_or(false)
+        self.behind_e || self.barred.get(self.open).copied().unwrap_or(false)
     }
 
-    // A bracket is opened; there is room for those of a line.
-    fn open(&mut self, bars: bool) {
-        let _ = self.brackets.try_push(bars);
+    // Keeps whether one may stand in the bracket that is open last; there is room for those of a line.
+    fn keep(&mut self, bars: bool) {
+        if let Some(kept) = self.barred.get_mut(self.open) {
+            *kept = bars;
+        }
+    }
+
+    // A bracket is opened.
+    fn opens(&mut self) {
+        let bars = self.bars();
+        self.open = self.open.saturating_add(1);
+        self.keep(bars);
     }
 
     // A byte is passed.
     fn pass(&mut self, b: u8) {
-        let bars = self.bars();
         match b {
-            b'(' => self.open(bars),
-            b')' => {
-                self.brackets.pop();
-            }
-            b',' => {
-                self.brackets.pop();
-                self.open(true);
-            }
+            b'(' => self.opens(),
+            b')' => self.open = self.open.saturating_sub(1),
+            b',' => self.keep(true),
             _ => {}
         }
         self.behind_e = match b {
@@ -49,7 +51,8 @@ impl Known {
 // The place of a letter that may not stand where it does.
 pub fn timed_place(line: &[u8]) -> Option<usize> {
     let mut known = Known {
-        brackets: ArrayVec::new(),
+        open: 0,
+        barred: [false; 32],
         behind_e: false,
     };
     for (at, b) in line.iter().enumerate() {

@@ -8,5 +8,8 @@ mod fields;
 mod sure;
 
 pub use faults::{ActionFault, MarkFault, TargetFault, bad_action, bad_mark, bad_target, stuck};
-pub use fields::{actions, kind, marks, start, state_place, states, states_place, target};
+pub use fields::{
+    action_place, actions, kind, marks, start, state_place, state_size, states, states_place,
+    target,
+};
 pub use sure::sure_copy;

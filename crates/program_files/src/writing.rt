@@ -40,10 +40,10 @@ pub fn print<R: Print + Eprint>(rt: &R, bytes: &[u8]) -> bool {
     is_made(rt, b"standard output", step)
 }
 
-// Writes to a new file that is open, and closes it: the bytes are on the device. std makes a sync that a
-// signal interrupts again, and what the close answers behind it is lost there.
-fn fill<F: Write + OpenFile + Drop>(mut file: F, bytes: &[u8]) -> io::Result<()> {
-    write_whole(&mut file, bytes)?;
+// Writes to a new file that is open: the bytes are on the device. std makes a sync that a signal
+// interrupts again, and what the close answers behind it is lost there.
+fn fill<F: Write + OpenFile>(file: &mut F, bytes: &[u8]) -> io::Result<()> {
+    write_whole(file, bytes)?;
     file.sync_all()
 }
 
@@ -95,30 +95,35 @@ fn rename<R: Files>(rt: &R, from: &[u8], to: &[u8]) -> io::Result<()> {
     fs::rename(rt, file_name(from)?, file_name(to)?)
 }
 
-// Fills the temporary file, which is open, and has it replace the file of that name.
-fn replace_by<R: Files>(
+// Fills the temporary file, which is open, and closes it; says why not before it is closed.
+fn is_filled<R: Files + Eprint>(rt: &R, mut file: R::File, path: &[u8], bytes: &[u8]) -> bool {
+    let step = fill(&mut file, bytes);
+    is_made(rt, path, step)
+}
+
+// Makes the temporary file, fills it, and has it replace the file of that name; or says why not, and then
+// leaves none behind.
+fn replace<R: Files + Eprint>(
     rt: &R,
-    file: R::File,
     temporary: &[u8],
     path: &[u8],
     bytes: &[u8],
-) -> io::Result<()> {
-    fill(file, bytes)?;
-    rename(rt, temporary, path)
-}
-
-// Makes the temporary file, fills it, and has it replace the file of that name; or leaves none behind.
-fn replace<R: Files>(rt: &R, temporary: &[u8], path: &[u8], bytes: &[u8]) -> io::Result<()> {
+) -> io::Result<bool> {
     let file = create(rt, temporary)?;
-    let replaced = replace_by(rt, file, temporary, path, bytes);
-    if replaced.is_err() {
+    let replaced = is_filled(rt, file, path, bytes)
+        && is_made(rt, path, rename(rt, temporary, path));
+    if !replaced {
         remove(rt, temporary);
     }
-    replaced
+    Ok(replaced)
 }
 
 // The same, with a name for the temporary file.
-fn put_in_place<R: Files + RandomSource>(rt: &R, path: &[u8], bytes: &[u8]) -> io::Result<()> {
+fn put_in_place<R: Files + RandomSource + Eprint>(
+    rt: &R,
+    path: &[u8],
+    bytes: &[u8],
+) -> io::Result<bool> {
     let mut name = [0u8; 4096];
     let mut random = [0u8; 4];
     rt.fill_bytes(&mut random)?;
@@ -126,12 +131,19 @@ fn put_in_place<R: Files + RandomSource>(rt: &R, path: &[u8], bytes: &[u8]) -> i
     replace(rt, &name[..n], path, bytes)
 }
 
+// Whether the file is in place; says why not.
+fn is_in_place<R: Files + RandomSource + Eprint>(rt: &R, path: &[u8], bytes: &[u8]) -> bool {
+    match put_in_place(rt, path, bytes) {
+        Ok(replaced) => replaced,
+        Err(why) => is_made(rt, path, Err(why)),
+    }
+}
+
 // Writes a file: first under another name in the same folder, whole and on the device, which then
 // replaces the old one; then the folder is told. So at any moment the old file or the new one is there,
 // whole. Where it fails it says why and which of the two is there, and leaves no other file behind.
 pub fn save<R: Files + RandomSource + Eprint>(rt: &R, path: &[u8], bytes: &[u8]) -> bool {
-    let step = put_in_place(rt, path, bytes);
-    if !is_made(rt, path, step) {
+    if !is_in_place(rt, path, bytes) {
         unchanged(rt, path);
         return false;
     }

@@ -4,9 +4,8 @@
 
 ghost use Rattle.std.specs.Prelude.{◌≡◌, ◌≤◌, ◌⊎◌, length, IfOk, IfErr, IsUtf8};
 
-use arrayvec::ArrayString;
-use std::fmt::{Display, Formatter, Write};
-use std::io::{Eprint, Error, ErrorKind};
+use std::fmt::{Display, Formatter};
+use std::io::{Cursor, Eprint, Error, ErrorKind, Write};
 use std::{fmt, io, str};
 
 // Bytes as they are shown, such as the name of a file: where they are not UTF-8, one that is not ASCII is
@@ -15,7 +14,7 @@ use std::{fmt, io, str};
 pub struct Shown<'a>(pub &'a [u8]);
 
 impl<'a> Display for Shown<'a> {
-    fn fmt<W: Write>(&self, f: &mut Formatter<W>) -> fmt::Result {
+    fn fmt<W: fmt::Write>(&self, f: &mut Formatter<W>) -> fmt::Result {
         if let Ok(text) = str::from_utf8(self.0) {
             return f.write_str(text);
         }
@@ -48,11 +47,19 @@ fn words_of(text: &str) -> &str {
     }
 }
 
+// Puts an error as std shows it into an area, and answers where it ends.
+fn put_error(why: Error, area: &mut [u8]) -> usize {
+    let mut out = Cursor::new(area);
+    let _ = write!(out, "{why}");
+    out.position() as usize
+}
+
 // Says why a call of the system on a file failed.
 pub fn fail<R: Eprint>(rt: &R, file: &[u8], why: Error) {
-    let mut text = ArrayString::<320>::new();
-    let _ = write!(text, "{why}");
-    in_file(rt, file, words_of(text.as_str()));
+    let mut area = [0u8; 320];
+    let n = put_error(why, &mut area);
+    let text = area.get(..n).unwrap_or(b"");
+    in_file(rt, file, words_of(str::from_utf8(text).unwrap_or("")));
 }
 
 // A path of so many bytes is too long for the system.

@@ -24,7 +24,7 @@ use Rattle.area_bytes.proofs.Clearing.{cleared_byte}
 use Rattle.area_chains.specs.Chains.{head_in, link_in}
 use Rattle.area_chains.proofs.Walks.{chained_stands}
 use Rattle.area_chains.proofs.Additions.{cleared_chains}
-use Rattle.std.specs.Prelude.{Some, None}
+use Rattle.std.specs.Prelude.{None}
 use Rattle.set_index.specs.Entries.{alternative_bytes, most_entries, most_alternatives, alternatives_room, entry_heads, entries_size}
 use Rattle.set_index.specs.Entries.{entry_number, entry_first, alternative_at, alternatives_at, Entry, entry_at, entries_of, same_entry, FoundEntry, no_entry}
 use Rattle.set_index.specs.Entries.{Headed, Heads, SameBefore, buckets, hash_of, hashed, IsNew, Indexed}

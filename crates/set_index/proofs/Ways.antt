@@ -4,31 +4,29 @@ use native.Mathlib.Omega.{arith}
 use native.Mathlib.Nat.{add-zero, mul-le-mul}
 use native.Mathlib.Numerals.{add-one}
 use native.Mathlib.Decide.{dec_lt, ℕ_discrete}
-use mathlib.Core.Path.{◌≡◌, refl, sym, ◌∙◌, ap, ap₂}
-use mathlib.Core.Logic.{inl}
-use mathlib.Core.Bool.{Bool, true, false, ◌&&◌}
-use mathlib.Core.List.{List, [], ◌∷◌, map}
-use lib.ListN.{length, get_or, take, drop}
+use mathlib.Core.Path.{◌≡◌, refl, sym, ◌∙◌, ap, ap₂, subst}
+use mathlib.Core.Logic.{◌⊎◌, inl, inr}
+use mathlib.Core.Bool.{Bool, true, false, ◌&&◌, true≢false}
+use mathlib.Core.List.{List, map}
+use lib.ListN.{length, get_or}
 use lib.Dec.{eqb}
-use borrow.Author.Tests.{eq-eqb}
+use borrow.Author.Tests.{eqb-true, eqb-false, eq-eqb}
 use mir.Syntax.{w8, w64}
 use mir.Val.{Fits}
-use Rattle.std.proofs.Common.{nat_eq}
-use Rattle.std.specs.Cmp.Lexicographic.{pointwise}
 use Rattle.base.specs.Bytes.{number_at}
-use Rattle.base.specs.Lists.{place_of, same_list, total}
-use Rattle.base.proofs.Lists.{false_by}
-use Rattle.area_bytes.proofs.Numbers.{number_bound}
+use Rattle.base.specs.Lists.{same_list, total}
+use Rattle.base.proofs.Lists.{whether, false_by}
+use Rattle.area_bytes.proofs.Numbers.{number_bound, same_bytes}
 use Rattle.area_chains.specs.Chains.{head_in, link_in, added, Apart}
 use Rattle.area_chains.proofs.Walks.{Walking, walk_start, walk_first, walk_on, walk_falls, walk_ahead}
 use Rattle.area_chains.proofs.Additions.{added_chains}
 use Rattle.std.specs.Prelude.{Some, None}
-use Rattle.set_index.specs.Entries.{alternative_bytes, alternatives_room, buckets, index_size}
-use Rattle.set_index.specs.Entries.{entry_number, entry_first, alternative_at, alternatives_at, Entry, entry_at, entries_of, same_entry, FoundEntry, found_entry, no_entry}
+use Rattle.set_index.specs.Entries.{alternative_bytes, alternatives_room, entries_size, buckets, index_size}
+use Rattle.set_index.specs.Entries.{entry_number, entry_first, alternative_at, alternatives_at, Entry, entry_at, same_entry, FoundEntry, found_entry, no_entry}
 use Rattle.set_index.specs.Entries.{Headed, alternative_fours, multiplier, hash_upto, alternative_hash, hash_of, hashed, IsNew, Indexed}
-use Rattle.set_index.proofs.Laws.{alternative_byte, alternatives_length, alternatives_cons, alternatives_none}
+use Rattle.set_index.proofs.Laws.{alternative_byte, alternative_same, alternatives_length, alternatives_cons, alternatives_none}
 use Rattle.set_index.proofs.Laws.{entry_number_is, entry_alternatives_are}
-use Rattle.set_index.proofs.Laws.{same_entry_out, headed_first}
+use Rattle.set_index.proofs.Laws.{same_alternative_out, same_alternative_in, same_entry_out, headed_first}
 use Rattle.set_index.proofs.Laws.{found_at, found_none, hash_below}
 
 -- ---- numbers of an alternative
@@ -165,23 +163,92 @@ module _ (entries : List ℕ) (i end h s : ℕ) (g : HashingEntry entries i end 
 
 -- ---- equal alternatives
 
--- Slices are compared byte by byte.
-slices_same : (xs ys : List ℕ) → pointwise nat_eq xs ys ≡ same_list eqb xs ys
-unfolding same_list
-slices_same [] [] = refl
-slices_same [] (y ∷ ys) = refl
-slices_same (x ∷ xs) [] = refl
-slices_same (x ∷ xs) (y ∷ ys) = ap (λ b. eqb x y && b) (slices_same xs ys)
+-- The loop over the bytes of alternatives s and t, the first k of which are equal.
+pub record ComparingBytes (entries : List ℕ) (s t k : ℕ) : Type 0 where
+  pub most : k ≤ alternative_bytes
+  pub equal : (m : ℕ) → m < k → get_or entries (60 * s + m) 0 ≡ get_or entries (60 * t + m) 0
 
--- The slices of two alternatives are compared.
-pub compared_slices : (entries : List ℕ) (s t : ℕ) (b : Bool)
-    → b ≡ pointwise nat_eq (take (60 * s + 60 - 60 * s) (drop (60 * s) entries)) (take (60 * t + 60 - 60 * t) (drop (60 * t) entries))
-    → b ≡ same_list eqb (alternative_at entries s) (alternative_at entries t)
-unfolding alternative_at
-compared_slices entries s t b e =
-    let size : 60 * s + 60 - 60 * s ≡ 60 = omega arith in
-    let size' : 60 * t + 60 - 60 * t ≡ 60 = omega arith in
-    rw (size, size') at e ∙ slices_same (take 60 (drop (60 * s) entries)) (take 60 (drop (60 * t) entries))
+-- Before the first bytes.
+bytes_start : (entries : List ℕ) (s t : ℕ) → ComparingBytes entries s t 0
+bytes_start entries s t = record { most = omega arith; equal = λ m l. absurd (omega arith) }
+
+-- the next eight bytes are equal
+bytes_next : (entries : List ℕ) (s t k last x y : ℕ) → ComparingBytes entries s t k → last ≤ k → last + 8 ≤ alternative_bytes
+    → x ≡ number_at 8 entries (60 * s + last) → y ≡ number_at 8 entries (60 * t + last) → x ≡ y
+    → ((n : ℕ) → Fits w8 (get_or entries n 0)) → ComparingBytes entries s t (last + 8)
+bytes_next entries s t k last x y g less most e f same bytes =
+    record {
+      most = most;
+      equal = λ m l. elim (dec_lt m k) [
+        | yes before ↦ g.equal m before
+        | no not_before ↦ (
+            let p : 60 * s + last + (m - last) ≡ 60 * s + m = omega arith in
+            let q : 60 * t + last + (m - last) ≡ 60 * t + m = omega arith in
+            rw (← p, ← q) (same_bytes 8 entries (60 * s + last) (60 * t + last) bytes (sym e ∙ same ∙ f) (m - last) (omega arith)))
+      ];
+    }
+
+-- eight bytes that are not equal
+differ_at : (entries : List ℕ) (s t k x y : ℕ) → k ≤ 52 → x ≡ number_at 8 entries (60 * s + k) → y ≡ number_at 8 entries (60 * t + k)
+    → (x ≡ y → ⊥) → same_list eqb (alternative_at entries s) (alternative_at entries t) ≡ false
+differ_at entries s t k x y l e f apart =
+    false_by (same_list eqb (alternative_at entries s) (alternative_at entries t)) (λ same. apart
+    (e ∙ sym (alternative_number 8 entries s k (omega arith))
+    ∙ ap (λ (bytes : List ℕ). number_at 8 bytes k) (same_alternative_out (alternative_at entries s) (alternative_at entries t) same)
+    ∙ alternative_number 8 entries t k (omega arith) ∙ sym f))
+
+-- all bytes are equal
+bytes_all : (entries : List ℕ) (s t : ℕ) → ComparingBytes entries s t alternative_bytes → s < alternatives_room → t < alternatives_room
+    → entries_size ≤ length entries → same_list eqb (alternative_at entries s) (alternative_at entries t) ≡ true
+bytes_all entries s t g room room' long =
+    same_alternative_in (alternative_at entries s) (alternative_at entries t)
+    (alternative_same entries entries s t (omega arith) (omega arith) g.equal)
+
+-- The same loop, with what it has found so far: these bytes and the last eight are equal, or the alternatives are not.
+pub record ComparedBytes (entries : List ℕ) (s t k : ℕ) (equal : Bool) : Type 0 where
+  pub same : equal ≡ true → ComparingBytes entries s t k
+  pub last : equal ≡ true → number_at 8 entries (60 * s + 52) ≡ number_at 8 entries (60 * t + 52)
+  pub apart : equal ≡ false → same_list eqb (alternative_at entries s) (alternative_at entries t) ≡ false
+
+-- The last eight bytes come first.
+pub compared_start : (entries : List ℕ) (s t x y : ℕ) → x ≡ number_at 8 entries (60 * s + 52) → y ≡ number_at 8 entries (60 * t + 52)
+    → ComparedBytes entries s t 0 (eqb x y)
+compared_start entries s t x y e f =
+    record {
+      same = λ _. bytes_start entries s t;
+      last = λ yes_they_are. sym e ∙ eqb-true x y yes_they_are ∙ f;
+      apart = λ they_are_not. differ_at entries s t 52 x y (omega arith) e f (eqb-false x y they_are_not);
+    }
+
+module _ (entries : List ℕ) (s t k : ℕ) (equal : Bool) (g : ComparedBytes entries s t (8 * k) equal) where
+  -- The next eight bytes are not equal, or they are.
+  pub compared_next : (after : Bool) (x y : ℕ) → k < 7 → x ≡ number_at 8 entries (60 * s + 8 * k) → y ≡ number_at 8 entries (60 * t + 8 * k)
+      → ((n : ℕ) → Fits w8 (get_or entries n 0)) → ((x ≡ y → ⊥) × (after ≡ false)) ⊎ ((x ≡ y) × (after ≡ equal))
+      → ComparedBytes entries s t (8 * (k + 1)) after
+  compared_next after x y l e f bytes (inl (apart, is_after)) =
+      record {
+        same = λ no. absurd (true≢false (sym no ∙ is_after));
+        last = λ no. absurd (true≢false (sym no ∙ is_after));
+        apart = λ _. differ_at entries s t (8 * k) x y (omega arith) e f apart;
+      }
+  compared_next after x y l e f bytes (inr (same, is_after)) =
+      let eight_more : 8 * k + 8 ≡ 8 * (k + 1) = omega arith in
+      record {
+        same = λ so_far. subst (ComparingBytes entries s t) eight_more
+            (bytes_next entries s t (8 * k) (8 * k) x y (g.same (sym is_after ∙ so_far)) (omega arith) (omega arith) e f same bytes);
+        last = λ so_far. g.last (sym is_after ∙ so_far);
+        apart = λ no. g.apart (sym is_after ∙ no);
+      }
+
+  -- All have been compared.
+  pub compared_end : 7 ≤ k → s < alternatives_room → t < alternatives_room → entries_size ≤ length entries
+      → ((n : ℕ) → Fits w8 (get_or entries n 0)) → equal ≡ same_list eqb (alternative_at entries s) (alternative_at entries t)
+  compared_end l room room' long bytes =
+      whether equal
+      (λ yes_they_are. yes_they_are ∙ sym (bytes_all entries s t
+      (bytes_next entries s t (8 * k) 52 (number_at 8 entries (60 * s + 52)) (number_at 8 entries (60 * t + 52)) (g.same yes_they_are) (omega arith)
+      (omega arith) refl refl (g.last yes_they_are) bytes) room room' long))
+      (λ they_are_not. they_are_not ∙ sym (g.apart they_are_not))
 
 -- Whether n alternatives from s on and from t on are equal.
 abbrev pub alike : List ℕ → ℕ → ℕ → ℕ → Bool

@@ -11,10 +11,17 @@ ghost use Rattle.area_chains.specs.Chains.{head_in, link_in};
 ghost use Rattle.set_index.specs.Entries.{alternatives_room, most_entries, entry_heads, entries_size, index_size, heads_at, links_at};
 ghost use Rattle.set_index.specs.Entries.{entry_number, entry_first, alternative_at, alternatives_at, entry_at, same_entry, FoundEntry, Headed, alternative_hash, hash_of, IsNew, Indexed};
 
+use area_bytes::eight_bytes;
+
 // The bytes of an alternative, and where the heads of the entries begin: number and first alternative.
 const SIZE: usize = 60;
 
 const HEADS: usize = 60960;
+
+// Where the last eight bytes of an alternative begin, and how many eights come before they are passed.
+const LAST_EIGHT: usize = 52;
+
+const EIGHTS: usize = 7;
 
 // How many four-byte numbers an alternative has, and what they are multiplied by. No product waits for
 // another one.
@@ -93,7 +100,8 @@ pub fn hash(entries: &[u8], i: usize) -> usize
     h % BUCKETS
 }
 
-// Whether alternatives s and t are equal.
+// Whether alternatives s and t are equal: eight bytes at a time, and the last eight, some of them again.
+// Most that are compared are equal, so the loop goes on where they differ.
 fn same_alternative(entries: &[u8], s: usize, t: usize) -> bool
     requires s_lt_alternatives_room { s < alternatives_room }
     requires t_lt_alternatives_room { t < alternatives_room }
@@ -102,7 +110,14 @@ fn same_alternative(entries: &[u8], s: usize, t: usize) -> bool
 {
     let one = SIZE * s;
     let other = SIZE * t;
-    entries[one..one + SIZE] == entries[other..other + SIZE]
+    let last = eight_bytes(entries, one + LAST_EIGHT);
+    let mut equal = last == eight_bytes(entries, other + LAST_EIGHT);
+    for k in 0..EIGHTS {
+        if eight_bytes(entries, one + 8 * k) != eight_bytes(entries, other + 8 * k) {
+            equal = false;
+        }
+    }
+    equal
 }
 
 // Whether so many alternatives from s on and from t on are equal, each to each.

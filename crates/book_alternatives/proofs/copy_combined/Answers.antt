@@ -1,10 +1,17 @@
--- `book_alternatives::copy_combined` meets its contract, by the laws of Copying.
 use borrow.Author.Rules.{rules}
-use Rattle.book_alternatives.proofs.Copying.{copying_over, copying_end}
+use Rattle.book_alternatives.proofs.Copying.{copying_start, copying_next, copying_over, copying_end}
 use Rattle.book_alternatives.proofs.copy_combined.Goals as goal
 
+ruleset all = (rules, copying_start, copying_next, copying_over, copying_end)
+
 pub returns-then-next-gt16 : goal.returns-then-next-gt16
-returns-then-next-gt16 c = search (rules, copying_over)
+returns-then-next-gt16 c = search all
+
+pub loop-k-init : goal.loop-k-init
+loop-k-init c = search all
+
+pub loop-k-preserved : goal.loop-k-preserved
+loop-k-preserved c = search all
 
 pub returns : goal.returns
-returns c = copying_end _ _ _ c.copy_within.ensures.len c.copy_within.ensures.by_index.0 (search rules) c.requires
+returns c = search all
